@@ -12,7 +12,7 @@ use Rattle.rfb_session.specs.declared.language.screen.Screen.{Screen as Size}
 use Rattle.rfb_session.specs.declared.owner.order.Order.{Order}
 use Rattle.rfb_session.specs.declared.owner.order.OwnerLine.{OwnerLine}
 use Rattle.rfb_session.specs.declared.owner.order.OwnerLine.TheVariants as Line
-use Rattle.rfb_session.specs.doors.Events.{Received, Wrote, came_by}
+use Rattle.rfb_session.specs.doors.Events.{Received, Wrote, Turned, came_by}
 use Rattle.rfb_session.specs.doors.Tenants.{Happening, Told, Opened, Declined}
 use Rattle.rfb_session.specs.owner.Lines.{IsInPlace}
 use Rattle.rfb_session.specs.owner.Reader.{known_after}
@@ -49,7 +49,7 @@ pub data DeskMove (h : Happening) (a b : Desk) : Type 0 where
       bytes ≡ take (length bytes) (waits_at a.share k) → WritesSeat a k (length bytes) b → DeskMove h a b
   WritesOut : (bytes : List ℕ) → h ≡ Told (Wrote 9 bytes) → bytes ≡ take (length bytes) (lines_of a) →
       WritesLines a (length bytes) b → DeskMove h a b
-  Turns : (now slow stuck : ℕ) → IsSilent h → TurnsAs a now slow stuck b → DeskMove h a b
+  Turns : (now slow stuck : ℕ) → h ≡ Told (Turned now) → IsSilent h → TurnsAs a now slow stuck b → DeskMove h a b
   Comes : (from : List ℕ) (k : ℕ) (left : Option ℕ) → h ≡ Opened (k + 1) from → Admits a from (Some k) left b →
       DeskMove h a b
   Refuses : (from : List ℕ) (left : Option ℕ) → IsSilent h → Admits a from None left b → DeskMove h a b

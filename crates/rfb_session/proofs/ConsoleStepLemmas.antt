@@ -191,7 +191,7 @@ module _ {S : Type 0} where
           alike _ old.desk new.desk (left_elsewhere door bytes (inr far)) (steps.does.at_other far).desk
   moves_so old new (Told (Turned now)) part read going goes steps =
       on_desk _ _ old.desk new.desk old.outcome new.outcome going goes steps.does.0.desk (λ none. refl)
-      (λ a b was done. Turns now done.0 done.1
+      (λ a b was done. Turns now done.0 done.1 refl
       (record { came = λ d some below. refl; gone = λ d some below. refl }) done.2)
   moves_so old new (Opened door from) part read going goes opens =
       Moved opens.was opens.now opens.was_there opens.is_there

@@ -28,24 +28,24 @@ use Rattle.rfb_session.specs.console.Turns.{Serves, Rested, Tried, Wanted}
 use Rattle.rfb_session.specs.console.Viewers.{TellsOf, Fails, Stirs, HearsAt, Took, Refused, progress_after}
 
 -- one seat more
-serves_one : (screen : Grid Colour) (tries wants more : Bool) (a b : Option ShareSeat) →
+pub serves_one : (screen : Grid Colour) (tries wants more : Bool) (a b : Option ShareSeat) →
     (tries ≡ false → RestsIn screen a) → (wants ≡ true → more ≡ true) → TriesOne screen tries wants a b →
     Serves screen more a b
 serves_one screen false wants more a b rests told same = Rested (rests refl) same
 serves_one screen true false more a b rests told tried = Tried tried.0 tried.1
 serves_one screen true true more a b rests told wanted = Wanted (told refl) wanted
 
-serves_more : (screen : Grid Colour) (wants more : Bool) (a b : Option ShareSeat) → (wants ≡ true → more ≡ true) →
+pub serves_more : (screen : Grid Colour) (wants more : Bool) (a b : Option ShareSeat) → (wants ≡ true → more ≡ true) →
     Serves screen wants a b → Serves screen more a b
 serves_more screen wants more a b told (Rested rests same) = Rested rests same
 serves_more screen wants more a b told (Tried found composes) = Tried found composes
 serves_more screen wants more a b told (Wanted is wanted) = Wanted (told is) wanted
 
-or_first : (a b : Bool) → a ≡ true → (a || b) ≡ true
+pub or_first : (a b : Bool) → a ≡ true → (a || b) ≡ true
 or_first true b is = refl
 or_first false b is = absurd (false≢true is)
 
-or_second : (a b : Bool) → b ≡ true → (a || b) ≡ true
+pub or_second : (a b : Bool) → b ≡ true → (a || b) ≡ true
 or_second true b is = refl
 or_second false b is = is
 
@@ -77,6 +77,7 @@ composes_next n old mid new tries wants more rests before one = record {
     rules = record {
       rules = one.beside.rules.rules ∙ before.beside.rules.rules;
       hold = one.beside.rules.hold ∙ before.beside.rules.hold;
+      first = one.beside.rules.first ∙ before.beside.rules.first;
     };
   };
 }
@@ -118,6 +119,7 @@ tells_of_is old mid told new k heard parts tells counts = record {
   rules = record {
     rules = counts.rules.rules ∙ tells.rules.rules ∙ parts.rules.rules;
     hold = counts.rules.hold ∙ tells.rules.hold ∙ parts.rules.hold;
+    first = counts.rules.first ∙ tells.rules.first ∙ parts.rules.first;
   };
 }
 
@@ -175,6 +177,7 @@ module _ (old mid heard_by new : Desk) (k : ℕ) (bytes : List ℕ) (stirs : Sti
       (record {
         rules = tells.rules.rules ∙ made;
         hold = tells.rules.hold ∙ rules.hold ∙ stirs.rules.hold;
+        first = tells.rules.first ∙ rules.first ∙ stirs.rules.first;
       })
 
   pub hears_not : (fault : ShareFault) (ended : ℕ) (told : Bool) →
@@ -203,6 +206,7 @@ module _ (old mid heard_by new : Desk) (k : ℕ) (bytes : List ℕ) (stirs : Sti
       (record {
         rules = fails.rules.rules ∙ rules.rules ∙ stirs.rules.rules;
         hold = fails.rules.hold ∙ rules.hold ∙ stirs.rules.hold;
+        first = fails.rules.first ∙ rules.first ∙ stirs.rules.first;
       })
     where
       failed_so : (over : Bool) (p : Progress) → cond (not over) Failing p ≡ cond over p Failing

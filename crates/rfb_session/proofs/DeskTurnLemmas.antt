@@ -1,6 +1,6 @@
 -- A turn of a desk, seat by seat.
 use Rattle.std.proofs.Common.{◌≡◌, ◌<◌, ◌++◌, ◌∙◌, ◌||◌, ◌&&◌, ℕ, zero, suc, Bool, true, false, not, List, [], Option}
-use Rattle.std.proofs.Common.{None}
+use Rattle.std.proofs.Common.{Some, None}
 use Rattle.std.proofs.Common.{refl, sym, ap, subst, arith, cond}
 use Rattle.rfb_picture.specs.Places.{has_bit}
 use Rattle.rfb_session.specs.declared.console.desk.Desk.{Desk}
@@ -9,6 +9,7 @@ use Rattle.rfb_session.specs.declared.console.guest.Guest.{Guest}
 use Rattle.rfb_session.specs.declared.console.plan.Rules.{Rules}
 use Rattle.rfb_session.specs.declared.share.Share.{Share}
 use Rattle.rfb_session.specs.declared.share.seat.ShareSeat.{ShareSeat}
+use Rattle.rfb_session.specs.Rounds.{first_after, is_left}
 use Rattle.rfb_session.specs.Share.{seat_in, screen_of, serving_in, waiting_for}
 use Rattle.rfb_session.specs.ShareSteps.{KeepsScreen}
 use Rattle.rfb_session.specs.owner.Telling.{leave_line}
@@ -16,8 +17,9 @@ use Rattle.rfb_session.specs.console.Telling.{leave_lines}
 use Rattle.rfb_session.specs.console.Desk.{nobody, guest_at, lines_of, is_over, tells_in}
 use Rattle.rfb_session.specs.console.Time.{stamped, is_slow, is_stuck, waits_for}
 use Rattle.rfb_session.specs.console.Viewers.{LetsAllGo}
-use Rattle.rfb_session.specs.console.Turns.{ReleasesAll, StampsAll, Stills, ComposesAll, KeepsBeside, Wakes}
-use Rattle.rfb_session.specs.console.Turns.{ServesUnless, hold_after, holds_at}
+use Rattle.rfb_session.specs.console.Turns.{ReleasesAll, StampsAll, Stills, ComposesRound, KeepsBeside, GoesRound}
+use Rattle.rfb_session.specs.console.Turns.{Wakes, ServesUnless, EndsLarge, OnlyLarge, IsLarge, hold_after, holds_at}
+use Rattle.rfb_session.proofs.DeskRoundLemmas.{not_large}
 use Rattle.rfb_session.specs.console.Turns.{TurnsAs, seat_kept, guest_then, is_late, tells_late, seat_left}
 
 leave_lines_below : (f g : ℕ → Bool) (n : ℕ) → ((k : ℕ) → k < n → f k ≡ g k) → leave_lines f n ≡ leave_lines g n
@@ -98,53 +100,80 @@ module _ (old released begins stays shows : Desk) (now slow stuck late : ℕ) (h
   hold_then = stills.hold ∙ ap (λ (r : Rules). hold_after r.hold now stays.hold) rules_stay
       ∙ ap (λ (h : Hold). hold_after old.rules.hold now h) hold_stays
 
+  first_shown : shows.first ≡ old.first
+  first_shown = stills.first ∙ goes.rules.first ∙ stamps.rules.first ∙ releases.rules.first
+
   -- and then they are, or they are held back
-  pub turns_so : (composed new : Desk) (wants : Bool) → (held ≡ true → composed ≡ shows) →
-      (held ≡ false → ComposesAll shows wants composed) → new.share ≡ composed.share →
-      KeepsBeside composed new → Wakes new now wants new.next → TurnsAs old now slow stuck new
-  turns_so composed new wants kept composes share beside wakes = by held refl
+  pub turns_so : (composed rounds new : Desk) (wants : Bool) (last : Option ℕ) → (held ≡ true → composed ≡ shows) →
+      (held ≡ true → last ≡ None) → (held ≡ false → ComposesRound shows wants last composed) →
+      GoesRound composed last rounds → new.share ≡ rounds.share → KeepsBeside rounds new →
+      Wakes new now wants last new.next → TurnsAs old now slow stuck new
+  turns_so composed rounds new wants last kept none composes round share beside wakes = by held refl
     where
       turns : KeepsBeside shows composed → KeepsScreen shows.share composed.share →
-          ((k : ℕ) → k < 8 → ServesUnless held (screen_of old.share) wants (seat_left old now k)
-          (seat_in composed.share k)) → TurnsAs old now slow stuck new
-      turns aside screen seats = record {
-        slow_is = slow_then;
-        stuck_is = stuck_then;
-        guests = λ k within. beside.guests k ∙ aside.guests k ∙ guest_shown k within;
-        lines = beside.lines ∙ aside.lines ∙ lines_shown;
-        held = held;
-        held_is = held_then;
-        hold = beside.rules.hold ∙ aside.rules.hold ∙ hold_then;
-        wants = wants;
-        seats = λ k within. subst (λ (s : Share). ServesUnless held (screen_of old.share) wants
-            (seat_left old now k) (seat_in s k)) (sym share) (seats k within);
-        screen = record {
-          screen = ap (λ (s : Share). screen_of s) share ∙ screen.screen ∙ screen_shown.screen;
-          made = ap (λ (s : Share). serving_in s) share ∙ screen.made ∙ screen_shown.made;
-        };
-        rules = beside.rules.rules ∙ aside.rules.rules ∙ stills.made ∙ rules_stay;
-        next = wakes;
-      }
+          ((k : ℕ) → k < 8 → ServesUnless (held || is_left old.first last k) (screen_of old.share) wants
+          (seat_left old now k) (seat_in composed.share k)) →
+          EndsLarge last (seat_left old now) (seat_in composed.share) →
+          OnlyLarge last (seat_left old now) (seat_in composed.share) → TurnsAs old now slow stuck new
+      turns aside screen seats ends only =
+          let same = share ∙ round.share in
+          record {
+            slow_is = slow_then;
+            stuck_is = stuck_then;
+            guests = λ k within. beside.guests k ∙ round.guests k ∙ aside.guests k ∙ guest_shown k within;
+            lines = beside.lines ∙ round.lines ∙ aside.lines ∙ lines_shown;
+            held = held;
+            held_is = held_then;
+            hold = beside.rules.hold ∙ round.hold ∙ aside.rules.hold ∙ hold_then;
+            wants = wants;
+            last = last;
+            seats = λ k within. subst (λ (s : Share). ServesUnless (held || is_left old.first last k)
+                (screen_of old.share) wants (seat_left old now k) (seat_in s k)) (sym same) (seats k within);
+            ends = subst (λ (s : Share). EndsLarge last (seat_left old now) (seat_in s)) (sym same) ends;
+            only = subst (λ (s : Share). OnlyLarge last (seat_left old now) (seat_in s)) (sym same) only;
+            first = beside.rules.first ∙ round.first
+                ∙ ap (λ (n : ℕ). first_after n last) (aside.rules.first ∙ first_shown);
+            screen = record {
+              screen = ap (λ (s : Share). screen_of s) same ∙ screen.screen ∙ screen_shown.screen;
+              made = ap (λ (s : Share). serving_in s) same ∙ screen.made ∙ screen_shown.made;
+            };
+            rules = beside.rules.rules ∙ round.made ∙ aside.rules.rules ∙ stills.made ∙ rules_stay;
+            next = wakes;
+          }
 
       same_beside : KeepsBeside shows shows
       same_beside = record {
         guests = λ k. refl;
         lines = refl;
-        rules = record { rules = refl; hold = refl };
+        rules = record { rules = refl; hold = refl; first = refl };
       }
+
+      ends_so : (o : Option ℕ) → EndsLarge o (seat_in shows.share) (seat_in composed.share) →
+          EndsLarge o (seat_left old now) (seat_in composed.share)
+      ends_so None ends = tt
+      ends_so (Some k) ends = (
+        ends.0,
+        subst (λ (s : Option ShareSeat). IsLarge s (seat_in composed.share k)) (seat_shown k ends.0) ends.1,
+      )
 
       by : (b : Bool) → held ≡ b → TurnsAs old now slow stuck new
       by true is =
           let same = kept is in
+          let stays : (k : ℕ) → k < 8 → seat_in composed.share k ≡ seat_left old now k =
+          λ k within. ap (λ (d : Desk). seat_in d.share k) same ∙ seat_shown k within in
           turns (subst (λ (d : Desk). KeepsBeside shows d) (sym same) same_beside)
           (subst (λ (d : Desk). KeepsScreen shows.share d.share) (sym same)
           (record { screen = refl; made = refl }))
-          (λ k within. subst (λ (h : Bool). ServesUnless h (screen_of old.share) wants (seat_left old now k)
-          (seat_in composed.share k)) (sym is)
-          (ap (λ (d : Desk). seat_in d.share k) same ∙ seat_shown k within))
+          (λ k within. subst (λ (h : Bool). ServesUnless (h || is_left old.first last k) (screen_of old.share) wants
+          (seat_left old now k) (seat_in composed.share k)) (sym is) (stays k within))
+          (subst (λ (o : Option ℕ). EndsLarge o (seat_left old now) (seat_in composed.share)) (sym (none is)) tt)
+          (λ k within large. absurd (not_large _ _ (stays k within) large))
       by false is =
           let all = composes is in
           turns all.beside all.screen
-          (λ k within. subst (λ (h : Bool). ServesUnless h (screen_of old.share) wants (seat_left old now k)
-          (seat_in composed.share k)) (sym is)
-          (rw (sym screen_shown.screen, sym (seat_shown k within)) (all.seats k within)))
+          (λ k within. subst (λ (h : Bool). ServesUnless (h || is_left old.first last k) (screen_of old.share) wants
+          (seat_left old now k) (seat_in composed.share k)) (sym is)
+          (rw (sym first_shown, sym screen_shown.screen, sym (seat_shown k within)) (all.seats k within)))
+          (ends_so last all.ends)
+          (λ k within large. all.only k within
+          (subst (λ (s : Option ShareSeat). IsLarge s (seat_in composed.share k)) (sym (seat_shown k within)) large))

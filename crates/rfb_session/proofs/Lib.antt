@@ -91,9 +91,13 @@ pub mod DoorTurnLemmas
 pub mod DoorLifeLemmas
 pub mod EchoLemmas
 pub mod TenantLemmas
+pub mod RoundLemmas
 pub mod DeskLemmas
+pub mod DeskRoundLemmas
 pub mod DeskTurnLemmas
 pub mod WakeLemmas
+pub mod RoundLawLemmas
+pub mod RoundKeptLemmas
 pub mod BoundLemmas
 pub mod ConsoleLemmas
 pub mod ConsoleMoveLemmas

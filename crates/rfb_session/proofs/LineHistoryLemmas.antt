@@ -89,7 +89,7 @@ move_tells h a b (WritesOut bytes is waited writes) =
       lines = writes.lines ∙ sym (append-nil (drop (length bytes) (lines_of a)));
       first = waited;
     })
-move_tells h a b (Turns now slow stuck silent turns) =
+move_tells h a b (Turns now slow stuck is silent turns) =
     tells_more h (lines_of a) (lines_of b) (leave_lines (tells_late a now) 8) (silent_9 h silent) turns.lines
 move_tells h a b (Comes from k left is admits) =
     let room = room_text left a admits.mid admits.room in

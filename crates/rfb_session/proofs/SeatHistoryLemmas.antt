@@ -1,5 +1,5 @@
 -- The life of a seat at a console, from one happening to the next.
-use Rattle.std.proofs.Common.{◌≡◌, ◌≢◌, ◌⊎◌, ◌<◌, ◌+◌, ◌++◌, ◌∙◌, ℕ, Bool, true, false, List, [], ◌∷◌, cond}
+use Rattle.std.proofs.Common.{◌≡◌, ◌≢◌, ◌⊎◌, ◌<◌, ◌+◌, ◌++◌, ◌∙◌, ◌||◌, ℕ, Bool, true, false, List, [], ◌∷◌, cond}
 use Rattle.std.proofs.Common.{Option, Some, None, refl, sym, ap, subst, arith, inl, inr, length, take, nat_eq, not}
 use Rattle.std.proofs.Common.{append-nil, append_assoc}
 use Rattle.std.proofs.Math.Seq.{take-length}
@@ -20,6 +20,7 @@ use Rattle.rfb_session.specs.declared.share.seat.ShareSeat.{ShareSeat}
 use Rattle.rfb_session.specs.doors.Events.{came, left}
 use Rattle.rfb_session.specs.doors.Tenants.{Happening, Told, Opened, Declined, IsKept, events_in}
 use Rattle.rfb_session.specs.owner.Drawing.{DrawsOne, Drawn, Outside}
+use Rattle.rfb_session.specs.Rounds.{is_left}
 use Rattle.rfb_session.specs.Share.{seat_in, screen_of, serving_in, waits_at}
 use Rattle.rfb_session.specs.ShareLives.{Lives, LivesAt}
 use Rattle.rfb_session.specs.ShareSeats.{IsNotifiedIn}
@@ -364,8 +365,9 @@ module _ (serving : Serving) (k : ℕ) (within : k < 8) where
       subst (λ (e : Happening). GoesOn serving k (came_in (k + 1) e) (left_in (k + 1) e) a.share b.share) (sym is)
       (rw (if_other (k + 1) 9 bytes (λ same. omega (arith, within, same)))
       (same_share serving k a.share b.share writes.share))
-  moved_on h a b kept (Turns now slow stuck silent turns) =
-      silently h _ _ silent (turned_on serving k turns.held turns.wants (is_late a now k) (is_done a k)
+  moved_on h a b kept (Turns now slow stuck is silent turns) =
+      silently h _ _ silent (turned_on serving k (turns.held || is_left a.first turns.last k) turns.wants
+      (is_late a now k) (is_done a k)
       a.share b.share turns.screen (turns.seats k within))
   moved_on h a b kept (Comes from n left is admits) =
       let other : k + 1 ≢ n + 1 = subst (λ (e : Happening). IsKeptBy (k + 1) e) is kept in

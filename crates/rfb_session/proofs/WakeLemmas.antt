@@ -17,13 +17,14 @@ use Rattle.rfb_session.specs.declared.console.plan.Rules.{Rules}
 use Rattle.rfb_session.specs.declared.share.event.Composing.{Composing}
 use Rattle.rfb_session.specs.declared.share.event.Composing.TheVariants.{Composed, NotDue, Waiting, NoSuchSeat}
 use Rattle.rfb_session.specs.declared.share.seat.ShareSeat.{ShareSeat}
+use Rattle.rfb_session.specs.Rounds.{is_left}
 use Rattle.rfb_session.specs.Share.{seat_in, screen_of}
 use Rattle.rfb_session.specs.ShareSeats.{Sends, ComposesAt, session_at, waiting_in}
 use Rattle.rfb_session.specs.ShareWork.{RestsIn}
 use Rattle.rfb_session.specs.console.Desk.{nobody, guest_at}
 use Rattle.rfb_session.specs.console.Time.{IsBy, IsByEnd, IsByLimit, IsBefore, has_lasted, lasts, is_slow, is_stuck}
-use Rattle.rfb_session.specs.console.Turns.{WakesFor, WakesAt, TurnsAs, is_late, guest_then, seat_left, holds_at}
-use Rattle.rfb_session.specs.console.Turns.{hold_after, Serves, Rested, Tried, Wanted, ServesUnless}
+use Rattle.rfb_session.specs.console.Turns.{WakesFor, WakesAt, WakesAfter, TurnsAs, is_late, guest_then, seat_left}
+use Rattle.rfb_session.specs.console.Turns.{holds_at, hold_after, Serves, Rested, Tried, Wanted, ServesUnless}
 use Rattle.rfb_session.proofs.ShareLawLemmas.{composes_at}
 use Rattle.rfb_session.proofs.ShareWorkLemmas.{not_owed}
 
@@ -46,6 +47,10 @@ module _ (one next : Option ℕ) (sooner : (limit : ℕ) → IsBy limit one → 
   hold_sooner limit Shown wakes = tt
   hold_sooner limit Begins wakes = tt
   hold_sooner limit (Since since) wakes = sooner (since + limit) wakes
+
+  pub left_sooner : (now : ℕ) (last : Option ℕ) → WakesAfter now last one → WakesAfter now last next
+  left_sooner now None wakes = tt
+  left_sooner now (Some last) wakes = sooner now wakes
 
 -- a guest that is read is the guest of its seat
 pub wakes_read : (rules : Rules) (guests : List Guest) (k : ℕ) (d : Guest) (next : Option ℕ) → k < length guests →
@@ -168,13 +173,15 @@ holds_on old now slow stuck new turns held time later before =
 -- ---- updates that are due
 
 pub due_sent : (old : Desk) (now slow stuck : ℕ) (new : Desk) (turns : TurnsAs old now slow stuck new) (k : ℕ)
-    (seat : ShareSeat) → turns.held ≡ false → turns.wants ≡ false → k < 8 → seat_left old now k ≡ Some seat →
+    (seat : ShareSeat) → turns.held ≡ false → turns.wants ≡ false → is_left old.first turns.last k ≡ false →
+    k < 8 → seat_left old now k ≡ Some seat →
     session_fault (session_at seat) ≡ None → waiting_in seat ≡ [] →
     OwesUpdate (screen_of old.share) (session_at seat) →
     (sent : ShareSeat) × (seat_in new.share k ≡ Some sent) × Sends (screen_of old.share) seat sent
-due_sent old now slow stuck new turns k seat shown enough within left going written due =
+due_sent old now slow stuck new turns k seat shown enough reached within left going written due =
     by (subst (λ (h : Bool). ServesUnless h (screen_of old.share) turns.wants (seat_left old now k)
-    (seat_in new.share k)) shown (turns.seats k within))
+    (seat_in new.share k)) (ap (λ (h : Bool). h || is_left old.first turns.last k) shown ∙ reached)
+    (turns.seats k within))
   where
     composed : (told : Composing) (sent : ShareSeat) → ComposesAt (screen_of old.share) told seat sent →
         Sends (screen_of old.share) seat sent

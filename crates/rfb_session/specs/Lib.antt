@@ -23,6 +23,7 @@ pub mod LinkCalls
 pub mod World
 pub mod Played
 pub mod Slots
+pub mod Rounds
 pub mod Seats
 pub mod HubSeats
 pub mod HubSlots

@@ -1,7 +1,9 @@
 //! The seats of a share, by number.
 
 ghost use Rattle.std.specs.Prelude.{◌≡◌, ◌<◌, ◌↔◌, ℕ, IsSome, IfSome};
+ghost use Rattle.rfb_session.specs.Rounds.{seat_after};
 
+use crate::slots::SLOTS;
 use std::marker::Model;
 
 /// A seat of a share: a number from 0 to 7.
@@ -47,6 +49,19 @@ impl Seat {
     {
         Seat {
             number: place as u8,
+        }
+    }
+
+    /// The seat that comes so many places after this one, going round.
+    pub(crate) fn after(self, count: usize) -> Seat
+        requires { count < 8 }
+        ensures { result ≡ seat_after self count }
+    {
+        let place = self.place() + count;
+        if place < SLOTS {
+            Seat::at(place)
+        } else {
+            Seat::at(place - SLOTS)
         }
     }
 

@@ -1,6 +1,6 @@
 -- What a console comes to over many events: its owner's bytes are lines, and each is obeyed once; what a seat has
 -- had is the life of its session; lines wait and leave in the order in which they were told.
-use Rattle.std.specs.Prelude.{◌≡◌, ◌==◌, ℕ, Bool, false, cond, length, drop}
+use Rattle.std.specs.Prelude.{◌≡◌, ◌==◌, ℕ, Bool, true, false, cond, length, drop}
 use Rattle.std.specs.Prelude.{List, [], ◌∷◌, ◌++◌, Option, Some, None}
 use Rattle.rfb_server.specs.Server.{Serving}
 use Rattle.rfb_session.specs.declared.console.Console.{Console}
@@ -94,6 +94,23 @@ module _ {S : Type 0} where
     pub stands : HasRead new rest
     pub others : happenings_in deeds ≡ but_owners happenings
     pub does : DoesAll S old.name.items old.rules old.desk deeds new.desk
+
+-- ---- turns
+
+abbrev pub is_turn : Happening → Bool
+is_turn (Told (Received door bytes)) = false
+is_turn (Told (Ended door)) = false
+is_turn (Told (Failed door)) = false
+is_turn (Told (Wrote door bytes)) = false
+is_turn (Told (Turned now)) = true
+is_turn (Opened door from) = false
+is_turn (Declined from) = false
+
+-- where there is a desk it stays, and with it the seat that is first in its next turn
+abbrev pub KeepsFirst : Option Desk → Option Desk → Type 0
+KeepsFirst None new = Unit {0}
+KeepsFirst (Some old) None = ⊥
+KeepsFirst (Some old) (Some new) = new.first ≡ old.first
 
 -- ---- a seat's bytes
 

@@ -1,6 +1,6 @@
 -- What time does at a desk, what is shown and drawn there, and what is written of what waits.
-use Rattle.std.specs.Prelude.{◌≡◌, ◌<◌, ◌≤◌, ◌+◌, ◌-◌, ℕ, Bool, true, false, ◌&&◌, ◌||◌, not, nat_eq, nat_lt, cond}
-use Rattle.std.specs.Prelude.{List, [], ◌++◌, drop, Option, None}
+use Rattle.std.specs.Prelude.{◌≡◌, ◌≢◌, ◌<◌, ◌≤◌, ◌+◌, ◌-◌, ℕ, Bool, true, false, ◌&&◌, ◌||◌, not, nat_eq, nat_lt, cond}
+use Rattle.std.specs.Prelude.{List, [], ◌++◌, drop, length, Option, Some, None}
 use Rattle.rfb_pixel.specs.declared.colour.Colour.{Colour}
 use Rattle.rfb_picture.specs.Grid.{Grid, uniform}
 use Rattle.rfb_picture.specs.Places.{has_bit}
@@ -14,6 +14,7 @@ use Rattle.rfb_session.specs.declared.console.plan.Rules.{Rules}
 use Rattle.rfb_session.specs.declared.language.screen.Screen.{Screen as Size}
 use Rattle.rfb_session.specs.declared.share.event.Composing.{Composing}
 use Rattle.rfb_session.specs.declared.share.seat.ShareSeat.{ShareSeat}
+use Rattle.rfb_session.specs.Rounds.{seats_before, first_after, is_left}
 use Rattle.rfb_session.specs.Share.{seat_in, screen_of, waits_at, waiting_for, IsEmptyShare}
 use Rattle.rfb_session.specs.ShareSlots.{ComposesIn, WantsRoomIn}
 use Rattle.rfb_session.specs.ShareSteps.{KeepsScreen, WritesAs}
@@ -61,6 +62,53 @@ pub record ComposesUpTo (count : ℕ) (old : Desk) (wants : Bool) (new : Desk) :
 
 abbrev pub ComposesAll : Desk → Bool → Desk → Type 0
 ComposesAll old wants new = ComposesUpTo 8 old wants new
+
+-- a large update was composed for a seat: nothing waited there, and now more than a mebibyte does
+pub record IsLarge (old new : Option ShareSeat) : Type 0 where
+  pub written : waiting_for old ≡ []
+  pub large : 1048576 < length (waiting_for new)
+
+-- so many seats are served, from the first of this turn on and going round, and for none a large update was composed
+pub record RoundUpTo (count : ℕ) (old : Desk) (wants : Bool) (new : Desk) : Type 0 where
+  pub seats : (k : ℕ) → k < 8 → seats_before old.first k < count →
+      Serves (screen_of old.share) wants (seat_in old.share k) (seat_in new.share k)
+  pub small : (k : ℕ) → k < 8 → seats_before old.first k < count →
+      IsLarge (seat_in old.share k) (seat_in new.share k) → ⊥
+  pub later : (k : ℕ) → k < 8 → count ≤ seats_before old.first k → seat_in new.share k ≡ seat_in old.share k
+  pub screen : KeepsScreen old.share new.share
+  pub beside : KeepsBeside old new
+
+-- for the last that is served, if others are left, a large update was composed
+abbrev pub EndsLarge : Option ℕ → (ℕ → Option ShareSeat) → (ℕ → Option ShareSeat) → Type 0
+EndsLarge None old new = Unit {0}
+EndsLarge (Some last) old new = (last < 8) × IsLarge (old last) (new last)
+
+-- for no other seat a large update was composed
+abbrev pub OnlyLarge : Option ℕ → (ℕ → Option ShareSeat) → (ℕ → Option ShareSeat) → Type 0
+OnlyLarge last old new = (k : ℕ) → k < 8 → IsLarge (old k) (new k) → last ≡ Some k
+
+-- a seat is served, or it is to stay as it is
+abbrev pub ServesUnless : Bool → Grid Colour → Bool → Option ShareSeat → Option ShareSeat → Type 0
+ServesUnless true screen wants old new = new ≡ old
+ServesUnless false screen wants old new = Serves screen wants old new
+
+-- all are served, or those up to the one for which a large update is composed, and the others are left
+pub record ComposesRound (old : Desk) (wants : Bool) (last : Option ℕ) (new : Desk) : Type 0 where
+  pub seats : (k : ℕ) → k < 8 →
+      ServesUnless (is_left old.first last k) (screen_of old.share) wants (seat_in old.share k) (seat_in new.share k)
+  pub ends : EndsLarge last (seat_in old.share) (seat_in new.share)
+  pub only : OnlyLarge last (seat_in old.share) (seat_in new.share)
+  pub screen : KeepsScreen old.share new.share
+  pub beside : KeepsBeside old new
+
+-- the next turn begins with the seat after the last that was served
+pub record GoesRound (old : Desk) (last : Option ℕ) (new : Desk) : Type 0 where
+  pub first : new.first ≡ first_after old.first last
+  pub made : new.rules ≡ old.rules
+  pub hold : new.hold ≡ old.hold
+  pub share : new.share ≡ old.share
+  pub guests : (k : ℕ) → guest_at new k ≡ guest_at old k
+  pub lines : lines_of new ≡ lines_of old
 
 -- a viewer that has failed goes with the last byte that waited for it
 abbrev pub is_done : Desk → ℕ → Bool
@@ -128,14 +176,15 @@ pub record Stills (old : Desk) (now : ℕ) (held : Bool) (new : Desk) : Type 0 w
   pub held_is : held ≡ holds_at old.rules.hold now old.hold
   pub hold : new.hold ≡ hold_after old.rules.hold now old.hold
   pub made : new.rules ≡ old.rules
+  pub first : new.first ≡ old.first
   pub share : new.share ≡ old.share
   pub guests : (k : ℕ) → guest_at new k ≡ guest_at old k
   pub lines : lines_of new ≡ lines_of old
 
 -- ---- a turn
 
--- when the next one is wanted: no later than a viewer's time is over, or the hold, and soon where memory was
--- wanting
+-- when the next one is wanted: no later than a viewer's time is over, or the hold, soon where memory was wanting,
+-- and at once where seats are left
 pub record WakesFor (rules : Rules) (guest : Guest) (next : Option ℕ) : Type 0 where
   pub slow : IsByEnd rules.handshake guest.since next
   pub stuck : IsByLimit rules.timeout guest.idle next
@@ -145,10 +194,15 @@ WakesAt limit Shown next = Unit {0}
 WakesAt limit Begins next = Unit {0}
 WakesAt limit (Since since) next = IsBy (since + limit) next
 
-pub record Wakes (desk : Desk) (now : ℕ) (wants : Bool) (next : Option ℕ) : Type 0 where
+abbrev pub WakesAfter : ℕ → Option ℕ → Option ℕ → Type 0
+WakesAfter now None next = Unit {0}
+WakesAfter now (Some last) next = IsBy now next
+
+pub record Wakes (desk : Desk) (now : ℕ) (wants : Bool) (last next : Option ℕ) : Type 0 where
   pub guests : (k : ℕ) → k < 8 → WakesFor desk.rules (guest_at desk k) next
   pub hold : WakesAt desk.rules.hold desk.hold next
   pub again : wants ≡ true → IsBy (now + 100) next
+  pub left : WakesAfter now last next
 
 -- what is known of a viewer at that time, and whether its time is over
 abbrev pub guest_then : Desk → ℕ → ℕ → Guest
@@ -165,13 +219,10 @@ tells_late desk now k = is_late desk now k && not (is_over (guest_then desk now 
 abbrev pub seat_left : Desk → ℕ → ℕ → Option ShareSeat
 seat_left desk now k = cond (is_late desk now k) None (seat_kept desk k)
 
--- a seat is served, unless updates are held back
-abbrev pub ServesUnless : Bool → Grid Colour → Bool → Option ShareSeat → Option ShareSeat → Type 0
-ServesUnless true screen wants old new = new ≡ old
-ServesUnless false screen wants old new = Serves screen wants old new
-
 -- a turn: who failed goes once all is written, whoever's time is over is let go, and a line tells each; the
--- others' time goes on, and their seats are served, unless updates are held back
+-- others' time goes on, and their seats are served, unless updates are held back. They are served going round, and
+-- after one for which a large update is composed the others are left: the next turn, which is wanted at once,
+-- begins with them
 pub record TurnsAs (old : Desk) (now slow stuck : ℕ) (new : Desk) : Type 0 where
   pub slow_is : (k : ℕ) → k < 8 → has_bit slow k ≡ is_slow old.rules now (guest_then old now k)
   pub stuck_is : (k : ℕ) → k < 8 → has_bit stuck k ≡ is_stuck old.rules now (guest_then old now k)
@@ -181,11 +232,34 @@ pub record TurnsAs (old : Desk) (now slow stuck : ℕ) (new : Desk) : Type 0 whe
   pub held_is : held ≡ holds_at old.rules.hold now old.hold
   pub hold : new.hold ≡ hold_after old.rules.hold now old.hold
   pub wants : Bool
+  pub last : Option ℕ
   pub seats : (k : ℕ) → k < 8 →
-      ServesUnless held (screen_of old.share) wants (seat_left old now k) (seat_in new.share k)
+      ServesUnless (held || is_left old.first last k) (screen_of old.share) wants (seat_left old now k)
+      (seat_in new.share k)
+  pub ends : EndsLarge last (seat_left old now) (seat_in new.share)
+  pub only : OnlyLarge last (seat_left old now) (seat_in new.share)
+  pub first : new.first ≡ first_after old.first last
   pub screen : KeepsScreen old.share new.share
   pub rules : new.rules ≡ old.rules
-  pub next : Wakes new now wants new.next
+  pub next : Wakes new now wants last new.next
+
+-- a seat is left out in a turn: in it a large update was composed for another, and it is as it was; in the next
+-- turn, which is wanted at once, fewer seats come before it than in this one
+pub record IsLeftOut (old : Desk) (now k : ℕ) (new : Desk) : Type 0 where
+  pub other : ℕ
+  pub another : (other < 8) × (other ≢ k)
+  pub large : IsLarge (seat_left old now other) (seat_in new.share other)
+  pub same : seat_in new.share k ≡ seat_left old now k
+  pub sooner : seats_before new.first k < seats_before old.first k
+  pub at_once : IsBy now new.next
+
+-- it was left out in so many turns one after the other, of which this desk is what the last one made; between them
+-- whatever happened kept the seat that is first
+pub data IsLeftFor (k : ℕ) : ℕ → Desk → Type 0 where
+  NotYet : (desk : Desk) → IsLeftFor k 0 desk
+  Again : (times : ℕ) (before old new : Desk) (now slow stuck : ℕ) (turns : TurnsAs old now slow stuck new) →
+      IsLeftFor k times before → old.first ≡ before.first → is_left old.first turns.last k ≡ true →
+      IsLeftFor k (times + 1) new
 
 -- ---- what the owner says
 
@@ -197,6 +271,7 @@ pub record IsFreshDesk (size : Size) (name : List ℕ) (rules : Rules) (desk : D
   pub lines : lines_of desk ≡ []
   pub rules_are : desk.rules ≡ rules
   pub hold : desk.hold ≡ Shown
+  pub first : desk.first ≡ 0
 
 -- a drawing is done, or leaves the screen and nothing is
 pub record DrawsAs (old : Desk) (stroke : Stroke) (done : Bool) (new : Desk) : Type 0 where
@@ -206,6 +281,7 @@ pub record DrawsAs (old : Desk) (stroke : Stroke) (done : Bool) (new : Desk) : T
 pub record HoldsAs (old : Desk) (hold : Hold) (new : Desk) : Type 0 where
   pub hold_is : new.hold ≡ hold
   pub made : new.rules ≡ old.rules
+  pub first : new.first ≡ old.first
   pub share : new.share ≡ old.share
   pub guests : (k : ℕ) → guest_at new k ≡ guest_at old k
   pub lines : lines_of new ≡ lines_of old

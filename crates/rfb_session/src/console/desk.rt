@@ -1,6 +1,6 @@
 //! A share, the lines that wait for its owner, and what is known of each viewer.
 
-ghost use Rattle.std.specs.Prelude.{◌≡◌, length};
+ghost use Rattle.std.specs.Prelude.{◌≡◌, ◌<◌, length};
 
 mod admitting;
 mod composing;
@@ -41,11 +41,14 @@ pub(crate) struct Desk {
     came: bool,
     // When it wants the next turn.
     next: Option<u64>,
+    // The seat with which composing begins in the next turn.
+    first: Seat,
     ghost eight: { length guests ≡ 8 },
+    ghost first_of_eight: { first < 8 },
 }
 
 impl Desk {
-    ghost use Rattle.std.specs.Prelude.{◌++◌, ◌≤◌, [], ◌<◌, drop, IfOk};
+    ghost use Rattle.std.specs.Prelude.{◌++◌, ◌≤◌, [], drop, IfOk};
     ghost use Rattle.rfb_picture.specs.Grid.{uniform};
     ghost use Rattle.rfb_server.specs.Server.{black};
     ghost use Rattle.rfb_server.specs.Drawing.{stroke};
@@ -78,6 +81,7 @@ impl Desk {
             hold: Hold::Shown,
             came: false,
             next: None,
+            first: Seat::at(0),
         })
     }
 

@@ -9,6 +9,7 @@ ghost use Rattle.rfb_server.specs.Updating.{OwesUpdate};
 ghost use Rattle.rfb_session.specs.declared.console.Console.{Console as AConsole};
 ghost use Rattle.rfb_session.specs.declared.console.desk.Desk.{Desk as ADesk};
 ghost use Rattle.rfb_session.specs.declared.share.seat.ShareSeat.{ShareSeat as AShareSeat};
+ghost use Rattle.rfb_session.specs.Rounds.{seats_before, is_left};
 ghost use Rattle.rfb_session.specs.Share.{seat_in, screen_of, waits_at, is_update_at};
 ghost use Rattle.rfb_session.specs.ShareSeats.{Sends, session_at, waiting_in};
 ghost use Rattle.rfb_session.specs.doors.Events.{came, left, ends};
@@ -17,8 +18,10 @@ ghost use Rattle.rfb_session.specs.console.Console.{IsFreshConsole, OpensAs, wai
 ghost use Rattle.rfb_session.specs.console.Desk.{guest_at};
 ghost use Rattle.rfb_session.specs.console.Time.{IsBefore, is_slow, is_stuck};
 ghost use Rattle.rfb_session.specs.console.Turns.{TurnsAs, seat_left, holds_at};
+ghost use Rattle.rfb_session.specs.console.Turns.{IsLeftOut, IsLeftFor, IsLarge};
 ghost use Rattle.rfb_session.specs.console.History.{Lasts, HasRead, IsObeyed, TellsAll};
 ghost use Rattle.rfb_session.specs.console.History.{SeatLives, IsEmptySeat};
+ghost use Rattle.rfb_session.specs.console.History.{Happens, is_turn, KeepsFirst};
 
 /// The owner's bytes, however they are cut, are the lines that they spell. Each is obeyed, in order
 /// and once; beside that the desk meets what else happens, and nothing more. A console that was
@@ -53,15 +56,34 @@ pub fn lines_leave_as_they_were_told<S: Drop>()
 {}
 
 /// An update that is due where nothing waits is composed in the next turn, of the screen as it is
-/// then, unless updates are held back or memory was wanting. Each other seat is one for which
-/// nothing waits and none is due.
+/// then, unless updates are held back or memory was wanting, or the seat is left out: in that turn
+/// an update of more than a mebibyte was composed for another. Then the turn after it is wanted at
+/// once, and fewer seats come before this one there. Each other seat is one for which nothing waits
+/// and none is due.
 pub fn an_update_that_is_due_is_composed()
     ensures { (old new : ADesk) (now slow stuck k : ℕ) (seat : AShareSeat) →
         (turns : TurnsAs old now slow stuck new) → turns.held ≡ false → turns.wants ≡ false →
         k < 8 → seat_left old now k ≡ Some seat → session_fault (session_at seat) ≡ None →
         waiting_in seat ≡ [] → OwesUpdate (screen_of old.share) (session_at seat) →
-        (sent : AShareSeat) × (seat_in new.share k ≡ Some sent)
-        × Sends (screen_of old.share) seat sent }
+        ((sent : AShareSeat) × (seat_in new.share k ≡ Some sent)
+        × Sends (screen_of old.share) seat sent) ⊎ IsLeftOut old now k new }
+{}
+
+/// The seats take turns. Whoever is left out in a turn comes in the next one before each that was
+/// served, whatever happens between them; so of eight turns, one after the other, not each leaves
+/// out the same seat. And for one seat at most a turn composes an update of more than a mebibyte.
+pub fn nobody_is_left_out_for_ever<S: Drop>()
+    ensures first { (old new : ADesk) (now slow stuck j k : ℕ) →
+        (turns : TurnsAs old now slow stuck new) → j < 8 → k < 8 →
+        is_left old.first turns.last k ≡ true → is_left old.first turns.last j ≡ false →
+        seats_before new.first k < seats_before new.first j }
+    ensures kept { (old new : AConsole S) (happening : Happening) (part : List ℕ) →
+        HasRead old part → new.outcome ≡ None → Happens old happening new →
+        is_turn happening ≡ false → KeepsFirst old.desk new.desk }
+    ensures times { (desk : ADesk) (k times : ℕ) → k < 8 → IsLeftFor k times desk → times < 8 }
+    ensures one { (old new : ADesk) (now slow stuck j k : ℕ) → TurnsAs old now slow stuck new →
+        j < 8 → k < 8 → IsLarge (seat_left old now j) (seat_in new.share j) →
+        IsLarge (seat_left old now k) (seat_in new.share k) → j ≡ k }
 {}
 
 /// Before the time at which the next turn is wanted nobody's time is over, and updates that are

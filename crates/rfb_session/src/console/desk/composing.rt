@@ -1,13 +1,33 @@
 //! Updates that are composed for the viewers of a console.
 
-ghost use Rattle.std.specs.Prelude.{◌≡◌, ◌<◌};
+ghost use Rattle.std.specs.Prelude.{◌≡◌, ◌<◌, true, false};
 ghost use Rattle.rfb_picture.specs.Places.{has_bit};
-ghost use Rattle.rfb_session.specs.console.Turns.{ComposesAll, ComposesOne};
+ghost use Rattle.rfb_session.specs.Share.{seat_in};
+ghost use Rattle.rfb_session.specs.console.Turns.{ComposesAll, ComposesOne, ComposesRound, IsLarge};
 
 use crate::console::desk::Desk;
 use crate::seat::Seat;
 use crate::seats::Seats;
 use crate::slots::SLOTS;
+
+// After an update of more bytes than a mebibyte no other is composed in a turn.
+const LARGE: usize = 1 << 20;
+
+/// What came of composing in a turn.
+#[derive(Clone, Copy, Debug)]
+pub(crate) struct Round {
+    /// Whether memory was wanting for an update, which may be composed later.
+    pub wants: bool,
+    /// The seat for which a large update was composed, the last of this turn.
+    pub last: Option<Seat>,
+}
+
+// What came of composing for a seat.
+#[derive(Clone, Copy, Debug)]
+struct Served {
+    wants: bool,
+    is_large: bool,
+}
 
 impl Desk {
     /// Composes an update for each viewer for which nothing waits and one is due. It tells whether
@@ -21,6 +41,42 @@ impl Desk {
             wants |= self.compose_at(place, due);
         }
         wants
+    }
+
+    /// The same, but one seat after the other from the first of this turn on, going round, and no
+    /// further than to a large update. So at most one is composed before anything is written.
+    pub(crate) fn compose_round(&mut self) -> Round
+        ensures { ComposesRound self.old result.wants result.last self.new }
+    {
+        let mut wants = false;
+        let due = self.share.to_serve();
+        let first = self.first;
+        for step in 0..SLOTS {
+            let seat = first.after(step);
+            let served = self.serve(seat, due);
+            wants |= served.wants;
+            if served.is_large {
+                return Round {
+                    wants,
+                    last: Some(seat),
+                };
+            }
+        }
+        Round { wants, last: None }
+    }
+
+    // Composes an update for the viewer of a seat, and tells whether it is a large one.
+    fn serve(&mut self, seat: Seat, due: Seats) -> Served
+        ensures composes { ComposesOne self.old seat (has_bit due seat) result.wants self.new }
+        ensures large { result.is_large ≡ true →
+            IsLarge (seat_in self.old.share seat) (seat_in self.new.share seat) }
+        ensures small { result.is_large ≡ false →
+            IsLarge (seat_in self.old.share seat) (seat_in self.new.share seat) → ⊥ }
+    {
+        let is_free = self.share.to_write(seat).is_empty();
+        let wants = self.compose_at(seat.place(), due);
+        let is_large = is_free && self.share.to_write(seat).len() > LARGE;
+        Served { wants, is_large }
     }
 
     fn compose_at(&mut self, place: usize, due: Seats) -> bool

@@ -1,13 +1,15 @@
 //! What time does to the viewers of a console.
 
-ghost use Rattle.std.specs.Prelude.{◌≡◌, ◌<◌, ◌+◌, ℕ, IfOk, true, false};
+ghost use Rattle.std.specs.Prelude.{◌≡◌, ◌<◌, ◌+◌, ℕ, IfOk, None, true, false};
 ghost use Rattle.rfb_picture.specs.Places.{has_bit};
 ghost use Rattle.rfb_session.specs.console.Desk.{guest_at};
 ghost use Rattle.rfb_session.specs.console.Time.{is_slow, is_stuck, IsBy};
 ghost use Rattle.rfb_session.specs.console.Turns.{TurnsAs, StampsAll, StampsOne, Stills};
-ghost use Rattle.rfb_session.specs.console.Turns.{ComposesAll, KeepsBeside, ReleasesAll};
-ghost use Rattle.rfb_session.specs.console.Turns.{ReleasesOne, Wakes, WakesAt};
+ghost use Rattle.rfb_session.specs.console.Turns.{ComposesRound, KeepsBeside, ReleasesAll};
+ghost use Rattle.rfb_session.specs.console.Turns.{ReleasesOne, GoesRound, Wakes, WakesAt};
+ghost use Rattle.rfb_session.specs.console.Turns.{WakesAfter};
 
+use crate::console::desk::composing::Round;
 use crate::console::desk::{Desk, Hold};
 use crate::console::guest::{Progress, sooner};
 use crate::seat::Seat;
@@ -30,7 +32,9 @@ pub(crate) struct Late {
 impl Desk {
     /// All that was ready has been heard, and it is this time, in milliseconds. Viewers whose time
     /// is over are let go, and a line tells each; then updates are composed for the others, unless
-    /// they are held back. An error is want of memory for a line.
+    /// they are held back. After one of more than a mebibyte the seats that come after it are left
+    /// for the next turn, which begins with them and is wanted at once. An error is want of memory
+    /// for a line.
     pub(crate) fn turn(&mut self, now: u64) -> io::Result<Late>
         ensures { IfOk result (λ late. TurnsAs self.old now late.slow late.stuck self.new) }
     {
@@ -39,29 +43,44 @@ impl Desk {
         let late = self.late(now);
         self.let_all_go(late.slow.or(late.stuck))?;
         let is_held = self.still(now);
-        let wants = self.compose_unless(is_held);
-        self.plan_next(now, wants);
+        let round = self.compose_unless(is_held);
+        self.go_round(round.last);
+        self.plan_next(now, round);
         Ok(late)
     }
 
     // Updates are composed, unless they are held back.
-    fn compose_unless(&mut self, is_held: bool) -> bool
-        ensures composes { is_held ≡ false → ComposesAll self.old result self.new }
+    fn compose_unless(&mut self, is_held: bool) -> Round
+        ensures composes { is_held ≡ false →
+            ComposesRound self.old result.wants result.last self.new }
         ensures held { is_held ≡ true → self.new ≡ self.old }
+        ensures none { is_held ≡ true → result.last ≡ None }
     {
         if is_held {
-            return false;
+            return Round {
+                wants: false,
+                last: None,
+            };
         }
-        self.compose()
+        self.compose_round()
+    }
+
+    // The next turn begins with the seat after the last of this one.
+    fn go_round(&mut self, last: Option<Seat>)
+        ensures { GoesRound self.old last self.new }
+    {
+        if let Some(seat) = last {
+            self.first = seat.after(1);
+        }
     }
 
     // The next turn is wanted when something is due.
-    fn plan_next(&mut self, now: u64, wants: bool)
+    fn plan_next(&mut self, now: u64, round: Round)
         ensures share { self.new.share ≡ self.old.share }
         ensures beside { KeepsBeside self.old self.new }
-        ensures wakes { Wakes self.new now wants self.new.next }
+        ensures wakes { Wakes self.new now round.wants round.last self.new.next }
     {
-        self.next = self.due(now, wants);
+        self.next = self.due(now, round);
     }
 
     // Viewers that have failed go once all is written that waited for them.
@@ -144,10 +163,10 @@ impl Desk {
     }
 
     // When the next turn is wanted even if nothing happens before.
-    fn due(&self, now: u64, wants: bool) -> Option<u64>
-        ensures { Wakes self.now now wants result }
+    fn due(&self, now: u64, round: Round) -> Option<u64>
+        ensures { Wakes self.now now round.wants round.last result }
     {
-        let mut next = sooner(self.hold_ends(), pause(now, wants));
+        let mut next = sooner(self.hold_ends(), goes_on(now, round));
         for place in 0..SLOTS {
             next = sooner(next, self.guests[place].due(&self.rules));
         }
@@ -165,11 +184,16 @@ impl Desk {
     }
 }
 
-// When memory that was wanting may be there.
-fn pause(now: u64, wants: bool) -> Option<u64>
-    ensures { wants ≡ true → IsBy (now + 100) result }
+// When composing goes on: at once where seats are left, and else when memory that was wanting may
+// be there.
+fn goes_on(now: u64, round: Round) -> Option<u64>
+    ensures left { WakesAfter now round.last result }
+    ensures again { round.wants ≡ true → IsBy (now + 100) result }
 {
-    if wants {
+    if round.last.is_some() {
+        return Some(now);
+    }
+    if round.wants {
         return Some(now.saturating_add(PAUSE));
     }
     None

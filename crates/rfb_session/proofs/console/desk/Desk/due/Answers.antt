@@ -2,7 +2,7 @@ use Rattle.std.proofs.Common.{ℕ, ◌+◌, sym, subst, arith, inl, inr}
 use Rattle.std.proofs.lemmas.Bool.Decides.{eqb_tells}
 use Rattle.rfb_session.specs.console.Desk.{guest_at}
 use Rattle.rfb_session.specs.console.Turns.{WakesFor}
-use Rattle.rfb_session.proofs.WakeLemmas.{wakes_sooner, hold_sooner, wakes_read}
+use Rattle.rfb_session.proofs.WakeLemmas.{wakes_sooner, hold_sooner, left_sooner, wakes_read}
 use Rattle.rfb_session.proofs.console.desk.Desk.due.Goals as goal
 
 pub loop-place-init : goal.loop-place-init
@@ -12,7 +12,9 @@ loop-place-init c =
     record {
       guests = λ k none. absurd (omega (arith, none));
       hold = hold_sooner c.hold_ends.result c.sooner-next.result first desk.rules.hold desk.hold c.hold_ends.ensures;
-      again = λ wants. c.sooner-next.ensures.second (c.args.now + 100) (c.pause.ensures wants);
+      again = λ wants. c.sooner-next.ensures.second (c.args.now + 100) (c.goes_on.ensures.again wants);
+      left = left_sooner c.goes_on.result c.sooner-next.result c.sooner-next.ensures.second c.args.now
+          c.args.round.last c.goes_on.ensures.left;
     }
 
 pub loop-place-preserved : goal.loop-place-preserved
@@ -34,4 +36,5 @@ loop-place-preserved c =
       ];
       hold = hold_sooner c.loop-place.next next.result next.ensures.first desk.rules.hold desk.hold before.hold;
       again = λ wants. next.ensures.first (c.args.now + 100) (before.again wants);
+      left = left_sooner c.loop-place.next next.result next.ensures.first c.args.now c.args.round.last before.left;
     }

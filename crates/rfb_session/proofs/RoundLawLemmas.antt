@@ -1,0 +1,111 @@
+-- What comes of the seats that a turn leaves: they come first in the next one.
+use Rattle.std.proofs.Common.{◌≡◌, ◌⊎◌, ◌<◌, ◌+◌, ◌||◌, ℕ, Bool, true, false, []}
+use Rattle.std.proofs.Common.{Option, Some, None, refl, ap, subst, arith, inl, inr}
+use Rattle.std.proofs.lemmas.Bool.{false≢true}
+use Rattle.rfb_server.specs.Standing.{session_fault}
+use Rattle.rfb_server.specs.Updating.{OwesUpdate}
+use Rattle.rfb_session.specs.declared.console.desk.Desk.{Desk}
+use Rattle.rfb_session.specs.declared.share.seat.ShareSeat.{ShareSeat}
+use Rattle.rfb_session.specs.Rounds.{seats_before, first_after, is_left}
+use Rattle.rfb_session.specs.Share.{seat_in, screen_of}
+use Rattle.rfb_session.specs.ShareSeats.{Sends, session_at, waiting_in}
+use Rattle.rfb_session.specs.console.Turns.{TurnsAs, EndsLarge, IsLarge, ServesUnless, WakesAfter, seat_left}
+use Rattle.rfb_session.specs.console.Turns.{IsLeftOut, IsLeftFor, NotYet, Again}
+use Rattle.rfb_session.proofs.RoundLemmas.{before_below, left_comes, served_comes, next_before, next_after}
+use Rattle.rfb_session.proofs.WakeLemmas.{due_sent}
+
+module _ (old : Desk) (now slow stuck : ℕ) (new : Desk) (turns : TurnsAs old now slow stuck new) (k : ℕ)
+    (within : k < 8) where
+  -- fewer come before it
+  sooner_by : (o : Option ℕ) → EndsLarge o (seat_left old now) (seat_in new.share) →
+      new.first ≡ first_after old.first o → is_left old.first o k ≡ true →
+      seats_before new.first k < seats_before old.first k
+  sooner_by None ends first left = absurd (false≢true left)
+  sooner_by (Some last) ends first left =
+      let comes = left_comes old.first last k left in
+      let next = next_before old.first last k old.first_of_eight ends.0 within comes in
+      omega (arith, next, ap (λ (n : ℕ). seats_before n k) first)
+
+  pub left_sooner : is_left old.first turns.last k ≡ true → seats_before new.first k < seats_before old.first k
+  left_sooner left = sooner_by turns.last turns.ends turns.first left
+
+  -- it comes before whoever was served
+  before_by : (j : ℕ) → j < 8 → (o : Option ℕ) → EndsLarge o (seat_left old now) (seat_in new.share) →
+      new.first ≡ first_after old.first o → is_left old.first o k ≡ true → is_left old.first o j ≡ false →
+      seats_before new.first k < seats_before new.first j
+  before_by j low None ends first left served = absurd (false≢true left)
+  before_by j low (Some last) ends first left served =
+      let next = next_before old.first last k old.first_of_eight ends.0 within (left_comes old.first last k left) in
+      let after = next_after old.first last j old.first_of_eight ends.0 low (served_comes old.first last j served) in
+      omega (
+        arith,
+        next,
+        after,
+        ap (λ (n : ℕ). seats_before n k) first,
+        ap (λ (n : ℕ). seats_before n j) first,
+        before_below old.first k old.first_of_eight within,
+      )
+
+  pub left_first : (j : ℕ) → j < 8 → is_left old.first turns.last k ≡ true →
+      is_left old.first turns.last j ≡ false → seats_before new.first k < seats_before new.first j
+  left_first j low left served = before_by j low turns.last turns.ends turns.first left served
+
+  -- whoever is left is left out
+  left_by : (o : Option ℕ) → EndsLarge o (seat_left old now) (seat_in new.share) →
+      new.first ≡ first_after old.first o → WakesAfter now o new.next → is_left old.first o k ≡ true →
+      seat_in new.share k ≡ seat_left old now k → IsLeftOut old now k new
+  left_by None ends first wakes left same = absurd (false≢true left)
+  left_by (Some last) ends first wakes left same = record {
+    other = last;
+    another = (
+      ends.0,
+      λ (is : last ≡ k). omega (arith, left_comes old.first last k left, ap (λ (n : ℕ). seats_before old.first n) is),
+    );
+    large = ends.1;
+    same = same;
+    sooner = sooner_by (Some last) ends first left;
+    at_once = wakes;
+  }
+
+  or_true : (a b : Bool) → b ≡ true → (a || b) ≡ true
+  or_true true b is = refl
+  or_true false b is = is
+
+  left_out : is_left old.first turns.last k ≡ true → IsLeftOut old now k new
+  left_out left =
+      left_by turns.last turns.ends turns.first turns.next.left left
+      (subst (λ (h : Bool). ServesUnless h (screen_of old.share) turns.wants (seat_left old now k)
+      (seat_in new.share k)) (or_true turns.held (is_left old.first turns.last k) left) (turns.seats k within))
+
+  pub due_sent_or_left : (seat : ShareSeat) → turns.held ≡ false → turns.wants ≡ false →
+      seat_left old now k ≡ Some seat → session_fault (session_at seat) ≡ None → waiting_in seat ≡ [] →
+      OwesUpdate (screen_of old.share) (session_at seat) →
+      ((sent : ShareSeat) × (seat_in new.share k ≡ Some sent) × Sends (screen_of old.share) seat sent)
+      ⊎ IsLeftOut old now k new
+  due_sent_or_left seat shown enough there going written due = by (is_left old.first turns.last k) refl
+    where
+      by : (left : Bool) → is_left old.first turns.last k ≡ left →
+          ((sent : ShareSeat) × (seat_in new.share k ≡ Some sent) × Sends (screen_of old.share) seat sent)
+          ⊎ IsLeftOut old now k new
+      by true is = inr (left_out is)
+      by false is =
+          inl (due_sent old now slow stuck new turns k seat shown enough is within there going written due)
+
+pub left_few : (k : ℕ) → k < 8 → (times : ℕ) (desk : Desk) → IsLeftFor k times desk →
+    times + seats_before desk.first k < 8
+left_few k within times desk (NotYet d) = omega (arith, before_below d.first k d.first_of_eight within)
+left_few k within times desk (Again less before old new now slow stuck turns left same is) =
+    omega (
+      arith,
+      left_few k within less before left,
+      ap (λ (n : ℕ). seats_before n k) same,
+      left_sooner old now slow stuck new turns k within is,
+    )
+
+pub one_large : (old : Desk) (now slow stuck : ℕ) (new : Desk) → TurnsAs old now slow stuck new → (j k : ℕ) → j < 8 →
+    k < 8 → IsLarge (seat_left old now j) (seat_in new.share j) →
+    IsLarge (seat_left old now k) (seat_in new.share k) → j ≡ k
+one_large old now slow stuck new turns j k low within first second =
+    let one = turns.only j low first in
+    let two = turns.only k within second in
+    cc (one, two)
