@@ -17,6 +17,7 @@ pub mod RecordingLemmas
 pub mod SceneLemmas
 pub mod ScriptLemmas
 pub mod ServingLemmas
+pub mod SharingLemmas
 pub mod ThroughLemmas
 pub mod UsageLemmas
 pub mod ViewingLemmas

@@ -30,6 +30,7 @@ use Rattle.rfb.specs.Loopback.{LeavesSomePicture, PlaysSomeScript}
 use Rattle.rfb.specs.Options.{AreOrdered}
 use Rattle.rfb.specs.Recording.{LeavesRecording, PlaysRecording}
 use Rattle.rfb.specs.Serving.{LeavesServed, ServesAsked}
+use Rattle.rfb.specs.Sharing.{LeavesShare, Shares}
 use Rattle.rfb.specs.Viewing.{FailsSomehow, LeavesSomeView, ViewsSome}
 
 -- ---- a script
@@ -128,14 +129,14 @@ FailsAt read (Picture flaw) = ⊥
 -- ---- any command
 
 -- what was read and written at a command; of the bytes that come over a connection nothing is
--- known, and nothing is said here of a share
+-- known, and of a share it is said what happened to its console
 abbrev pub Does : Task → Option (List ℕ) → Option (List ℕ) → Option (List ℕ) → Type 0
 Does Script read before after = PlaysScript read before after
 Does Loop read before after = PlaysSomeScript read before after
 Does (Serve options) read before after = ServesAsked options before after
 Does (View options) read before after = ViewsSome options.sight before after
 Does (Play options) read before after = PlaysRecording options read before after
-Does (Share options) read before after = ⊤
+Does (Share options) read before after = Shares options
 
 -- what was written at a command that failed: nothing, or a beginning of what it was to write; what
 -- a view keeps of a server's bytes is written as they come, and has what its viewer was fed
@@ -147,7 +148,7 @@ Leaves (View options) read before after =
     (options.sight.is_recorded ≡ false → LeavesSomeView options.sight before after)
     × FailsSomehow options.sight before after
 Leaves (Play options) read before after = LeavesRecording options read before after
-Leaves (Share options) read before after = ⊤
+Leaves (Share options) read before after = LeavesShare options before after
 
 -- where a file is named, it is read in place of standard input; of its bytes nothing is known
 abbrev pub FromFile : Option (Bor Text) → (Option (List ℕ) → Type 0) → Option (List ℕ) → Type 0

@@ -14,6 +14,7 @@ pub mod Ready
 pub mod Recording
 pub mod Scene
 pub mod Serving
+pub mod Sharing
 pub mod Script
 pub mod Viewing
 pub mod Words

@@ -4,7 +4,9 @@
 //! The core of it is a `Console`, which has no IO. `live` moves bytes between the console and its
 //! doors, at which tenants stand. The `Shell` tells which of them are ready.
 
+ghost use Rattle.std.specs.Prelude.{◌≡◌, OnOk, OnErr};
 ghost use Rattle.rfb.specs.Context.{KeepsStreams};
+ghost use Rattle.rfb.specs.Sharing.{EndsWell, IsAsked, IsNoEnd, LeavesShare, Shares};
 
 mod owner_cause;
 mod ready;
@@ -45,6 +47,9 @@ pub fn share_at<P: AllocGlobal + Clock + Net, R: Read, W: Write, E: Write>(
     context: &mut Context<P, R, W, E>,
     options: ShareOptions<'_>,
 ) -> Result<(), Failure>
+    ensures done { OnOk result (Shares options.entry) }
+    ensures left { OnErr result (LeavesShare options.entry
+        (W.contents context.old.output.now) (W.contents context.new.output.now)) }
     ensures same { KeepsStreams context.old context.new }
 {
     let streams = open_streams();
@@ -58,7 +63,7 @@ pub fn share_at<P: AllocGlobal + Clock + Net, R: Read, W: Write, E: Write>(
     listener.set_nonblocking(true)?;
     let alloc = context.alloc();
     let shell = &mut Shell::new(context.rt, alloc, listener, streams)?;
-    let console = &mut Console::new(alloc, &setup_of(&options), Reporter { are_wanted: says });
+    let console = &mut console_of(alloc, &options, says);
     let mut part = Vec::from_elem(alloc, 0, READ_AT_ONCE)?;
     let mut doors = doors_of(
         alloc,
@@ -69,6 +74,14 @@ pub fn share_at<P: AllocGlobal + Clock + Net, R: Read, W: Write, E: Write>(
     )?;
     live(console, &mut doors, shell, &mut part);
     result_of(console.outcome())
+}
+
+// A console that was told nothing, as the options ask for it. It says sentences, or none.
+fn console_of(alloc: Global, options: &ShareOptions<'_>, says: bool) -> Console<Reporter>
+    ensures { IsAsked options.now result }
+{
+    let reporter = Reporter { are_wanted: says };
+    Console::new(alloc, &setup_of(options), reporter)
 }
 
 // A device at a door, or nobody.
@@ -106,7 +119,10 @@ fn held<'a, R, W, E, S>(tenant: Tenant<'a, R, W, E, S>) -> Door<'a, R, W, E, S> 
 }
 
 // How a share has ended. Where its console does not say so, waiting has failed.
-fn result_of(outcome: Option<Outcome>) -> Result<(), Failure> {
+fn result_of(outcome: Option<Outcome>) -> Result<(), Failure>
+    ensures well { OnOk result (EndsWell outcome) }
+    ensures ill { OnErr result (IsNoEnd outcome) }
+{
     match outcome {
         Some(Outcome::Quit | Outcome::Idle) => Ok(()),
         Some(Outcome::BadLine(number)) => Err(Failure::BadLine(number)),

@@ -14,6 +14,8 @@
 //! - Lines that wait for an owner that does not read them are bounded: a viewer of which 4,096
 //!   bytes of lines wait is not read until they are gone. The others go on.
 //! - All that was ready is heard before anything is composed.
+//! - After an update of more than a mebibyte no other is composed before what is ready was written
+//!   and heard. So small ones do not wait behind those of eight whole screens.
 
 pub(crate) mod desk;
 mod entrances;
@@ -112,7 +114,8 @@ impl<S: Speaker + Drop> Console<S> {
     /// A console that was told nothing.
     pub fn new(alloc: Global, setup: &ConsoleSetup<'_>, speaker: S) -> Console<S>
         requires name { length setup.now.name.now ≤ 255 }
-        ensures { IsFreshConsole result }
+        ensures fresh { IsFreshConsole result }
+        ensures rules { result.rules ≡ setup.now.rules }
     {
         let mut name = ArrayVec::new();
         let _ = name.try_extend_from_slice(setup.name);

@@ -1,0 +1,59 @@
+-- What a share does, as far as its console tells it: all that happens to the console is what its doors
+-- bring, and what leaves there.
+use Rattle.std.specs.Prelude.{◌≡◌, ◌⊎◌, ⊤, ℕ, ◌*◌, List, Option, Some, None}
+use Rattle.rfb_session.specs.declared.console.Console.{Console}
+use Rattle.rfb_session.specs.declared.console.Outcome.{Outcome}
+use Rattle.rfb_session.specs.declared.console.Outcome.TheVariants.{Quit, Idle, BadLine, NoMemory, Device}
+use Rattle.rfb_session.specs.doors.Tenants.{Happening}
+use Rattle.rfb_session.specs.console.Console.{IsFreshConsole}
+use Rattle.rfb_session.specs.console.History.{Lasts}
+use Rattle.rfb.specs.declared.sharing.share_words.ShareOptions.{ShareOptions}
+use Rattle.rfb.specs.declared.sharing.speaker.Reporter.{Reporter}
+
+-- a console that was told nothing, with the rules that options ask for; their times are seconds, and
+-- its are milliseconds
+pub record IsAsked (options : ShareOptions) (console : Console Reporter) : Type 0 where
+  pub fresh : IsFreshConsole console
+  pub until_idle : console.rules.until_idle ≡ options.until_idle
+  pub always_shared : console.rules.always_shared ≡ options.is_always_shared
+  pub view_only : console.rules.view_only ≡ options.is_view_only
+  pub handshake : console.rules.handshake ≡ 1000 * options.handshake
+  pub hold : console.rules.hold ≡ 1000 * options.hold
+
+-- these happened to a console of the options, in this order, and nothing else did; so it has ended,
+-- or has not
+pub record SharesUntil (options : ShareOptions) (outcome : Option Outcome) : Type 0 where
+  pub old : Console Reporter
+  pub new : Console Reporter
+  pub asked : IsAsked options old
+  pub happenings : List Happening
+  pub lasts : Lasts old happenings new
+  pub ends : new.outcome ≡ outcome
+
+-- a line said `quit`, or the last viewer has gone
+abbrev pub EndsWell : Option Outcome → Type 0
+EndsWell None = ⊥
+EndsWell (Some Quit) = ⊤
+EndsWell (Some Idle) = ⊤
+EndsWell (Some (BadLine number)) = ⊥
+EndsWell (Some NoMemory) = ⊥
+EndsWell (Some Device) = ⊥
+
+-- it has not ended so
+abbrev pub IsNoEnd : Option Outcome → Type 0
+IsNoEnd None = ⊤
+IsNoEnd (Some Quit) = ⊥
+IsNoEnd (Some Idle) = ⊥
+IsNoEnd (Some (BadLine number)) = ⊤
+IsNoEnd (Some NoMemory) = ⊤
+IsNoEnd (Some Device) = ⊤
+
+-- a share that ends well
+abbrev pub Shares : ShareOptions → Type 0
+Shares options = (outcome : Option Outcome) × SharesUntil options outcome × EndsWell outcome
+
+-- one that fails: nothing was written before there was a console, or it has not ended well
+abbrev pub LeavesShare : ShareOptions → Option (List ℕ) → Option (List ℕ) → Type 0
+LeavesShare options before after =
+    (after ≡ before)
+    ⊎ ((outcome : Option Outcome) × SharesUntil options outcome × IsNoEnd outcome)
