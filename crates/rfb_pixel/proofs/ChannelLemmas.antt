@@ -3,7 +3,8 @@ use Rattle.std.proofs.Common.{◌≡◌, ℕ, ◌+◌, ◌-◌, ◌*◌, ◌/◌
 use Rattle.std.specs.Int.{bit_at}
 use Rattle.std.specs.Int.RustNames.{count_ones}
 use Rattle.std.proofs.Math.Nat.{mul-le-mul_right, pow-suc}
-use Rattle.std.proofs.lemmas.Nat.{div-add-mod', div-mul-add, div_below, mod_below, ones_cat, pow_below, pow_pos, shr-shr, shr_split}
+use Rattle.std.proofs.lemmas.Nat.{div-add-mod', div-mul-add, div_below, mod_below, ones_cat, pow_below, pow_pos}
+use Rattle.std.proofs.lemmas.Nat.{shr-shr, shr_split}
 use Rattle.std.proofs.lemmas.Bool.{cases_lt}
 use Rattle.std.proofs.Common.{inl, inr, true}
 use Rattle.std.proofs.lemmas.Bool.Decides.{nat_tests}

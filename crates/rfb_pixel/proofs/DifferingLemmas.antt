@@ -1,11 +1,14 @@
 -- Which places of two rows differ, as bits of a word, some at once.
-use Rattle.std.proofs.Common.{zero, suc, ◌≡◌, ◌∙◌, ℕ, ◌+◌, ◌-◌, ◌*◌, ◌%◌, ◌^◌, ◌<◌, ◌≤◌, ◌==◌, ◌&&◌, ◌||◌, List, Bool, true, false, cond, not, nat_eq, nat_lt, bit_or, length, map, slice_index, sym, ap, refl, inl, inr, arith}
+use Rattle.std.proofs.Common.{zero, suc, ◌≡◌, ◌∙◌, ℕ, ◌+◌, ◌-◌, ◌*◌, ◌%◌, ◌^◌, ◌<◌, ◌≤◌, ◌==◌, ◌&&◌, ◌||◌, List, Bool}
+use Rattle.std.proofs.Common.{true, false, cond, not, nat_eq, nat_lt, bit_or, length, map, slice_index, sym, ap, refl}
+use Rattle.std.proofs.Common.{inl, inr, arith}
 use Rattle.std.specs.Int.{bit_at}
 use Rattle.std.proofs.lemmas.Bool.{cases_lt}
 use Rattle.std.proofs.lemmas.Bool.Decides.{nat_tests}
 use Rattle.std.proofs.lemmas.Nat.{pow_pos, shl_whole}
 use Rattle.std.proofs.lemmas.Nat.Bits.{bit_at_or, bit_at-lt, bit_at_cat_low, bit_at_cat_high, bit_at_above, bit_at-zero}
-use Rattle.std.proofs.lemmas.Simd.{tops_compared, mask_l-mod, mask_l-lt, bit_mask_l, get_or-zip2, get_or-chunk, length-zip2, length-chunk}
+use Rattle.std.proofs.lemmas.Simd.{tops_compared, mask_l-mod, mask_l-lt, bit_mask_l, get_or-zip2, get_or-chunk}
+use Rattle.std.proofs.lemmas.Simd.{length-zip2, length-chunk}
 use Rattle.std.proofs.Math.Dec.{eqb}
 use Rattle.rfb_pixel.proofs.LaneLemmas.{differ}
 use lib.Lanes.{mask_l, zip2, chunk, top}
@@ -18,13 +21,15 @@ one_tells true = refl
 one_tells false = refl
 
 pub sixteen_is : (xs ys : List ℕ) (at : ℕ) → at + 16 ≤ length xs → at + 16 ≤ length ys →
-    mask_l (map (top (hbits w32)) (zip2 (λ a b. cond (not (eqb a b)) (2 ^ bits w32 - 1) 0) (chunk at 16 xs) (chunk at 16 ys))) % 2 ^ 64
+    mask_l (map (top (hbits w32))
+    (zip2 (λ a b. cond (not (eqb a b)) (2 ^ bits w32 - 1) 0) (chunk at 16 xs) (chunk at 16 ys))) % 2 ^ 64
     ≡ mask_l (differ (chunk at 16 xs) (chunk at 16 ys))
 sixteen_is xs ys at left right =
     let long_x = length-chunk at 16 xs left in
     let long_y = length-chunk at 16 ys right in
     let ms = differ (chunk at 16 xs) (chunk at 16 ys) in
-    let long : length ms ≡ 16 = length-zip2 (λ a b. not (eqb a b)) (chunk at 16 xs) (chunk at 16 ys) (long_x ∙ sym long_y) ∙ long_x in
+    let long : length ms ≡ 16 =
+    length-zip2 (λ a b. not (eqb a b)) (chunk at 16 xs) (chunk at 16 ys) (long_x ∙ sym long_y) ∙ long_x in
     ap (λ ms. mask_l ms % 2 ^ 64) (tops_compared w32 (λ a b. not (eqb a b)) (chunk at 16 xs) (chunk at 16 ys))
     ∙ mask_l-mod ms 64 (omega (arith, long))
 
@@ -34,18 +39,21 @@ sixteen_bound xs ys at left right =
     let long_x = length-chunk at 16 xs left in
     let long_y = length-chunk at 16 ys right in
     let ms = differ (chunk at 16 xs) (chunk at 16 ys) in
-    let long : length ms ≡ 16 = length-zip2 (λ a b. not (eqb a b)) (chunk at 16 xs) (chunk at 16 ys) (long_x ∙ sym long_y) ∙ long_x in
+    let long : length ms ≡ 16 =
+    length-zip2 (λ a b. not (eqb a b)) (chunk at 16 xs) (chunk at 16 ys) (long_x ∙ sym long_y) ∙ long_x in
     let less : mask_l ms < 2 ^ length ms = mask_l-lt ms in
     rw long at less
 
 pub sixteen_bits : (xs ys : List ℕ) (at i : ℕ) → at + 16 ≤ length xs → at + 16 ≤ length ys → i < 16 →
-    nat_eq (bit_at (mask_l (differ (chunk at 16 xs) (chunk at 16 ys))) i) 1 ≡ not (slice_index xs (at + i) == slice_index ys (at + i))
+    nat_eq (bit_at (mask_l (differ (chunk at 16 xs) (chunk at 16 ys))) i) 1
+    ≡ not (slice_index xs (at + i) == slice_index ys (at + i))
 sixteen_bits xs ys at i left right low =
     let long_x = length-chunk at 16 xs left in
     let long_y = length-chunk at 16 ys right in
     let x = get_or-chunk at 16 xs i 0 low in
     let y = get_or-chunk at 16 ys i 0 low in
-    let lane = get_or-zip2 (λ a b. not (eqb a b)) (chunk at 16 xs) (chunk at 16 ys) i 0 0 false (omega arith) (omega arith) in
+    let lane =
+    get_or-zip2 (λ a b. not (eqb a b)) (chunk at 16 xs) (chunk at 16 ys) i 0 0 false (omega arith) (omega arith) in
     ap (λ n. nat_eq n 1) (bit_mask_l (differ (chunk at 16 xs) (chunk at 16 ys)) i)
     ∙ one_tells (get_or (differ (chunk at 16 xs) (chunk at 16 ys)) i false)
     ∙ lane
@@ -77,10 +85,12 @@ joined before word n at i tells less room low was here =
     tells_or before (word * 2 ^ at % 2 ^ 64) i ∙
     elim (cases_lt i at) [
       | inl below ↦
-          let zero_bit : bit_at (word * 2 ^ at % 2 ^ 64) i ≡ 0 = shifted_bit word n at i less room ∙ bit_at_cat_low word at 0 i below ∙ bit_at-zero i in
+          let zero_bit : bit_at (word * 2 ^ at % 2 ^ 64) i ≡ 0 =
+          shifted_bit word n at i less room ∙ bit_at_cat_low word at 0 i below ∙ bit_at-zero i in
           rw (was i low, zero_bit, or_false) (grind (arith, nat_tests))
       | inr from ↦
-          let moved : bit_at (word * 2 ^ at % 2 ^ 64) i ≡ bit_at word (i - at) = shifted_bit word n at i less room ∙ bit_at_cat_high word at 0 i (pow_pos at) from in
+          let moved : bit_at (word * 2 ^ at % 2 ^ 64) i ≡ bit_at word (i - at) =
+          shifted_bit word n at i less room ∙ bit_at_cat_high word at 0 i (pow_pos at) from in
           let old : (nat_lt i at && tells i) ≡ false = grind (arith, nat_tests) in
           elim (cases_lt i (at + n)) [
             | inl inside ↦

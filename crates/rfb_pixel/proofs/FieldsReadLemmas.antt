@@ -1,5 +1,6 @@
 -- Laws of the reading of the three fields: what is read, and the fault of a maximum.
-use Rattle.std.proofs.Common.{◌≡◌, ◌≢◌, ℕ, ◌≤◌, List, Bool, true, false, nat_le, ◌==◌, ◌||◌, Some, Ok, Err, Result, if◌then◌else◌, slice_index, refl, arith}
+use Rattle.std.proofs.Common.{◌≡◌, ◌≢◌, ℕ, ◌≤◌, List, Bool, true, false, nat_le, ◌==◌, ◌||◌, Some, Ok, Err, Result}
+use Rattle.std.proofs.Common.{if◌then◌else◌, slice_index, refl, arith}
 use Rattle.rfb_pixel.specs.declared.channel.Channel.{Channel}
 use Rattle.rfb_pixel.specs.declared.fault.FormatFault.{FormatFault}
 use Rattle.rfb_pixel.specs.declared.fault.FormatFault.TheVariants.{BadMax}

@@ -1,5 +1,6 @@
 -- Laws of pixel formats.
-use Rattle.std.proofs.Common.{◌≡◌, ℕ, ◌+◌, ◌-◌, ◌*◌, ◌/◌, ◌%◌, ◌^◌, ◌<◌, ◌≤◌, List, [], ◌∷◌, ◌++◌, Bool, true, false, cond, if◌then◌else◌, length, take, set, arith, refl, ap, ◌∙◌, sym, append-nil}
+use Rattle.std.proofs.Common.{◌≡◌, ℕ, ◌+◌, ◌-◌, ◌*◌, ◌/◌, ◌%◌, ◌^◌, ◌<◌, ◌≤◌, List, [], ◌∷◌, ◌++◌, Bool, true, false}
+use Rattle.std.proofs.Common.{cond, if◌then◌else◌, length, take, set, arith, refl, ap, ◌∙◌, sym, append-nil}
 use Rattle.std.specs.Prelude.{bit_and, bit_or, max}
 use Rattle.std.specs.Int.{bit_at}
 use Rattle.std.proofs.Math.Nat.{div-one, mul-le-mul_right}
@@ -12,9 +13,13 @@ use Rattle.byteorder.specs.Numbers.{big_from-bytes, big_from-take, little_from-b
 use Rattle.byteorder.proofs.Bytes.{pow256}
 use Rattle.rfb_pixel.specs.declared.colour.Colour.{Colour}
 use Rattle.rfb_pixel.specs.declared.channel.Channel.{Channel}
-use Rattle.rfb_pixel.specs.Channel.{max_of, IsField, IsInField, AgreeInField, held_in, rescaled, field_for, field_for_byte, component_in, seen_in_byte}
-use Rattle.rfb_pixel.specs.Format.{PixelFormat, IsFormat, IsColour, IsOutsideFields, FieldsHold, AgreeInFields, KeepsFullFields, FieldsKept, size_of, pixel_of, pixel_of_bytes, colour_of, colour_of_bytes, pixel_bytes, pixel_number, rgb888, seen_through, seen_in_bytes}
-use Rattle.rfb_pixel.proofs.ChannelLemmas.{rescaled-le, rescaled-same, rescaled-back, max_of-odd, bit_at-held_in, held_in-is, bit_at-placed, bit_at-outside}
+use Rattle.rfb_pixel.specs.Channel.{max_of, IsField, IsInField, AgreeInField, held_in, rescaled, field_for}
+use Rattle.rfb_pixel.specs.Channel.{field_for_byte, component_in, seen_in_byte}
+use Rattle.rfb_pixel.specs.Format.{PixelFormat, IsFormat, IsColour, IsOutsideFields, FieldsHold, AgreeInFields}
+use Rattle.rfb_pixel.specs.Format.{KeepsFullFields, FieldsKept, size_of, pixel_of, pixel_of_bytes, colour_of}
+use Rattle.rfb_pixel.specs.Format.{colour_of_bytes, pixel_bytes, pixel_number, rgb888, seen_through, seen_in_bytes}
+use Rattle.rfb_pixel.proofs.ChannelLemmas.{rescaled-le, rescaled-same, rescaled-back, max_of-odd, bit_at-held_in}
+use Rattle.rfb_pixel.proofs.ChannelLemmas.{held_in-is, bit_at-placed, bit_at-outside}
 
 -- ---- bytes
 
@@ -25,10 +30,13 @@ only_byte (x ∷ []) b h = refl
 only_byte (x ∷ y ∷ bytes) b h = absurd (omega arith)
 
 -- a pixel is read from its own bytes alone
-pub pixel_number-take : (f : PixelFormat) (bytes : List ℕ) (n : ℕ) → size_of f ≤ n → pixel_number f (take n bytes) ≡ pixel_number f bytes
+pub pixel_number-take : (f : PixelFormat) (bytes : List ℕ) (n : ℕ) → size_of f ≤ n →
+    pixel_number f (take n bytes) ≡ pixel_number f bytes
 pixel_number-take f bytes n enough = ordered f.big_endian
   where
-    ordered : (b : Bool) → (if b then big_number (size_of f) (take n bytes) else little_number (size_of f) (take n bytes)) ≡ (if b then big_number (size_of f) bytes else little_number (size_of f) bytes)
+    ordered : (b : Bool) →
+        (if b then big_number (size_of f) (take n bytes) else little_number (size_of f) (take n bytes))
+        ≡ (if b then big_number (size_of f) bytes else little_number (size_of f) bytes)
     ordered true = big_from-take 0 (size_of f) n bytes (omega arith)
     ordered false = little_from-take 0 (size_of f) n bytes (omega arith)
 

@@ -24,7 +24,8 @@ below_six component fits = omega (arith, fits)
 joined : (r g b : ℕ) → r < 32 → g < 64 → b < 32 →
     ((r * 2048 % 65536 + g * 32 % 65536) % 65536 + b) % 65536 ≡ bit_or (bit_or (r * 2 ^ 11) (g * 2 ^ 5)) (b * 2 ^ 0)
 joined r g b small_r small_g small_b =
-    let two : bit_or (r * 2 ^ 11) (g * 2 ^ 5) ≡ (r * 64 + g) * 2 ^ 5 = or_shifted r 11 (g * 2 ^ 5) (omega (arith, small_g)) ∙ omega arith in
+    let two : bit_or (r * 2 ^ 11) (g * 2 ^ 5) ≡ (r * 64 + g) * 2 ^ 5 =
+    or_shifted r 11 (g * 2 ^ 5) (omega (arith, small_g)) ∙ omega arith in
     let one : b * 2 ^ 0 ≡ b = omega arith in
     sym (rw (two, one) (or_shifted (r * 64 + g) 5 b small_b ∙ omega (arith, small_r, small_g, small_b)))
 
@@ -39,7 +40,8 @@ lane c =
 pub packed : (c : Colour) → IsColour c → lane c ≡ pixel_of rgb565 c
 packed c fits =
     rw (five c.r fits.0, six c.g fits.1, five c.b fits.2)
-    (joined (rescaled 65535 31 c.r) (rescaled 65535 63 c.g) (rescaled 65535 31 c.b) (below_five c.r fits.0) (below_six c.g fits.1) (below_five c.b fits.2))
+    (joined (rescaled 65535 31 c.r) (rescaled 65535 63 c.g) (rescaled 65535 31 c.b) (below_five c.r fits.0)
+    (below_six c.g fits.1) (below_five c.b fits.2))
 
 -- a lane has sixteen bits
 pub below_pixel : (n : ℕ) → n % 65536 < 2 ^ 16

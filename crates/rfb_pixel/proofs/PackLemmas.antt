@@ -1,5 +1,6 @@
 -- Eight colours as pixels, in any format.
-use Rattle.std.proofs.Common.{◌≡◌, ◌∙◌, ℕ, ◌<◌, zero, suc, List, [], ◌∷◌, length, map, slice_index, slice_index_or, sym, refl, arith}
+use Rattle.std.proofs.Common.{◌≡◌, ◌∙◌, ℕ, ◌<◌, zero, suc, List, [], ◌∷◌, length, map, slice_index, slice_index_or, sym}
+use Rattle.std.proofs.Common.{refl, arith}
 use Rattle.std.proofs.lemmas.Grind.{same_number_lists}
 use Rattle.std.proofs.lemmas.List.{get_or-map, get_or_default, length-map, same_lists}
 use mir.Syntax.{w16}
@@ -28,10 +29,13 @@ eight_packed pixel row d long k below = get_or-map pixel row k d 0 (omega (arith
 -- a row of eight is its eight colours
 pub eight_read : (row : List Colour) (none : Colour) → length row ≡ 8 →
     slice_index_or row 0 none ∷ slice_index_or row 1 none ∷ slice_index_or row 2 none ∷ slice_index_or row 3 none
-    ∷ slice_index_or row 4 none ∷ slice_index_or row 5 none ∷ slice_index_or row 6 none ∷ slice_index_or row 7 none ∷ [] ≡ row
+    ∷ slice_index_or row 4 none ∷ slice_index_or row 5 none ∷ slice_index_or row 6 none ∷ slice_index_or row 7 none ∷ []
+    ≡ row
 eight_read row none long =
-    same_lists _ _ (sym long) (λ k d below. eight_below (λ k. slice_index_or (slice_index_or row 0 none ∷ slice_index_or row 1 none ∷ slice_index_or row 2 none ∷ slice_index_or row 3 none
-    ∷ slice_index_or row 4 none ∷ slice_index_or row 5 none ∷ slice_index_or row 6 none ∷ slice_index_or row 7 none ∷ []) k d ≡ slice_index_or row k d)
+    same_lists _ _ (sym long) (λ k d below. eight_below (λ k. slice_index_or (slice_index_or row 0 none
+    ∷ slice_index_or row 1 none ∷ slice_index_or row 2 none ∷ slice_index_or row 3 none
+    ∷ slice_index_or row 4 none ∷ slice_index_or row 5 none ∷ slice_index_or row 6 none ∷ slice_index_or row 7 none
+    ∷ []) k d ≡ slice_index_or row k d)
     (at 0 d (omega arith)) (at 1 d (omega arith)) (at 2 d (omega arith)) (at 3 d (omega arith))
     (at 4 d (omega arith)) (at 5 d (omega arith)) (at 6 d (omega arith)) (at 7 d (omega arith)) k below)
   where
@@ -39,9 +43,11 @@ eight_read row none long =
     at k d below = get_or_default row k none d (omega (arith, long, below))
 
 -- eight colours one by one, where a lane of each is its pixel
-pub eight_same : (lane pixel : Colour → ℕ) (a b c d e f g h : Colour) → lane a ≡ pixel a → lane b ≡ pixel b → lane c ≡ pixel c → lane d ≡ pixel d →
+pub eight_same : (lane pixel : Colour → ℕ) (a b c d e f g h : Colour) → lane a ≡ pixel a → lane b ≡ pixel b →
+    lane c ≡ pixel c → lane d ≡ pixel d →
     lane e ≡ pixel e → lane f ≡ pixel f → lane g ≡ pixel g → lane h ≡ pixel h →
-    lane a ∷ lane b ∷ lane c ∷ lane d ∷ lane e ∷ lane f ∷ lane g ∷ lane h ∷ [] ≡ map pixel (a ∷ b ∷ c ∷ d ∷ e ∷ f ∷ g ∷ h ∷ [])
+    lane a ∷ lane b ∷ lane c ∷ lane d ∷ lane e ∷ lane f ∷ lane g ∷ lane h ∷ []
+    ≡ map pixel (a ∷ b ∷ c ∷ d ∷ e ∷ f ∷ g ∷ h ∷ [])
 eight_same lane pixel a b c d e f g h is_a is_b is_c is_d is_e is_f is_g is_h =
     rw (is_a, is_b, is_c, is_d, is_e, is_f, is_g, is_h) refl
 
@@ -50,9 +56,11 @@ pub three_fit : (r g b : ℕ) → Fits w16 r → Fits w16 g → Fits w16 b → I
 three_fit r g b red green blue = (omega (arith, red.fits), omega (arith, green.fits), omega (arith, blue.fits))
 
 -- a row whose pixels are all packed
-pub packed_whole : (colours : List Colour) (pixels : List ℕ) (n : ℕ) → n ≡ length colours → length pixels ≡ length colours →
+pub packed_whole : (colours : List Colour) (pixels : List ℕ) (n : ℕ) → n ≡ length colours →
+    length pixels ≡ length colours →
     ArePacked rgb888 n colours pixels → pixels ≡ map (pixel_of rgb888) colours
 packed_whole colours pixels n all long packed =
     let none : Colour = record { r = 0; g = 0; b = 0 } in
     same_number_lists pixels (map (pixel_of rgb888) colours) (omega (arith, long, length-map colours (pixel_of rgb888)))
-    (λ k below. (packed k none (omega (arith, all, long, below))).0 ∙ sym (get_or-map (pixel_of rgb888) colours k none 0 (omega (arith, long, below))))
+    (λ k below. (packed k none (omega (arith, all, long, below))).0
+    ∙ sym (get_or-map (pixel_of rgb888) colours k none 0 (omega (arith, long, below))))

@@ -1,19 +1,24 @@
 -- Laws of the bytes of a format.
-use Rattle.std.proofs.Common.{◌≡◌, ℕ, ◌≤◌, ◌<◌, ◌+◌, ◌-◌, ◌^◌, ◌⊎◌, ◌&&◌, ◌++◌, inl, inr, subst, drop, get_or-drop, List, Bool, true, false, not, nat_le, ◌==◌, ◌||◌, Option, Some, None, if◌then◌else◌, slice_index, refl, sym, ◌∙◌, ap, arith, []}
+use Rattle.std.proofs.Common.{◌≡◌, ℕ, ◌≤◌, ◌<◌, ◌+◌, ◌-◌, ◌^◌, ◌⊎◌, ◌&&◌, ◌++◌, inl, inr, subst, drop, get_or-drop}
+use Rattle.std.proofs.Common.{List, Bool, true, false, not, nat_le, ◌==◌, ◌||◌, Option, Some, None, if◌then◌else◌}
+use Rattle.std.proofs.Common.{slice_index, refl, sym, ◌∙◌, ap, arith, []}
 use Rattle.byteorder.specs.Endian.{big_bytes, big_number}
 use Rattle.byteorder.specs.Numbers.{big_from-bytes}
 use Rattle.rfb_pixel.specs.declared.channel.Channel.{Channel}
 use Rattle.rfb_pixel.specs.declared.fault.FormatFault.{FormatFault}
-use Rattle.rfb_pixel.specs.declared.fault.FormatFault.TheVariants.{BadBits, DepthTooLarge, NotTrueColour, BadMax, ShiftTooLarge, FieldsOverlap}
+use Rattle.rfb_pixel.specs.declared.fault.FormatFault.TheVariants.{BadBits, DepthTooLarge, NotTrueColour, BadMax}
+use Rattle.rfb_pixel.specs.declared.fault.FormatFault.TheVariants.{ShiftTooLarge, FieldsOverlap}
 use Rattle.std.proofs.lemmas.Bool.Decides.{nat_tests}
 use Rattle.std.proofs.Math.Nat.{mod-eq_of_lt}
 use Rattle.std.proofs.Math.Pow.{pow_mono}
 use Rattle.std.proofs.lemmas.Nat.{pow_below, pow_pos}
 use Rattle.std.proofs.lemmas.Bool.{cases_lt, eqb-true, leb-true, le-leb}
-use Rattle.rfb_pixel.specs.Channel.{IsField, IsMax, IsMaxOf, EndsWithin, max_of, is_max, width_of, is_apart, is_within, are_within, are_apart}
+use Rattle.rfb_pixel.specs.Channel.{IsField, IsMax, IsMaxOf, EndsWithin, max_of, is_max, width_of, is_apart, is_within}
+use Rattle.rfb_pixel.specs.Channel.{are_within, are_apart}
 use Rattle.rfb_pixel.specs.inside.Fields.{HasWidth}
 use Rattle.rfb_pixel.specs.Format.{PixelFormat, IsApart, IsFormat}
-use Rattle.rfb_pixel.specs.Reading.{AreBytes, Spells, number_at, field_at, red_at, green_at, blue_at, first_fault, fault_of_fields, Passes, IsFirstFault, format_bytes}
+use Rattle.rfb_pixel.specs.Reading.{AreBytes, Spells, number_at, field_at, red_at, green_at, blue_at, first_fault}
+use Rattle.rfb_pixel.specs.Reading.{fault_of_fields, Passes, IsFirstFault, format_bytes}
 use Rattle.rfb_pixel.proofs.ChannelLemmas.{ones_of_max, same_width, apart-passes, max-passes}
 
 -- fields of one maximum and one shift are one

@@ -46,4 +46,5 @@ shown bytes k fit =
     let none : k + 0 ≡ k = omega arith in
     let first : get_or (drop k bytes) 0 0 ≡ p = get_or-drop k bytes 0 0 ∙ ap (λ i. get_or bytes i 0) none in
     let is : pixel_number bgr233 (drop (k * 1) bytes) ≡ p = rw one (omega (arith, first)) in
-    same_colour _ (colour_of bgr233 p) (red_in p fit.fits) (green_in p fit.fits) (blue_in p fit.fits) ∙ ap (colour_of bgr233) (sym is)
+    same_colour _ (colour_of bgr233 p) (red_in p fit.fits) (green_in p fit.fits) (blue_in p fit.fits)
+    ∙ ap (colour_of bgr233) (sym is)

@@ -1,5 +1,6 @@
 -- Eight pixels of rgb565 as colours.
-use Rattle.std.proofs.Common.{◌≡◌, ◌∙◌, ℕ, ◌+◌, ◌-◌, ◌^◌, ◌*◌, ◌/◌, ◌%◌, ◌<◌, zero, suc, List, drop, take, length, ap, refl, arith, length-drop}
+use Rattle.std.proofs.Common.{◌≡◌, ◌∙◌, ℕ, ◌+◌, ◌-◌, ◌^◌, ◌*◌, ◌/◌, ◌%◌, ◌<◌, zero, suc, List, drop, take, length, ap}
+use Rattle.std.proofs.Common.{refl, arith, length-drop}
 use Rattle.std.specs.Prelude.{bit_and}
 use Rattle.std.proofs.lemmas.Nat.{and_mask}
 use Rattle.std.proofs.lemmas.Simd.{below_from_Fits, chunk-fits, get_or_wider}
@@ -18,7 +19,8 @@ use Rattle.rfb_pixel.proofs.UnpackLemmas.{two}
 pub numbers : (bytes : List ℕ) → length bytes ≡ 16 → ((i : ℕ) → Fits w8 (get_or bytes i 0)) → (k : ℕ) → k < 8 →
     get_or (digits_l 65536 8 (number_l 256 (take 16 bytes))) k 0 ≡ little_number 2 (drop (2 * k) bytes)
 numbers bytes long fit k below =
-    get_or_wider 256 2 65536 8 (take 16 bytes) k refl (below_from_Fits w8 (take 16 bytes) (chunk-fits w8 0 16 bytes fit)) below
+    get_or_wider 256 2 65536 8 (take 16 bytes) k refl
+    (below_from_Fits w8 (take 16 bytes) (chunk-fits w8 0 16 bytes fit)) below
     ∙ ap (λ l. number_l 256 (take 2 (drop (2 * k) l))) (take_all 16 bytes (omega (arith, long)))
     ∙ two (drop (2 * k) bytes) (omega (arith, length-drop (2 * k) bytes))
 
@@ -50,7 +52,8 @@ lower_five v small = omega (arith, small)
 
 red_in : (p : ℕ) → p < 65536 → component 1 0 2114 (field 65535 2047 p) ≡ rescaled 31 65535 (p / 2048 % 32)
 red_in p fits =
-    let is : field 65535 2047 p ≡ p / 2048 % 32 * 2048 = rw (and_mask p 16, and_mask (p % 2 ^ 16) 11) (omega (arith, fits)) in
+    let is : field 65535 2047 p ≡ p / 2048 % 32 * 2048 =
+    rw (and_mask p 16, and_mask (p % 2 ^ 16) 11) (omega (arith, fits)) in
     ap (component 1 0 2114) is ∙ upper_five (p / 2048 % 32) (omega arith)
 
 green_in : (p : ℕ) → p < 65536 → component 32 1 33255 (field 2047 31 p) ≡ rescaled 63 65535 (p / 32 % 64)
@@ -65,5 +68,7 @@ blue_in p fits =
 
 -- three lanes of a pixel are its colour
 pub shown : (p q : ℕ) → p < 65536 → p ≡ q →
-    of_three (component 1 0 2114 (field 65535 2047 p)) (component 32 1 33255 (field 2047 31 p)) (component 2114 0 4096 (field 31 0 p)) ≡ colour_of rgb565 q
-shown p q fits is = same_colour _ (colour_of rgb565 p) (red_in p fits) (green_in p fits) (blue_in p fits) ∙ ap (colour_of rgb565) is
+    of_three (component 1 0 2114 (field 65535 2047 p)) (component 32 1 33255 (field 2047 31 p))
+    (component 2114 0 4096 (field 31 0 p)) ≡ colour_of rgb565 q
+shown p q fits is =
+    same_colour _ (colour_of rgb565 p) (red_in p fits) (green_in p fits) (blue_in p fits) ∙ ap (colour_of rgb565) is

@@ -1,10 +1,12 @@
 -- Pixel formats, RFC 6143 section 7.4: what contracts see of a `Format`, and what a pixel means.
-use Rattle.std.specs.Prelude.{◌≡◌, ℕ, ◌*◌, ◌/◌, ◌^◌, ◌<◌, ◌≤◌, ◌==◌, ◌||◌, Bool, false, List, length, drop, slice_index, slice_index_or, bit_or, IsTrue, if◌then◌else◌}
+use Rattle.std.specs.Prelude.{◌≡◌, ℕ, ◌*◌, ◌/◌, ◌^◌, ◌<◌, ◌≤◌, ◌==◌, ◌||◌, Bool, false, List, length, drop, slice_index}
+use Rattle.std.specs.Prelude.{slice_index_or, bit_or, IsTrue, if◌then◌else◌}
 use Rattle.byteorder.specs.Endian.{big_bytes, big_number, little_bytes, little_number}
 use Rattle.rfb_pixel.specs.declared.colour.Colour.{Colour}
 use Rattle.rfb_pixel.specs.declared.channel.Channel.{Channel}
 use Rattle.rfb_pixel.specs.declared.colour.TheConstants.{COMPONENT_MAX}
-use Rattle.rfb_pixel.specs.Channel.{max_of, IsField, IsInField, AgreeInField, held_in, field_for, field_for_byte, component_in, seen_in_byte}
+use Rattle.rfb_pixel.specs.Channel.{max_of, IsField, IsInField, AgreeInField, held_in, field_for, field_for_byte}
+use Rattle.rfb_pixel.specs.Channel.{component_in, seen_in_byte}
 
 -- the fields of a PIXEL_FORMAT whose true-colour-flag is set
 pub record PixelFormat : Type 0 where

@@ -1,10 +1,12 @@
 -- PIXEL_FORMAT, RFC 6143 section 7.4: the bytes that spell a format, and
 -- the fault that others show.
-use Rattle.std.specs.Prelude.{◌≡◌, ◌≢◌, ℕ, List, [], ◌∷◌, ◌++◌, not, ◌==◌, ◌||◌, ◌&&◌, nat_le, if◌then◌else◌, length, drop, slice_index, Option, Some, None, ◌<◌, ◌≤◌, ⊤}
+use Rattle.std.specs.Prelude.{◌≡◌, ◌≢◌, ℕ, List, [], ◌∷◌, ◌++◌, not, ◌==◌, ◌||◌, ◌&&◌, nat_le, if◌then◌else◌, length}
+use Rattle.std.specs.Prelude.{drop, slice_index, Option, Some, None, ◌<◌, ◌≤◌, ⊤}
 use Rattle.byteorder.specs.Endian.{big_bytes, big_number}
 use Rattle.rfb_pixel.specs.declared.channel.Channel.{Channel}
 use Rattle.rfb_pixel.specs.declared.fault.FormatFault.{FormatFault}
-use Rattle.rfb_pixel.specs.declared.fault.FormatFault.TheVariants.{BadBits, DepthTooLarge, NotTrueColour, BadMax, ShiftTooLarge, FieldsOverlap}
+use Rattle.rfb_pixel.specs.declared.fault.FormatFault.TheVariants.{BadBits, DepthTooLarge, NotTrueColour, BadMax}
+use Rattle.rfb_pixel.specs.declared.fault.FormatFault.TheVariants.{ShiftTooLarge, FieldsOverlap}
 use Rattle.rfb_pixel.specs.Channel.{IsMax, EndsWithin, max_of, width_of, is_max, are_within, are_apart}
 use Rattle.rfb_pixel.specs.Format.{PixelFormat, IsPixelSize, IsApart}
 

@@ -1,6 +1,7 @@
 //! True-colour pixel formats, RFC 6143 section 7.4.
 
-ghost use Rattle.std.specs.Prelude.{◌≡◌, ℕ, ◌*◌, ◌+◌, ◌%◌, ◌^◌, ◌<◌, length, IfOk, ◌≤◌, List, ◌∷◌, []};
+ghost use Rattle.std.specs.Prelude.{◌≡◌, ℕ, ◌*◌, ◌+◌, ◌%◌, ◌^◌, ◌<◌, length, IfOk, ◌≤◌, List, ◌∷◌};
+ghost use Rattle.std.specs.Prelude.{[]};
 ghost use Rattle.std.specs.Result.{result_err};
 ghost use Rattle.std.specs.Int.{bit_at};
 ghost use Rattle.rfb_pixel.specs.Format.{pixel_format, IsPixelSize, size_of, pixel_of, colour_of};
@@ -171,15 +172,15 @@ impl Format {
         ensures { (f : PixelFormat) → IsFormat f → Spells f (format_bytes f) }
     {}
 
-    /// A law about `pack` and `unpack`, with nothing to run: each field of a pixel value is what its
-    /// colour is packed to again.
+    /// A law about `pack` and `unpack`, with nothing to run: each field of a pixel value is what
+    /// its colour is packed to again.
     pub fn fields_come_back_through_their_colour()
         ensures { (f : PixelFormat) (p : ℕ) → IsFormat f →
             FieldsKept f p (pixel_of f (colour_of f p)) }
     {}
 
-    /// A law about `pack`, with nothing to run. A colour of components of eight bits, each 257 times
-    /// as much, has the pixel value of these bytes: each rounded into its field, out of 255.
+    /// A law about `pack`, with nothing to run. A colour of components of eight bits, each 257
+    /// times as much, has the pixel value of these bytes: each rounded into its field, out of 255.
     pub fn components_of_a_byte_keep_their_pixel()
         ensures { (f : PixelFormat) (r g b : ℕ) →
             pixel_of f (colour_of_bytes r g b) ≡ pixel_of_bytes f r g b }

@@ -1,6 +1,7 @@
 //! Where two rows of pixel values differ.
 
-ghost use Rattle.std.specs.Prelude.{◌≡◌, ◌≢◌, ℕ, ◌<◌, ◌≤◌, ◌+◌, ◌^◌, ◌==◌, ◌↔◌, not, nat_eq, drop, take, length, slice_index, IfSome, IsNone};
+ghost use Rattle.std.specs.Prelude.{◌≡◌, ◌≢◌, ℕ, ◌<◌, ◌≤◌, ◌+◌, ◌^◌, ◌==◌, ◌↔◌, not, nat_eq, drop};
+ghost use Rattle.std.specs.Prelude.{take, length, slice_index, IfSome, IsNone};
 ghost use Rattle.std.specs.Bool.{OnTrue};
 ghost use Rattle.std.specs.Int.{bit_at};
 ghost use Rattle.rfb_pixel.specs.Rows.{IsFirstDiff, IsLastDiff, equal_places, TellsDifferences};

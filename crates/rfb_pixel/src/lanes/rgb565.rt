@@ -1,6 +1,7 @@
 //! Eight pixels of rgb565 at once.
 
-ghost use Rattle.std.specs.Prelude.{◌≡◌, ◌*◌, ◌^◌, ◌<◌, ℕ, drop, length, map, slice_index, slice_index_or};
+ghost use Rattle.std.specs.Prelude.{◌≡◌, ◌*◌, ◌^◌, ◌<◌, ℕ, drop, length, map, slice_index};
+ghost use Rattle.std.specs.Prelude.{slice_index_or};
 ghost use Rattle.byteorder.specs.Endian.{little_number};
 ghost use Rattle.rfb_pixel.specs.declared.colour.Colour.{Colour};
 ghost use Rattle.rfb_pixel.specs.Format.{AreColours, pixel_of, rgb565};
@@ -10,8 +11,8 @@ use crate::colour::Colour;
 use crate::lanes::{read_eight, write_eight};
 use std::simd::{u8x16, u16x8, u32x8};
 
-// What a component is multiplied by to be, in 65,536ths, a field of five or of six bits in the upper
-// bits of a lane.
+// What a component is multiplied by to be, in 65,536ths, a field of five or of six bits in the
+// upper bits of a lane.
 const FIVE: u32 = 63_489;
 
 const SIX: u32 = 64_513;

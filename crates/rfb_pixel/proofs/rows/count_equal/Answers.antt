@@ -10,7 +10,12 @@ loop-at-preserved c =
     let l = c.loop-at in
     record {
       within = omega arith;
-      counted = omega (arith, l.invariant.counted, c.count_same-count.ensures.value, equal_split l.at 16 c.args.a.now c.args.b.now (omega arith) (omega arith));
+      counted = omega (
+        arith,
+        l.invariant.counted,
+        c.count_same-count.ensures.value,
+        equal_split l.at 16 c.args.a.now c.args.b.now (omega arith) (omega arith),
+      );
       few = omega (arith, l.invariant.few, c.count_same-count.ensures.bound);
     }
 

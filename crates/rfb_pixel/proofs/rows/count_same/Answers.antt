@@ -9,4 +9,8 @@ returns-clause-value c = equal_chunks c.args.a.now c.args.b.now c.args.at c.requ
 pub returns-clause-bound : goal.returns-clause-bound
 returns-clause-bound c =
     rw (equal_chunks c.args.a.now c.args.b.now c.args.at c.requires.left c.requires.right)
-    (omega (arith, length-chunk c.args.at 16 c.args.a.now c.requires.left, equal-le (lib.Lanes.chunk c.args.at 16 c.args.a.now) (lib.Lanes.chunk c.args.at 16 c.args.b.now)))
+    (omega (
+      arith,
+      length-chunk c.args.at 16 c.args.a.now c.requires.left,
+      equal-le (lib.Lanes.chunk c.args.at 16 c.args.a.now) (lib.Lanes.chunk c.args.at 16 c.args.b.now),
+    ))

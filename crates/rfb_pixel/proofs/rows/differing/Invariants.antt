@@ -6,11 +6,13 @@ use Rattle.rfb_pixel.proofs.rows.differing.Given as goal
 abbrev pub invariant-loop-at : goal.invariant-loop-at
 invariant-loop-at l = record {
   within : l.at ≤ length l.a;
-  told : (i : ℕ) → i < 64 → nat_eq (bit_at l.bits i) 1 ≡ (nat_lt i l.at && not (slice_index l.a i == slice_index l.b i));
+  told : (i : ℕ) → i < 64 →
+      nat_eq (bit_at l.bits i) 1 ≡ (nat_lt i l.at && not (slice_index l.a i == slice_index l.b i));
 }
 
 abbrev pub decreases-loop-at : goal.decreases-loop-at
 decreases-loop-at l = length l.a - l.at
 
 abbrev pub invariant-loop-place : goal.invariant-loop-place
-invariant-loop-place l = (i : ℕ) → i < 64 → nat_eq (bit_at l.bits i) 1 ≡ (nat_lt i l.place && not (slice_index l.a i == slice_index l.b i))
+invariant-loop-place l =
+    (i : ℕ) → i < 64 → nat_eq (bit_at l.bits i) 1 ≡ (nat_lt i l.place && not (slice_index l.a i == slice_index l.b i))

@@ -2,7 +2,8 @@ use Rattle.std.proofs.Common.{ℕ, ap, slice_index, sym, ◌∙◌, arith, Some}
 use Rattle.std.specs.Result.{result_err}
 use Rattle.std.proofs.lemmas.Result.{err_from_is_err_and}
 use Rattle.std.proofs.lemmas.Bool.Decides.{nat_tests}
-use Rattle.rfb_pixel.proofs.FieldsReadLemmas.{after_maxima, field_read, head_passes, red_refused, green_refused, blue_refused}
+use Rattle.rfb_pixel.proofs.FieldsReadLemmas.{after_maxima, field_read, head_passes, red_refused, green_refused}
+use Rattle.rfb_pixel.proofs.FieldsReadLemmas.{blue_refused}
 use Rattle.rfb_pixel.proofs.format.Format.read.Goals as goal
 
 pub returns-in_err-red-clause-fault : goal.returns-in_err-red-clause-fault

@@ -17,10 +17,12 @@ returns-clause-packed c = λ k d below.
           (same ∙ front.0, omega (arith, same, front.1))
       | inr high ↦
           let place : at + (k - at) ≡ k = omega (arith, high) in
-          let lane = ap (λ i. slice_index (lib.Lanes.put_chunk at row lanes) i) (sym place) ∙ get_or-put_chunk_at at row lanes (k - at) 0 (omega (arith, eight)) (omega (arith, eight)) in (
+          let lane = ap (λ i. slice_index (lib.Lanes.put_chunk at row lanes) i) (sym place)
+          ∙ get_or-put_chunk_at at row lanes (k - at) 0 (omega (arith, eight)) (omega (arith, eight)) in (
             lane
                 ∙ c.pack_eight_rgb888.ensures.value (k - at) d (omega arith)
-                ∙ ap (pixel_of rgb888) (get_or-chunk at (at + 8 - at) c.args.colours.now (k - at) d (omega arith) ∙ ap (λ i. slice_index_or c.args.colours.now i d) place),
+                ∙ ap (pixel_of rgb888) (get_or-chunk at (at + 8 - at) c.args.colours.now (k - at) d (omega arith)
+                ∙ ap (λ i. slice_index_or c.args.colours.now i d) place),
             omega (arith, lane, c.pack_eight_rgb888.ensures.bound (k - at) (omega arith)),
           )
     ]

@@ -24,13 +24,15 @@ loop-at-preserved c =
             ap (λ i. slice_index (lib.Lanes.put_chunk at row lanes) i) (sym place)
             ∙ get_or-put_chunk_at at row lanes (k - at) 0 (omega (arith, eight)) (omega (arith, eight))
             ∙ c.pack_eight_rgb565.ensures.value (k - at) d (omega arith)
-            ∙ ap (pixel_of rgb565) (get_or-chunk at (at + 8 - at) c.args.colours.now (k - at) d (omega arith) ∙ ap (λ i. slice_index_or c.args.colours.now i d) place)
+            ∙ ap (pixel_of rgb565) (get_or-chunk at (at + 8 - at) c.args.colours.now (k - at) d (omega arith)
+            ∙ ap (λ i. slice_index_or c.args.colours.now i d) place)
       ];
       bound = λ k below. elim (cases_lt k at) [
         | inl low ↦ omega (arith, get_or-put_chunk_below at row lanes k 0 low, c.loop-at.invariant.bound k low)
         | inr high ↦
             let place : at + (k - at) ≡ k = omega (arith, high) in
-            let lane = ap (λ i. slice_index (lib.Lanes.put_chunk at row lanes) i) (sym place) ∙ get_or-put_chunk_at at row lanes (k - at) 0 (omega (arith, eight)) (omega (arith, eight)) in
+            let lane = ap (λ i. slice_index (lib.Lanes.put_chunk at row lanes) i) (sym place)
+            ∙ get_or-put_chunk_at at row lanes (k - at) 0 (omega (arith, eight)) (omega (arith, eight)) in
             omega (arith, lane, c.pack_eight_rgb565.ensures.bound (k - at) (omega arith))
       ];
     }
@@ -54,9 +56,11 @@ returns-clause-value c =
       | inr high ↦
           let place : last + (k - last) ≡ k = omega (arith, high) in
           ap (λ i. slice_index (lib.Lanes.put_chunk last row lanes) i) (sym place)
-          ∙ get_or-put_chunk_at last row lanes (k - last) 0 (omega (arith, eight, long, below)) (omega (arith, eight, long, below))
+          ∙ get_or-put_chunk_at last row lanes (k - last) 0 (omega (arith, eight, long, below))
+          (omega (arith, eight, long, below))
           ∙ c.pack_eight_rgb565-2.ensures.value (k - last) none (omega (arith, long, below))
-          ∙ ap (pixel_of rgb565) (get_or-chunk last (length colours - last) colours (k - last) none (omega (arith, long, below)) ∙ ap (λ i. slice_index_or colours i none) place)
+          ∙ ap (pixel_of rgb565) (get_or-chunk last (length colours - last) colours (k - last) none
+          (omega (arith, long, below)) ∙ ap (λ i. slice_index_or colours i none) place)
           ∙ sym (get_or-map (pixel_of rgb565) colours k none 0 (omega (arith, long, below)))
     ])
 
@@ -68,9 +72,11 @@ returns-clause-bound c = λ k below.
     let eight = c.pack_eight_rgb565-2.ensures.len in
     let long = length-put_chunk last row lanes in
     elim (cases_lt k last) [
-      | inl low ↦ omega (arith, get_or-put_chunk_below last row lanes k 0 low, c.loop-at.invariant.bound k (omega arith))
+      | inl low ↦
+          omega (arith, get_or-put_chunk_below last row lanes k 0 low, c.loop-at.invariant.bound k (omega arith))
       | inr high ↦
           let place : last + (k - last) ≡ k = omega (arith, high) in
-          let lane = ap (λ i. slice_index (lib.Lanes.put_chunk last row lanes) i) (sym place) ∙ get_or-put_chunk_at last row lanes (k - last) 0 (omega (arith, eight, long, below)) (omega (arith, eight, long, below)) in
+          let lane = ap (λ i. slice_index (lib.Lanes.put_chunk last row lanes) i) (sym place) ∙ get_or-put_chunk_at last
+          row lanes (k - last) 0 (omega (arith, eight, long, below)) (omega (arith, eight, long, below)) in
           omega (arith, lane, c.pack_eight_rgb565-2.ensures.bound (k - last) (omega (arith, long, below)))
     ]

@@ -6,7 +6,9 @@ pub pack_sixteen_at-requires-2-clause-front : goal.pack_sixteen_at-requires-2-cl
 pack_sixteen_at-requires-2-clause-front c = λ k d below. c.loop-at.invariant.packed k d (omega arith)
 
 pub returns-then-colours-clause-value : goal.returns-then-colours-clause-value
-returns-then-colours-clause-value c = packed_whole c.args.colours.now _ _ (omega arith) (omega arith) c.pack_eight_at-then-colours.ensures.packed
+returns-then-colours-clause-value c =
+    packed_whole c.args.colours.now _ _ (omega arith) (omega arith) c.pack_eight_at-then-colours.ensures.packed
 
 pub returns-clause-value : goal.returns-clause-value
-returns-clause-value c = packed_whole c.args.colours.now _ _ (omega arith) (omega arith) c.pack_sixteen_at-2.ensures.packed
+returns-clause-value c =
+    packed_whole c.args.colours.now _ _ (omega arith) (omega arith) c.pack_sixteen_at-2.ensures.packed

@@ -5,4 +5,5 @@ use Rattle.rfb_pixel.proofs.format.rows.unpack_each.Given as goal
 
 abbrev pub invariant-loop-k : goal.invariant-loop-k
 invariant-loop-k l =
-    (k : ℕ) (d : Colour) → k < l.k → slice_index_or l.colours k d ≡ colour_of l.format (pixel_number l.format (drop (k * size_of l.format) l.bytes))
+    (k : ℕ) (d : Colour) → k < l.k →
+    slice_index_or l.colours k d ≡ colour_of l.format (pixel_number l.format (drop (k * size_of l.format) l.bytes))

@@ -8,7 +8,8 @@ invariant-loop-at l = record {
   within : l.at ≤ length l.colours;
   last : l.last + 8 ≡ length l.colours;
   len : length l.colours ≡ length l.fn.colours;
-  shown : (k : ℕ) (d : Colour) → k < l.at → slice_index_or l.colours k d ≡ colour_of rgb565 (pixel_number rgb565 (drop (k * 2) l.bytes));
+  shown : (k : ℕ) (d : Colour) → k < l.at →
+      slice_index_or l.colours k d ≡ colour_of rgb565 (pixel_number rgb565 (drop (k * 2) l.bytes));
 }
 
 abbrev pub decreases-loop-at : goal.decreases-loop-at

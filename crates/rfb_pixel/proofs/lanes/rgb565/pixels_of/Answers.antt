@@ -20,4 +20,5 @@ returns-clause-value c =
 
 pub returns-clause-bound : goal.returns-clause-bound
 returns-clause-bound c =
-    eight_below _ (below_pixel _) (below_pixel _) (below_pixel _) (below_pixel _) (below_pixel _) (below_pixel _) (below_pixel _) (below_pixel _)
+    eight_below _ (below_pixel _) (below_pixel _) (below_pixel _) (below_pixel _) (below_pixel _) (below_pixel _)
+    (below_pixel _) (below_pixel _)
