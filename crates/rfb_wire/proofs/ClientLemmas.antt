@@ -1,10 +1,12 @@
 -- Heads of client messages: one for bytes of the right size, and no other for the same bytes.
-use Rattle.std.proofs.Common.{◌≡◌, ℕ, List, [], length, slice_index, drop, Some, inl, inr, refl, arith, ◌<◌, ◌++◌, sym, ap, ◌∙◌, length-append}
+use Rattle.std.proofs.Common.{◌≡◌, ℕ, List, [], length, slice_index, drop, Some, inl, inr, refl, arith, ◌<◌, ◌++◌, sym}
+use Rattle.std.proofs.Common.{ap, ◌∙◌, length-append}
 use Rattle.std.proofs.lemmas.List.{append-nil, get_or_append_left, nil_from_length}
 use Rattle.std.proofs.lemmas.Bool.{cases_eq}
 use Rattle.std.proofs.lemmas.Bool.Decides.{nat_tests}
 use Rattle.rfb_wire.specs.declared.client_head.ClientHead.{ClientHead}
-use Rattle.rfb_wire.specs.declared.client_head.ClientHead.TheVariants.{SetPixelFormat, SetEncodings, Request, Key, Pointer, CutText}
+use Rattle.rfb_wire.specs.declared.client_head.ClientHead.TheVariants.{SetPixelFormat, SetEncodings, Request, Key}
+use Rattle.rfb_wire.specs.declared.client_head.ClientHead.TheVariants.{Pointer, CutText}
 use Rattle.rfb_wire.specs.Fields.{u8_at, u16_at, u32_at, flag_at}
 use Rattle.rfb_wire.specs.ClientHead.{SpellsClientHead, client_head_size}
 use Rattle.rfb_wire.specs.ClientStream.{client_head_of}

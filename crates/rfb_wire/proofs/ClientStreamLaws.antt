@@ -1,6 +1,8 @@
 -- The reading of client messages is what RFC 6143 section 7.5 says of their
 -- bytes, in both directions.
-use Rattle.std.proofs.Common.{◌≡◌, ℕ, ℤ, ◌+◌, ◌-◌, ◌*◌, ◌^◌, ◌<◌, inl, inr, Bool, true, false, not, nat_le, ◌==◌, ◌||◌, ◌&&◌, if◌then◌else◌, List, [], ◌∷◌, ◌++◌, Option, Some, None, length, slice_index, refl, sym, subst, ◌∙◌, ap, append-nil, length-append, length-drop, arith}
+use Rattle.std.proofs.Common.{◌≡◌, ℕ, ℤ, ◌+◌, ◌-◌, ◌*◌, ◌^◌, ◌<◌, inl, inr, Bool, true, false, not, nat_le, ◌==◌, ◌||◌}
+use Rattle.std.proofs.Common.{◌&&◌, if◌then◌else◌, List, [], ◌∷◌, ◌++◌, Option, Some, None, length, slice_index, refl}
+use Rattle.std.proofs.Common.{sym, subst, ◌∙◌, ap, append-nil, length-append, length-drop, arith}
 use Rattle.std.proofs.lemmas.Bool.Decides.{nat_tests}
 use Rattle.rfb_pixel.specs.declared.fault.FormatFault.{FormatFault}
 use Rattle.rfb_pixel.specs.declared.fault.FormatFault.TheVariants.{BadBits, DepthTooLarge, NotTrueColour, BadMax}
@@ -9,17 +11,24 @@ use Rattle.rfb_pixel.specs.Format.{PixelFormat}
 use Rattle.rfb_pixel.specs.Reading.{Spells, number_at, red_at, green_at, blue_at, first_fault, fault_of_fields}
 use Rattle.rfb_pixel.proofs.ReadingLaws.{spells-same}
 use Rattle.rfb_wire.specs.declared.client_head.ClientHead.{ClientHead}
-use Rattle.rfb_wire.specs.declared.client_head.ClientHead.TheVariants.{SetPixelFormat as FormatHead, SetEncodings as EncodingsHead, Request, Key, Pointer, CutText}
+use Rattle.rfb_wire.specs.declared.client_head.ClientHead.TheVariants.{SetPixelFormat as FormatHead}
+use Rattle.rfb_wire.specs.declared.client_head.ClientHead.TheVariants.{SetEncodings as EncodingsHead, Request, Key}
+use Rattle.rfb_wire.specs.declared.client_head.ClientHead.TheVariants.{Pointer, CutText}
 use Rattle.rfb_wire.specs.Fields.{s32_at}
 use Rattle.rfb_wire.specs.ClientHead.{SpellsClientHead, client_head_size}
 use Rattle.rfb_wire.specs.stream.Reading.{Says, Reads, Same, Listed}
 use Rattle.rfb_wire.specs.stream.Parts.{piece, done, and_then, valued, many, headed}
 use Rattle.rfb_wire.specs.stream.Grammar.{IsSpelled}
-use Rattle.rfb_wire.specs.ClientMessage.{ClientMessage, SetPixelFormat, SetEncodings, FramebufferUpdateRequest, KeyEvent, PointerEvent, ClientCutText, ClientFault, BadFormat, UnknownType, SpellsNumber, SpellsClientMessage, FaultsClientMessage, client_says, client_message_size}
-use Rattle.rfb_wire.specs.ClientStream.{client_head_of, format_of, format_fault, client_body, client_message, client_stream}
+use Rattle.rfb_wire.specs.ClientMessage.{ClientMessage, SetPixelFormat, SetEncodings, FramebufferUpdateRequest}
+use Rattle.rfb_wire.specs.ClientMessage.{KeyEvent, PointerEvent, ClientCutText, ClientFault, BadFormat, UnknownType}
+use Rattle.rfb_wire.specs.ClientMessage.{SpellsNumber, SpellsClientMessage, FaultsClientMessage, client_says}
+use Rattle.rfb_wire.specs.ClientMessage.{client_message_size}
+use Rattle.rfb_wire.specs.ClientStream.{client_head_of, format_of, format_fault, client_body, client_message}
+use Rattle.rfb_wire.specs.ClientStream.{client_stream}
 use Rattle.rfb_wire.proofs.stream_laws.HeadLemmas.{begins_some}
 use Rattle.rfb_wire.proofs.ClientLemmas.{client-sizes, client-spelled}
-use Rattle.rfb_wire.proofs.stream_laws.PartLaws.{alone, piece_says, done_says, judged_says, then_says, piece_reads, done_reads, judged_reads, then_reads, same_reads}
+use Rattle.rfb_wire.proofs.stream_laws.PartLaws.{alone, piece_says, done_says, judged_says, then_says, piece_reads}
+use Rattle.rfb_wire.proofs.stream_laws.PartLaws.{done_reads, judged_reads, then_reads, same_reads}
 use Rattle.rfb_wire.proofs.stream_laws.RepeatLaws.{valued_says, many_says, valued_reads, many_reads}
 use Rattle.rfb_wire.proofs.stream_laws.HeadedLaws.{IsHeaded, headed_says, headed_reads}
 

@@ -6,9 +6,11 @@ use lib.Count.{ones}
 use Rattle.rfb_pixel.specs.declared.fault.FormatFault.TheVariants.{NotTrueColour}
 use Rattle.rfb_pixel.specs.Format.{rgb888}
 use Rattle.rfb_wire.specs.stream.Reading.{More, Got, Bad}
-use Rattle.rfb_wire.specs.ClientMessage.{SetPixelFormat, SetEncodings, FramebufferUpdateRequest, KeyEvent, PointerEvent, ClientCutText, BadFormat, UnknownType}
+use Rattle.rfb_wire.specs.ClientMessage.{SetPixelFormat, SetEncodings, FramebufferUpdateRequest, KeyEvent, PointerEvent}
+use Rattle.rfb_wire.specs.ClientMessage.{ClientCutText, BadFormat, UnknownType}
 use Rattle.rfb_wire.specs.ClientStream.{client_message}
-use Rattle.rfb_wire.specs.ServerMessage.{FramebufferUpdate, SetColorMapEntries, Bell, ServerCutText, UnknownType as UnknownServerType, server_message}
+use Rattle.rfb_wire.specs.ServerMessage.{FramebufferUpdate, SetColorMapEntries, Bell, ServerCutText}
+use Rattle.rfb_wire.specs.ServerMessage.{UnknownType as UnknownServerType, server_message}
 
 -- SetPixelFormat of 32 bits a pixel, with a byte of the next message after it
 set_pixel_format : client_message

@@ -11,7 +11,8 @@ use Rattle.rfb_wire.specs.ServerMessage.{MapColour, SpellsMapColour}
 use Rattle.rfb_wire.specs.Pending.{client_piece_size, client_pending, server_piece_size, server_pending}
 use Rattle.rfb_wire.proofs.ClientLemmas.{client-spelled}
 use Rattle.rfb_wire.proofs.ServerLemmas.{server-spelled}
-use Rattle.rfb_wire.proofs.stream_laws.PendingLaws.{pieces_pending, bytes_pending, head_pending, past_head, message_below}
+use Rattle.rfb_wire.proofs.stream_laws.PendingLaws.{pieces_pending, bytes_pending, head_pending, past_head}
+use Rattle.rfb_wire.proofs.stream_laws.PendingLaws.{message_below}
 
 -- ---- from client to server
 

@@ -1,6 +1,7 @@
 -- The reading of a rectangle's head is what RFC 6143 section 7.6.1 says of its
 -- bytes, in both directions.
-use Rattle.std.proofs.Common.{◌≡◌, ℕ, zero, suc, ℤ, negsuc, ◌+◌, ◌&&◌, nat_le, Bool, true, false, List, Option, Some, None, length, take, refl, sym, subst, ◌∙◌, ap, arith}
+use Rattle.std.proofs.Common.{◌≡◌, ℕ, zero, suc, ℤ, negsuc, ◌+◌, ◌&&◌, nat_le, Bool, true, false, List, Option, Some}
+use Rattle.std.proofs.Common.{None, length, take, refl, sym, subst, ◌∙◌, ap, arith}
 use Rattle.std.specs.Prelude.{pos}
 use Rattle.std.proofs.lemmas.Bool.Decides.{nat_tests}
 use Rattle.std.proofs.lemmas.List.{take_all}
@@ -14,7 +15,8 @@ use Rattle.rfb_wire.specs.Fields.{s32_at}
 use Rattle.rfb_wire.specs.Encoding.{number_of, IsNoEncoding}
 use Rattle.rfb_wire.specs.stream.Reading.{Reads, Same}
 use Rattle.rfb_wire.specs.RectHead.{SpellsRectHead, IsOnScreen, IsRectFault}
-use Rattle.rfb_wire.specs.RectStream.{rect_head_says, encoding_numbered, encoding_of, rect_of, is_on_screen, head_fault, or_raw, rect_head_of, rect_head}
+use Rattle.rfb_wire.specs.RectStream.{rect_head_says, encoding_numbered, encoding_of, rect_of, is_on_screen, head_fault}
+use Rattle.rfb_wire.specs.RectStream.{or_raw, rect_head_of, rect_head}
 use Rattle.rfb_wire.proofs.stream_laws.PartLaws.{same_reads}
 use Rattle.rfb_wire.proofs.stream_laws.RepeatLaws.{checked_says, checked_reads}
 

@@ -1,16 +1,21 @@
 -- The reading of server messages is what RFC 6143 section 7.6 says of their
 -- bytes, in both directions.
-use Rattle.std.proofs.Common.{◌≡◌, ℕ, ◌+◌, ◌*◌, ◌<◌, inl, inr, List, [], ◌∷◌, ◌++◌, Some, length, refl, sym, subst, ◌∙◌, ap, append-nil, length-append, arith}
+use Rattle.std.proofs.Common.{◌≡◌, ℕ, ◌+◌, ◌*◌, ◌<◌, inl, inr, List, [], ◌∷◌, ◌++◌, Some, length, refl, sym, subst, ◌∙◌}
+use Rattle.std.proofs.Common.{ap, append-nil, length-append, arith}
 use Rattle.std.proofs.lemmas.Bool.Decides.{nat_tests}
 use Rattle.rfb_wire.specs.declared.server_head.ServerHead.{ServerHead}
 use Rattle.rfb_wire.specs.declared.server_head.ServerHead.TheVariants.{Update, ColourMap, Bell as BellHead, CutText}
 use Rattle.rfb_wire.specs.ServerHead.{SpellsServerHead, server_head_size}
 use Rattle.rfb_wire.specs.stream.Reading.{Says, Reads, Same, Listed}
 use Rattle.rfb_wire.specs.stream.Parts.{piece, done, and_then, valued, many, headed}
-use Rattle.rfb_wire.specs.ServerMessage.{MapColour, ServerMessage, FramebufferUpdate, SetColorMapEntries, Bell, ServerCutText, ServerFault, UnknownType, SpellsMapColour, SpellsServerMessage, FaultsServerMessage, server_says, server_message_size, server_head_of, map_colour_of, server_body, server_message}
+use Rattle.rfb_wire.specs.ServerMessage.{MapColour, ServerMessage, FramebufferUpdate, SetColorMapEntries, Bell}
+use Rattle.rfb_wire.specs.ServerMessage.{ServerCutText, ServerFault, UnknownType, SpellsMapColour, SpellsServerMessage}
+use Rattle.rfb_wire.specs.ServerMessage.{FaultsServerMessage, server_says, server_message_size, server_head_of}
+use Rattle.rfb_wire.specs.ServerMessage.{map_colour_of, server_body, server_message}
 use Rattle.rfb_wire.proofs.stream_laws.HeadLemmas.{begins_some}
 use Rattle.rfb_wire.proofs.ServerLemmas.{server-sizes, server-spelled}
-use Rattle.rfb_wire.proofs.stream_laws.PartLaws.{alone, piece_says, done_says, then_says, piece_reads, done_reads, then_reads, same_reads}
+use Rattle.rfb_wire.proofs.stream_laws.PartLaws.{alone, piece_says, done_says, then_says, piece_reads, done_reads}
+use Rattle.rfb_wire.proofs.stream_laws.PartLaws.{then_reads, same_reads}
 use Rattle.rfb_wire.proofs.stream_laws.RepeatLaws.{valued_says, many_says, valued_reads, many_reads}
 use Rattle.rfb_wire.proofs.stream_laws.HeadedLaws.{IsHeaded, headed_says, headed_reads}
 

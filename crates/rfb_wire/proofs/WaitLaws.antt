@@ -13,7 +13,8 @@ use Rattle.rfb_wire.specs.stream.Reading.{More, Bad}
 use Rattle.rfb_wire.specs.stream.Parts.{piece, done, valued, many, headed}
 use Rattle.rfb_wire.specs.ClientMessage.{SetEncodings, ClientCutText, UnknownType}
 use Rattle.rfb_wire.specs.ClientStream.{client_head_of, client_body, client_message}
-use Rattle.rfb_wire.specs.ServerMessage.{ServerFault, UnknownType as UnknownServerType, server_head_of, map_colour_of, server_body, server_message}
+use Rattle.rfb_wire.specs.ServerMessage.{ServerFault, UnknownType as UnknownServerType, server_head_of, map_colour_of}
+use Rattle.rfb_wire.specs.ServerMessage.{server_body, server_message}
 use Rattle.rfb_wire.specs.RectStream.{rect_head}
 use Rattle.rfb_wire.proofs.stream_laws.WaitLaws.{pieces_wait, headed_waits, after_waits, first_waits}
 use Rattle.rfb_wire.proofs.stream_laws.PartLaws.{piece_short}

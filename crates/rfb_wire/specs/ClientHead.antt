@@ -4,7 +4,8 @@ use Rattle.std.specs.Prelude.{◌≡◌, ℕ, Bool, List, ◌∷◌, ◌++◌, l
 use Rattle.byteorder.specs.Endian.{big_bytes}
 use Rattle.rfb_picture.specs.declared.rect.Rect.{Rect}
 use Rattle.rfb_wire.specs.declared.client_head.ClientHead.{ClientHead}
-use Rattle.rfb_wire.specs.declared.client_head.ClientHead.TheVariants.{SetPixelFormat, SetEncodings, Request, Key, Pointer, CutText}
+use Rattle.rfb_wire.specs.declared.client_head.ClientHead.TheVariants.{SetPixelFormat, SetEncodings, Request, Key}
+use Rattle.rfb_wire.specs.declared.client_head.ClientHead.TheVariants.{Pointer, CutText}
 use Rattle.rfb_wire.specs.Fields.{u8_at, u16_at, u32_at, flag_at, IsRectAt, flag_byte, rect_bytes}
 
 -- SetPixelFormat, section 7.5.1: three bytes of padding after the type

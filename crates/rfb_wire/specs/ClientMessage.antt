@@ -6,7 +6,8 @@ use Rattle.rfb_pixel.specs.Format.{PixelFormat}
 use Rattle.rfb_pixel.specs.Reading.{Spells, first_fault}
 use Rattle.rfb_wire.specs.Fields.{s32_at}
 use Rattle.rfb_wire.specs.stream.Heads.{BeginsNone}
-use Rattle.rfb_wire.specs.ClientHead.{SpellsClientHead, SpellsSetPixelFormat, SpellsSetEncodings, SpellsRequest, SpellsKey, SpellsPointer, SpellsClientCutText}
+use Rattle.rfb_wire.specs.ClientHead.{SpellsClientHead, SpellsSetPixelFormat, SpellsSetEncodings, SpellsRequest}
+use Rattle.rfb_wire.specs.ClientHead.{SpellsKey, SpellsPointer, SpellsClientCutText}
 use Rattle.rfb_wire.specs.stream.Reading.{Says, Listed}
 
 -- a message: the format that is set, the numbers of the encodings in order, the area asked for, the

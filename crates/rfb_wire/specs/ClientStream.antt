@@ -4,13 +4,17 @@ use Rattle.rfb_pixel.specs.declared.fault.FormatFault.{FormatFault}
 use Rattle.rfb_pixel.specs.Format.{PixelFormat}
 use Rattle.rfb_pixel.specs.Reading.{red_at, green_at, blue_at, first_fault}
 use Rattle.rfb_wire.specs.declared.client_head.ClientHead.{ClientHead}
-use Rattle.rfb_wire.specs.declared.client_head.ClientHead.TheVariants.{SetPixelFormat as FormatHead, SetEncodings as EncodingsHead, Request, Key, Pointer, CutText}
+use Rattle.rfb_wire.specs.declared.client_head.ClientHead.TheVariants.{SetPixelFormat as FormatHead}
+use Rattle.rfb_wire.specs.declared.client_head.ClientHead.TheVariants.{SetEncodings as EncodingsHead, Request, Key}
+use Rattle.rfb_wire.specs.declared.client_head.ClientHead.TheVariants.{Pointer, CutText}
 use Rattle.rfb_wire.specs.Fields.{u8_at, u16_at, u32_at, s32_at, flag_at}
 use Rattle.rfb_wire.specs.ClientHead.{client_head_size}
 use Rattle.rfb_wire.specs.stream.Reading.{Reading}
 use Rattle.rfb_wire.specs.stream.Parts.{piece, done, judged, and_then, valued, many, headed}
 use Rattle.rfb_wire.specs.stream.Grammar.{Grammar}
-use Rattle.rfb_wire.specs.ClientMessage.{ClientMessage, SetPixelFormat, SetEncodings, FramebufferUpdateRequest, KeyEvent, PointerEvent, ClientCutText, ClientFault, BadFormat, UnknownType, client_message_size}
+use Rattle.rfb_wire.specs.ClientMessage.{ClientMessage, SetPixelFormat, SetEncodings, FramebufferUpdateRequest}
+use Rattle.rfb_wire.specs.ClientMessage.{KeyEvent, PointerEvent, ClientCutText, ClientFault, BadFormat, UnknownType}
+use Rattle.rfb_wire.specs.ClientMessage.{client_message_size}
 
 -- the head that bytes of its size are
 abbrev pub client_head_of : List ℕ → ClientHead

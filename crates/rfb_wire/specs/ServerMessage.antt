@@ -5,7 +5,8 @@ use Rattle.rfb_wire.specs.declared.server_head.ServerHead.{ServerHead}
 use Rattle.rfb_wire.specs.declared.server_head.ServerHead.TheVariants.{Update, ColourMap, Bell as BellHead, CutText}
 use Rattle.rfb_wire.specs.Fields.{u8_at, u16_at, u32_at}
 use Rattle.rfb_wire.specs.stream.Heads.{BeginsNone}
-use Rattle.rfb_wire.specs.ServerHead.{SpellsServerHead, SpellsUpdate, SpellsColourMap, SpellsBell, SpellsServerCutText, server_head_size}
+use Rattle.rfb_wire.specs.ServerHead.{SpellsServerHead, SpellsUpdate, SpellsColourMap, SpellsBell, SpellsServerCutText}
+use Rattle.rfb_wire.specs.ServerHead.{server_head_size}
 use Rattle.rfb_wire.specs.stream.Reading.{Reading, Says, Listed}
 use Rattle.rfb_wire.specs.stream.Parts.{piece, done, and_then, valued, many, headed}
 

@@ -6,9 +6,11 @@ use Rattle.std.specs.Option.{IfSome}
 use Rattle.rfb_wire.specs.stream.Reading.{Next, More}
 use Rattle.rfb_wire.specs.stream.Parts.{named}
 use Rattle.rfb_wire.specs.stream.Grammar.{Grammar, ReadsAll}
-use Rattle.rfb_wire.specs.stream.End.{Machine, IsMachine, acts, EndsWith, Takes, Refuses, RunsOut, FedBy, RefusedBy, RunsOutBy}
+use Rattle.rfb_wire.specs.stream.End.{Machine, IsMachine, acts, EndsWith, Takes, Refuses, RunsOut, FedBy, RefusedBy}
+use Rattle.rfb_wire.specs.stream.End.{RunsOutBy}
 use Rattle.rfb_wire.specs.stream.Sequel.{Stage, First, Second, turn, Two, sequel}
-use Rattle.rfb_wire.specs.stream.Both.{event_as, first_point, end_at, DoesAs, ComesTo, StarvesAs, GoesAsFirst, GoesAsSecond, LandsAs}
+use Rattle.rfb_wire.specs.stream.Both.{event_as, first_point, end_at, DoesAs, ComesTo, StarvesAs, GoesAsFirst}
+use Rattle.rfb_wire.specs.stream.Both.{GoesAsSecond, LandsAs}
 use Rattle.rfb_wire.proofs.stream_laws.EndLaws.{quiet_first}
 
 -- nothing is left over after an event of the whole, since it is one of the part

@@ -1,10 +1,13 @@
 -- How the steps of an end make a call, and the calls a run.
-use Rattle.std.proofs.Common.{◌≡◌, ℕ, List, [], ◌∷◌, ◌++◌, Option, Some, None, refl, sym, subst, ◌∙◌, ap, append_assoc, append-nil, length-append}
+use Rattle.std.proofs.Common.{◌≡◌, ℕ, List, [], ◌∷◌, ◌++◌, Option, Some, None, refl, sym, subst, ◌∙◌, ap, append_assoc}
+use Rattle.std.proofs.Common.{append-nil, length-append}
 use Rattle.std.specs.Option.{IfSome}
 use Rattle.rfb_wire.specs.stream.Reading.{More, Got, Bad}
 use Rattle.rfb_wire.specs.stream.Grammar.{ReadsAll, past_all}
-use Rattle.rfb_wire.specs.stream.End.{Machine, IsMachine, acts, EndsWith, told, with_event, Takes, Refuses, RunsOut, Runs, Call, CallsTo, bytes_of, events_of, Delivers}
-use Rattle.rfb_wire.proofs.stream_laws.GrammarLaws.{all_more, all_append, all_length, all_rest, all_good, all_one, within_first}
+use Rattle.rfb_wire.specs.stream.End.{Machine, IsMachine, acts, EndsWith, told, with_event, Takes, Refuses, RunsOut}
+use Rattle.rfb_wire.specs.stream.End.{Runs, Call, CallsTo, bytes_of, events_of, Delivers}
+use Rattle.rfb_wire.proofs.stream_laws.GrammarLaws.{all_more, all_append, all_length, all_rest, all_good, all_one}
+use Rattle.rfb_wire.proofs.stream_laws.GrammarLaws.{within_first}
 
 module _ {S P I F E : Type 0} where
   -- ---- items

@@ -1,10 +1,13 @@
 -- How an end that steps by units of bytes is fed a slice: a unit is a byte, or a
 -- run of them of one item.
-use Rattle.std.proofs.Common.{◌≡◌, ℕ, ◌+◌, List, [], ◌++◌, Option, None, Ok, Err, take, drop, refl, sym, subst, ◌∙◌, ap, arith, take-append-drop}
+use Rattle.std.proofs.Common.{◌≡◌, ℕ, ◌+◌, List, [], ◌++◌, Option, None, Ok, Err, take, drop, refl, sym, subst, ◌∙◌, ap}
+use Rattle.std.proofs.Common.{arith, take-append-drop}
 use Rattle.std.proofs.lemmas.List.{take-take, drop-take}
 use Rattle.rfb_wire.specs.stream.Reading.{Next, More, Got, Bad}
-use Rattle.rfb_wire.specs.stream.End.{Machine, IsMachine, Takes, Refuses, RunsOut, FedBy, RefusedBy, RunsOutBy, Steps, StepsBy}
-use Rattle.rfb_wire.proofs.stream_laws.EndLaws.{takes_none, takes_part, takes_last, takes_then, refuses_unit, refuses_then, refuses_more, runs_out_then, runs_out_more}
+use Rattle.rfb_wire.specs.stream.End.{Machine, IsMachine, Takes, Refuses, RunsOut, FedBy, RefusedBy, RunsOutBy, Steps}
+use Rattle.rfb_wire.specs.stream.End.{StepsBy}
+use Rattle.rfb_wire.proofs.stream_laws.EndLaws.{takes_none, takes_part, takes_last, takes_then, refuses_unit}
+use Rattle.rfb_wire.proofs.stream_laws.EndLaws.{refuses_then, refuses_more, runs_out_then, runs_out_more}
 
 -- the first bytes, and then the next
 pub take_add : (i n : ℕ) (xs : List ℕ) → take (i + n) xs ≡ take i xs ++ take n (drop i xs)

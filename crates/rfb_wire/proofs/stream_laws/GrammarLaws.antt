@@ -1,10 +1,13 @@
 -- Laws of streams, of every grammar.
-use Rattle.std.proofs.Common.{◌≡◌, ℕ, zero, suc, ◌+◌, ◌≤◌, ◌<◌, inl, inr, List, [], ◌∷◌, ◌++◌, Option, Some, None, length, take, drop, refl, sym, subst, ◌∙◌, ap, append_assoc, append-nil, arith, length-append, take-append-drop}
+use Rattle.std.proofs.Common.{◌≡◌, ℕ, zero, suc, ◌+◌, ◌≤◌, ◌<◌, inl, inr, List, [], ◌∷◌, ◌++◌, Option, Some, None}
+use Rattle.std.proofs.Common.{length, take, drop, refl, sym, subst, ◌∙◌, ap, append_assoc, append-nil, arith}
+use Rattle.std.proofs.Common.{length-append, take-append-drop}
 use Rattle.std.proofs.lemmas.List.{take_at, take-append-le}
 use Rattle.std.specs.List.{concat}
 use Rattle.std.proofs.lemmas.Bool.{cases_lt}
 use Rattle.rfb_wire.specs.stream.Reading.{Next, More, Got, Bad, Says}
-use Rattle.rfb_wire.specs.stream.Grammar.{Grammar, IsSpelled, IsGrammar, ReadsAll, past_all, sizes, IsWithinFirst, EndsIn, HasVerdict, CutVerdict}
+use Rattle.rfb_wire.specs.stream.Grammar.{Grammar, IsSpelled, IsGrammar, ReadsAll, past_all, sizes, IsWithinFirst}
+use Rattle.rfb_wire.specs.stream.Grammar.{EndsIn, HasVerdict, CutVerdict}
 use Rattle.rfb_wire.proofs.stream_laws.ReadingLaws.{reads_more, reads_bad, reads_alone}
 
 nothing_left : (xs ys : List ℕ) → xs ++ ys ≡ [] → xs ≡ []

@@ -1,5 +1,6 @@
 -- The law of a head whose first byte decides its size.
-use Rattle.std.proofs.Common.{◌≡◌, ℕ, ◌-◌, ◌<◌, inl, inr, List, [], ◌∷◌, ◌++◌, Option, Some, None, length, slice_index, refl, sym, subst, ◌∙◌, ap, arith}
+use Rattle.std.proofs.Common.{◌≡◌, ℕ, ◌-◌, ◌<◌, inl, inr, List, [], ◌∷◌, ◌++◌, Option, Some, None, length, slice_index}
+use Rattle.std.proofs.Common.{refl, sym, subst, ◌∙◌, ap, arith}
 use Rattle.rfb_wire.specs.stream.Reading.{Says, Reads, Same}
 use Rattle.rfb_wire.specs.stream.Parts.{waiting, refused, valued, rest_of_head, headed}
 use Rattle.rfb_wire.specs.stream.Heads.{BeginsNone}

@@ -1,5 +1,7 @@
 -- The law of each part: which relation it reads, in both directions, its faults too.
-use Rattle.std.proofs.Common.{◌≡◌, ℕ, ◌≤◌, ◌<◌, ◌⊎◌, inl, inr, List, [], ◌++◌, Bool, true, false, nat_le, Option, Some, None, if◌then◌else◌, length, take, drop, refl, sym, ◌∙◌, ap, append_assoc, append-nil, arith, length-append, take-append-drop}
+use Rattle.std.proofs.Common.{◌≡◌, ℕ, ◌≤◌, ◌<◌, ◌⊎◌, inl, inr, List, [], ◌++◌, Bool, true, false, nat_le, Option, Some}
+use Rattle.std.proofs.Common.{None, if◌then◌else◌, length, take, drop, refl, sym, ◌∙◌, ap, append_assoc, append-nil}
+use Rattle.std.proofs.Common.{arith, length-append, take-append-drop}
 use Rattle.std.proofs.lemmas.List.{take_at, drop_at, length-take-le}
 use Rattle.std.proofs.lemmas.Bool.Decides.{nat_tests}
 use Rattle.rfb_wire.specs.stream.Reading.{Next, More, Got, Bad, Reading, Says, Reads, Same}

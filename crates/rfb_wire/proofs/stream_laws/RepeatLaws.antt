@@ -1,11 +1,15 @@
 -- The laws of the parts that are put together of others: optional, n times, the
 -- bytes taken, other names.
-use Rattle.std.proofs.Common.{◌≡◌, ℕ, zero, suc, ◌-◌, ◌<◌, inl, inr, List, [], ◌∷◌, ◌++◌, Bool, true, false, Option, Some, None, length, take, refl, sym, subst, ◌∙◌, ap, append_assoc, append-nil, arith, length-append}
+use Rattle.std.proofs.Common.{◌≡◌, ℕ, zero, suc, ◌-◌, ◌<◌, inl, inr, List, [], ◌∷◌, ◌++◌, Bool, true, false, Option}
+use Rattle.std.proofs.Common.{Some, None, length, take, refl, sym, subst, ◌∙◌, ap, append_assoc, append-nil, arith}
+use Rattle.std.proofs.Common.{length-append}
 use Rattle.std.proofs.lemmas.List.{take_at}
-use Rattle.rfb_wire.specs.stream.Reading.{Next, More, Got, Bad, Reading, Says, Reads, Same, Listed, ListedAfter, Optionally}
+use Rattle.rfb_wire.specs.stream.Reading.{Next, More, Got, Bad, Reading, Says, Reads, Same, Listed, ListedAfter}
+use Rattle.rfb_wire.specs.stream.Reading.{Optionally}
 use Rattle.rfb_wire.specs.stream.Parts.{named, renamed, checked, judged, piece, done, taken, kept, and_then}
 use Rattle.rfb_wire.specs.stream.Parts.{valued, optional, many, each}
-use Rattle.rfb_wire.proofs.stream_laws.PartLaws.{alone, judged_says, judged_reads, kept_says, piece_says, done_says, then_says, piece_reads, done_reads, then_reads, same_reads}
+use Rattle.rfb_wire.proofs.stream_laws.PartLaws.{alone, judged_says, judged_reads, kept_says, piece_says, done_says}
+use Rattle.rfb_wire.proofs.stream_laws.PartLaws.{then_says, piece_reads, done_reads, then_reads, same_reads}
 
 -- a fault of a part that is there
 abbrev pub FaultIf : {F : Type 0} → Bool → (F → List ℕ → Type 0) → F → List ℕ → Type 0

@@ -1,10 +1,12 @@
 -- A stream of two grammars keeps the laws that each of them has.
-use Rattle.std.proofs.Common.{◌≡◌, ℕ, ◌<◌, List, [], ◌∷◌, ◌++◌, Option, Some, None, length, map, refl, sym, subst, ◌∙◌, ap}
+use Rattle.std.proofs.Common.{◌≡◌, ℕ, ◌<◌, List, [], ◌∷◌, ◌++◌, Option, Some, None, length, map, refl, sym, subst, ◌∙◌}
+use Rattle.std.proofs.Common.{ap}
 use Rattle.rfb_wire.specs.stream.Reading.{Says, Reads, Same}
 use Rattle.rfb_wire.specs.stream.Grammar.{IsSpelled, ReadsAll, past_all}
 use Rattle.rfb_wire.proofs.stream_laws.PartLaws.{same_reads}
 use Rattle.rfb_wire.proofs.stream_laws.RepeatLaws.{renamed_says, renamed_reads}
-use Rattle.rfb_wire.specs.stream.Sequel.{Stage, First, Second, turn, Two, next_in, sequel, ItemIn, FaultIn, sequel_says, StaysFirst, in_both}
+use Rattle.rfb_wire.specs.stream.Sequel.{Stage, First, Second, turn, Two, next_in, sequel, ItemIn, FaultIn, sequel_says}
+use Rattle.rfb_wire.specs.stream.Sequel.{StaysFirst, in_both}
 use Rattle.rfb_wire.proofs.stream_laws.GrammarLaws.{all_append}
 
 module _ {P I F Q J G H : Type 0} where

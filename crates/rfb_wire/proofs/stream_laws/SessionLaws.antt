@@ -1,13 +1,17 @@
 -- Sessions over the same bytes agree, however calls split these; and calls of a delivery are one
 -- delivery.
-use Rattle.std.proofs.Common.{◌≡◌, ℕ, List, [], ◌++◌, Option, Some, None, sym, subst, ◌∙◌, ap, append_assoc, append-nil, length-append, arith}
+use Rattle.std.proofs.Common.{◌≡◌, ℕ, List, [], ◌++◌, Option, Some, None, sym, subst, ◌∙◌, ap, append_assoc, append-nil}
+use Rattle.std.proofs.Common.{length-append, arith}
 use Rattle.std.specs.Prelude.{⊤}
 use Rattle.rfb_wire.specs.stream.Reading.{More, Bad}
 use Rattle.rfb_wire.specs.stream.Grammar.{ReadsAll, past_all, EndsIn}
-use Rattle.rfb_wire.specs.stream.End.{Machine, IsMachine, acts, told, with_event, RunsOut, Runs, Call, CallsTo, bytes_of, events_of, Delivers}
+use Rattle.rfb_wire.specs.stream.End.{Machine, IsMachine, acts, told, with_event, RunsOut, Runs, Call, CallsTo}
+use Rattle.rfb_wire.specs.stream.End.{bytes_of, events_of, Delivers}
 use Rattle.rfb_wire.specs.stream.Session.{Waits, IsSession, IsStarved, DeliversAll}
-use Rattle.rfb_wire.proofs.stream_laws.GrammarLaws.{all_more, all_rest, all_length, all_one, all_front, sizes_append, within_first}
-use Rattle.rfb_wire.proofs.stream_laws.EndLaws.{acts_append, point_acts, reads_then, told_append, told_ends, calls_run, not_refused}
+use Rattle.rfb_wire.proofs.stream_laws.GrammarLaws.{all_more, all_rest, all_length, all_one, all_front, sizes_append}
+use Rattle.rfb_wire.proofs.stream_laws.GrammarLaws.{within_first}
+use Rattle.rfb_wire.proofs.stream_laws.EndLaws.{acts_append, point_acts, reads_then, told_append, told_ends, calls_run}
+use Rattle.rfb_wire.proofs.stream_laws.EndLaws.{not_refused}
 
 module _ {S P I F E : Type 0} where
   -- ---- sessions

@@ -1,5 +1,7 @@
 -- Bytes that are too few for a part, or for a head, wait for more.
-use Rattle.std.proofs.Common.{◌≡◌, ℕ, zero, suc, ◌-◌, ◌*◌, ◌<◌, inl, inr, List, [], ◌∷◌, ◌++◌, Option, Some, length, take, drop, replicate, slice_index, refl, subst, arith, length-append, length-drop, take-append-drop}
+use Rattle.std.proofs.Common.{◌≡◌, ℕ, zero, suc, ◌-◌, ◌*◌, ◌<◌, inl, inr, List, [], ◌∷◌, ◌++◌, Option, Some, length}
+use Rattle.std.proofs.Common.{take, drop, replicate, slice_index, refl, subst, arith, length-append, length-drop}
+use Rattle.std.proofs.Common.{take-append-drop}
 use Rattle.std.proofs.lemmas.List.{length-replicate, length-take-le}
 use Rattle.std.proofs.lemmas.Bool.{cases_lt}
 use Rattle.rfb_wire.specs.stream.Reading.{More, Got, Reading}

@@ -1,5 +1,6 @@
 -- The parts that the reading of a grammar is put together of.
-use Rattle.std.specs.Prelude.{ℕ, zero, suc, Bool, true, false, List, [], ◌∷◌, ◌++◌, ◌-◌, Option, Some, None, nat_le, slice_index, length, take, drop, if◌then◌else◌}
+use Rattle.std.specs.Prelude.{ℕ, zero, suc, Bool, true, false, List, [], ◌∷◌, ◌++◌, ◌-◌, Option, Some, None, nat_le}
+use Rattle.std.specs.Prelude.{slice_index, length, take, drop, if◌then◌else◌}
 use Rattle.rfb_wire.specs.stream.Reading.{Next, More, Got, Bad, Reading}
 
 -- n bytes
