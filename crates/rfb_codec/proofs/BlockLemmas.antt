@@ -1,8 +1,10 @@
 -- Rows of pixels put one after another.
-use Rattle.std.proofs.Common.{◌≡◌, ℕ, ◌+◌, ◌-◌, ◌*◌, ◌<◌, ◌≤◌, inl, inr, List, ◌++◌, length, map, take, get_or, slice_index, ◌∙◌, ap, sym, arith, length-append}
+use Rattle.std.proofs.Common.{◌≡◌, ℕ, ◌+◌, ◌-◌, ◌*◌, ◌<◌, ◌≤◌, inl, inr, List, ◌++◌, length, map, take, get_or}
+use Rattle.std.proofs.Common.{slice_index, ◌∙◌, ap, sym, arith, length-append}
 use Rattle.std.proofs.Math.Pow.{pow_pos}
 use Rattle.std.proofs.lemmas.Bool.{cases_lt}
-use Rattle.std.proofs.lemmas.List.{get_or_append_left, get_or-append-add, get_or-map, get_or_default, get_or_past, length-take-le, length-map}
+use Rattle.std.proofs.lemmas.List.{get_or_append_left, get_or-append-add, get_or-map, get_or_default, get_or_past}
+use Rattle.std.proofs.lemmas.List.{length-take-le, length-map}
 use Rattle.std.proofs.lemmas.Slice.{take-put_mid}
 use borrow.Rule.Slice.PartMut.{put_mid}
 use Rattle.rfb_pixel.specs.declared.colour.Colour.{Colour}
@@ -15,8 +17,10 @@ use Rattle.rfb_codec.specs.inside.Encode.{PacksRows}
 use Rattle.rfb_codec.specs.Codec.{PacksRect}
 
 -- one row more of a rectangle
-pub rows_packed : (f : PixelFormat) (picture : Grid Colour) (rect : Rect) (n : ℕ) (old row : List ℕ) (colours : List Colour) →
-    length old ≡ n * rect.w → length colours ≡ rect.w → colours ≡ row_of picture rect.x (rect.y + n) rect.w → row ≡ map (pixel_of f) colours →
+pub rows_packed : (f : PixelFormat) (picture : Grid Colour) (rect : Rect) (n : ℕ)
+    (old row : List ℕ) (colours : List Colour) →
+    length old ≡ n * rect.w → length colours ≡ rect.w → colours ≡ row_of picture rect.x (rect.y + n) rect.w →
+    row ≡ map (pixel_of f) colours →
     PacksRows f picture rect n old → PacksRows f picture rect (n + 1) (old ++ row)
 rows_packed f picture rect n old row colours size wide are is before x y d p q = elim (cases_lt y n) [
   | inl above ↦
@@ -26,8 +30,10 @@ rows_packed f picture rect n old row colours size wide are is before x y d p q =
       let same : y ≡ n = omega arith in
       let within : x < length colours = omega (arith, wide) in
       rw same
-      (ap (λ (k : ℕ). get_or (old ++ row) (k + x) 0) (sym size) ∙ get_or-append-add old row x 0 ∙ ap (λ (xs : List ℕ). get_or xs x 0) is ∙ get_or-map (pixel_of f) colours x d 0 within
-      ∙ ap (λ (xs : List Colour). pixel_of f (get_or xs x d)) are ∙ ap (pixel_of f) (slice_index_or-row_of picture rect.x (rect.y + n) rect.w x d p))
+      (ap (λ (k : ℕ). get_or (old ++ row) (k + x) 0) (sym size) ∙ get_or-append-add old row x 0
+      ∙ ap (λ (xs : List ℕ). get_or xs x 0) is ∙ get_or-map (pixel_of f) colours x d 0 within
+      ∙ ap (λ (xs : List Colour). pixel_of f (get_or xs x d)) are
+      ∙ ap (pixel_of f) (slice_index_or-row_of picture rect.x (rect.y + n) rect.w x d p))
 ]
 
 -- pixels after pixels
@@ -41,20 +47,27 @@ pixels_after f old row before here i within = elim (cases_lt i (length old)) [
 ]
 
 -- a row written after the rows before it is one row more of the first pixels
-pub row_written : (f : PixelFormat) (picture : Grid Colour) (rect : Rect) (n start k : ℕ) (pixels row : List ℕ) (colours : List Colour) →
-    start ≡ n * rect.w → (n + 1) * rect.w ≤ length pixels → length colours ≡ rect.w → colours ≡ row_of picture rect.x (rect.y + n) rect.w → row ≡ map (pixel_of f) colours →
+pub row_written : (f : PixelFormat) (picture : Grid Colour) (rect : Rect) (n start k : ℕ)
+    (pixels row : List ℕ) (colours : List Colour) →
+    start ≡ n * rect.w → (n + 1) * rect.w ≤ length pixels → length colours ≡ rect.w →
+    colours ≡ row_of picture rect.x (rect.y + n) rect.w → row ≡ map (pixel_of f) colours →
     PacksRows f picture rect n (take (n * rect.w) pixels) × ArePixels f (take (n * rect.w) pixels) → ArePixels f row →
-    PacksRows f picture rect (n + 1) (take ((n + 1) * rect.w) (put_mid start k pixels row)) × ArePixels f (take ((n + 1) * rect.w) (put_mid start k pixels row))
+    PacksRows f picture rect (n + 1) (take ((n + 1) * rect.w) (put_mid start k pixels row))
+    × ArePixels f (take ((n + 1) * rect.w) (put_mid start k pixels row))
 row_written f picture rect n start k pixels row colours at room wide are is before fit =
     let long : length row ≡ rect.w = ap length is ∙ length-map colours (pixel_of f) ∙ wide in
     let end : (n + 1) * rect.w ≡ start + length row = omega (arith, at, long) in
     let within : start ≤ length pixels = omega (arith, at, room) in
-    let size : length (take (n * rect.w) pixels) ≡ n * rect.w = length-take-le (n * rect.w) pixels (omega (arith, room)) in
-    rw (take-put_mid start k pixels row ((n + 1) * rect.w) end within, at)
-    (rows_packed f picture rect n (take (n * rect.w) pixels) row colours size wide are is before.0, pixels_after f (take (n * rect.w) pixels) row before.1 fit)
+    let size : length (take (n * rect.w) pixels) ≡ n * rect.w =
+    length-take-le (n * rect.w) pixels (omega (arith, room)) in
+    rw (take-put_mid start k pixels row ((n + 1) * rect.w) end within, at) (
+      rows_packed f picture rect n (take (n * rect.w) pixels) row colours size wide are is before.0,
+      pixels_after f (take (n * rect.w) pixels) row before.1 fit,
+    )
 
 -- past the end there is none, and 0 is one
-pub pixels_everywhere : (f : PixelFormat) (pixels : List ℕ) → ArePixels f pixels → (i : ℕ) → IsPixel f (slice_index pixels i)
+pub pixels_everywhere : (f : PixelFormat) (pixels : List ℕ) → ArePixels f pixels → (i : ℕ) →
+    IsPixel f (slice_index pixels i)
 pixels_everywhere f pixels are i = elim (cases_lt i (length pixels)) [
   | inl within ↦ are i within
   | inr past ↦ rw (get_or_past pixels i 0 past) (pow_pos (8 * size_of f))
@@ -62,7 +75,8 @@ pixels_everywhere f pixels are i = elim (cases_lt i (length pixels)) [
 
 -- as many pixels as the rectangle has places are its block
 pub packed_grid : (f : PixelFormat) (picture : Grid Colour) (rect : Rect) (pixels : List ℕ) →
-    length pixels ≡ rect.h * rect.w → PacksRows f picture rect rect.h pixels → PacksRect f picture rect (grid rect.w rect.h pixels)
+    length pixels ≡ rect.h * rect.w → PacksRows f picture rect rect.h pixels →
+    PacksRect f picture rect (grid rect.w rect.h pixels)
 packed_grid f picture rect pixels size rows x y d e p q =
     let below = place_below rect.w rect.h x y p q in
     get_or_default pixels (y * rect.w + x) e 0 (omega (arith, size, below)) ∙ rows x y d p q

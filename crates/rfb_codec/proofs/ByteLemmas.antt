@@ -9,16 +9,20 @@ use Rattle.rfb_wire.proofs.stream_laws.ReadingLaws.{reads_more, reads_bad, reads
 
 module _ {A F : Type 0} where
   -- with the byte that an item was waited for with, nothing is left after it
-  pub last_byte : (p : Reading A F) (s : Says A F) → Reads p s → (xs : List ℕ) (b : ℕ) (a : A) (rest : List ℕ) → p xs ≡ More → p (xs ++ b ∷ []) ≡ Got a rest → rest ≡ []
+  pub last_byte : (p : Reading A F) (s : Says A F) → Reads p s → (xs : List ℕ) (b : ℕ) (a : A) (rest : List ℕ) →
+      p xs ≡ More → p (xs ++ b ∷ []) ≡ Got a rest → rest ≡ []
   last_byte p s reads xs b a [] more got = refl
   last_byte p s reads xs b a (r ∷ rs) more got =
       let one = reads.found (xs ++ b ∷ []) a (r ∷ rs) got in
       let front = one.0 in
-      let lengths : length xs + 1 ≡ length front + length (r ∷ rs) = sym (length-append xs (b ∷ [])) ∙ ap length one.1 ∙ length-append front (r ∷ rs) in
+      let lengths : length xs + 1 ≡ length front + length (r ∷ rs) =
+      sym (length-append xs (b ∷ [])) ∙ ap length one.1 ∙ length-append front (r ∷ rs) in
       let n = length front in
       let short : n ≤ length xs = omega (arith, lengths) in
-      let same : take n xs ≡ front = sym (take-append-le n xs (b ∷ []) short) ∙ ap (take n) one.1 ∙ take_at front (r ∷ rs) n refl in
-      let got' : p xs ≡ Got a (drop n xs) = subst (λ (ys : List ℕ). p ys ≡ Got a (drop n xs)) (take-append-drop n xs) (rw same (reads.only a front (drop n xs) one.2)) in
+      let same : take n xs ≡ front =
+      sym (take-append-le n xs (b ∷ []) short) ∙ ap (take n) one.1 ∙ take_at front (r ∷ rs) n refl in
+      let got' : p xs ≡ Got a (drop n xs) = subst (λ (ys : List ℕ). p ys ≡ Got a (drop n xs)) (take-append-drop n xs)
+      (rw same (reads.only a front (drop n xs) one.2)) in
       cc
 
   -- an item is waited for up to its last byte

@@ -1,12 +1,15 @@
 -- The rule of RRE has a choice for every block: a background, and subrectangles one after another
 -- until no place is left.
-use Rattle.std.proofs.Common.{◌≡◌, ◌≢◌, ℕ, zero, suc, ◌+◌, ◌-◌, ◌*◌, ◌/◌, ◌%◌, ◌<◌, ◌≤◌, List, [], ◌∷◌, ◌++◌, Bool, true, false, length, slice_index, arith, refl, sym, ap, subst, inl, inr, ◌⊎◌, length-append}
+use Rattle.std.proofs.Common.{◌≡◌, ◌≢◌, ℕ, zero, suc, ◌+◌, ◌-◌, ◌*◌, ◌/◌, ◌%◌, ◌<◌, ◌≤◌, List, [], ◌∷◌, ◌++◌, Bool}
+use Rattle.std.proofs.Common.{true, false, length, slice_index, arith, refl, sym, ap, subst, inl, inr, ◌⊎◌}
+use Rattle.std.proofs.Common.{length-append}
 use Rattle.std.proofs.lemmas.Bool.{cases_lt, cases_eq, cases_order, both_ways}
 use Rattle.std.proofs.lemmas.Nat.{div-add-mod', div_below, mod_below, div-mul-add, mod-mul-add}
 use Rattle.std.proofs.Math.Nat.{mul-le-mul_right}
 use Rattle.rfb_picture.proofs.GridLaws.{place_below, some_in_row}
 use Rattle.rfb_codec.specs.declared.subrect.Subrect.{Subrect}
-use Rattle.rfb_codec.specs.Choice.{IsPixelOf, places_of, IsBackground, is_in_any, IsLeft, IsFree, IsFreeRun, IsNextSub, AreNextSubs, AreRuleSubs}
+use Rattle.rfb_codec.specs.Choice.{IsPixelOf, places_of, IsBackground, is_in_any, IsLeft, IsFree, IsFreeRun, IsNextSub}
+use Rattle.rfb_codec.specs.Choice.{AreNextSubs, AreRuleSubs}
 use Rattle.rfb_codec.proofs.RuleLemmas.{next_push}
 use Rattle.rfb_codec.proofs.RuleCountLemmas.{in_order}
 
@@ -41,7 +44,13 @@ pub longest_run : (P : ℕ → Type 0) → ((i : ℕ) → Decided (P i)) → (fr
     (n : ℕ) × (0 < n) × (from + n ≤ to) × ((i : ℕ) → from ≤ i → i < from + n → P i) × (from + n < to → P (from + n) → ⊥)
 longest_run P dec from to some here =
     elim (first_hit (λ i. P (from + i) → ⊥) (λ i. turned (P (from + i)) (dec (from + i))) (to - from)) [
-      | inl none ↦ (to - from, omega (arith, some), omega (arith, some), λ i low high. held i low (none (i - from) (omega (arith, low, high, some))), λ l. absurd (omega (arith, l, some)))
+      | inl none ↦ (
+        to - from,
+        omega (arith, some),
+        omega (arith, some),
+        λ i low high. held i low (none (i - from) (omega (arith, low, high, some))),
+        λ l. absurd (omega (arith, l, some)),
+      )
       | inr found ↦ (
         found.0,
         positive found.0 found.2,
@@ -78,18 +87,21 @@ best c v (suc n) =
           ]
       | inr apart ↦
           elim apart [
-            | inl less ↦ (k, omega (arith, below), kept k all (omega (arith, less)) (λ e. absurd (omega (arith, less, e))))
+            | inl less ↦
+                (k, omega (arith, below), kept k all (omega (arith, less)) (λ e. absurd (omega (arith, less, e))))
             | inr more ↦ (suc n, omega arith, taken k all (omega (arith, more)) (λ e. absurd (omega (arith, more, e))))
           ]
     ]
   where
-    kept : (k : ℕ) → IsBest c v (suc n) k → c (suc n) ≤ c k → (c (suc n) ≡ c k → v k ≤ v (suc n)) → IsBest c v (suc (suc n)) k
+    kept : (k : ℕ) → IsBest c v (suc n) k → c (suc n) ≤ c k → (c (suc n) ≡ c k → v k ≤ v (suc n)) →
+        IsBest c v (suc (suc n)) k
     kept k all low tie j l = elim (cases_lt j (suc n)) [
       | inl less ↦ all j less
       | inr more ↦ let same : j ≡ suc n = omega arith in rw same (low, tie)
     ]
 
-    taken : (k : ℕ) → IsBest c v (suc n) k → c k ≤ c (suc n) → (c k ≡ c (suc n) → v (suc n) ≤ v k) → IsBest c v (suc (suc n)) (suc n)
+    taken : (k : ℕ) → IsBest c v (suc n) k → c k ≤ c (suc n) → (c k ≡ c (suc n) → v (suc n) ≤ v k) →
+        IsBest c v (suc (suc n)) (suc n)
     taken k all high tie j l = elim (cases_lt j (suc n)) [
       | inl less ↦
           let (low, other) = all j less in (
@@ -126,7 +138,8 @@ module _ (w h : ℕ) (pixels : List ℕ) (background : ℕ) where
         | inr other ↦ inr (λ free. other free.0)
       ]
     where
-      by : (b : Bool) → is_in_any before x y ≡ b → slice_index pixels (y * w + x) ≡ pixel → Decided (IsFree w pixels before pixel x y)
+      by : (b : Bool) → is_in_any before x y ≡ b → slice_index pixels (y * w + x) ≡ pixel →
+          Decided (IsFree w pixels before pixel x y)
       by true e same = inr (λ free. both_ways (is_in_any before x y) free.1 e)
       by false e same = inl (same, e)
 
@@ -137,24 +150,28 @@ module _ (w h : ℕ) (pixels : List ℕ) (background : ℕ) where
         | inr other ↦ by (is_in_any before x y) refl other
       ]
     where
-      by : (b : Bool) → is_in_any before x y ≡ b → slice_index pixels (y * w + x) ≢ background → Decided (IsLeft w pixels background before x y)
+      by : (b : Bool) → is_in_any before x y ≡ b → slice_index pixels (y * w + x) ≢ background →
+          Decided (IsLeft w pixels background before x y)
       by true e other = inr (λ left. both_ways (is_in_any before x y) left.1 e)
       by false e other = inl (other, e)
 
   decide_run : (before : List Subrect) (pixel x n y : ℕ) → Decided (IsFreeRun w pixels before pixel x (x + n) y)
   decide_run before pixel x n y =
-      elim (first_hit (λ i. IsFree w pixels before pixel (x + i) y → ⊥) (λ i. turned (IsFree w pixels before pixel (x + i) y) (decide_free before pixel (x + i) y)) n) [
+      elim (first_hit (λ i. IsFree w pixels before pixel (x + i) y → ⊥)
+      (λ i. turned (IsFree w pixels before pixel (x + i) y) (decide_free before pixel (x + i) y)) n) [
         | inl none ↦ inl (λ i low high.
             let same : x + (i - x) ≡ i = omega (arith, low) in
             elim (decide_free before pixel i y) [
               | inl there ↦ there
-              | inr isnt ↦ absurd (none (i - x) (omega (arith, low, high)) (λ free. isnt (subst (λ (k : ℕ). IsFree w pixels before pixel k y) same free)))
+              | inr isnt ↦ absurd (none (i - x) (omega (arith, low, high))
+                  (λ free. isnt (subst (λ (k : ℕ). IsFree w pixels before pixel k y) same free)))
             ])
         | inr found ↦ inr (λ run. found.2 (run (x + found.0) (omega arith) (omega (arith, found.1))))
       ]
 
   -- the next begins at the first place that is left
-  next_at : (before : List Subrect) (k : ℕ) → k < h * w → IsLeft w pixels background before (k % w) (k / w) → ((i : ℕ) → i < k → IsLeft w pixels background before (i % w) (i / w) → ⊥) →
+  next_at : (before : List Subrect) (k : ℕ) → k < h * w → IsLeft w pixels background before (k % w) (k / w) →
+      ((i : ℕ) → i < k → IsLeft w pixels background before (i % w) (i / w) → ⊥) →
       (s : Subrect) × IsNextSub w h pixels background before s
   next_at before k below left first =
       let x = k % w in
@@ -164,8 +181,10 @@ module _ (w h : ℕ) (pixels : List ℕ) (background : ℕ) where
       let row : y < h = div_below k w h some below in
       let place : y * w + x ≡ k = div-add-mod' k w in
       let pixel = slice_index pixels (y * w + x) in
-      let (n, wide, held, run, longest) = longest_run (λ i. IsFree w pixels before pixel i y) (λ i. decide_free before pixel i y) x w column (refl, left.1) in
-      let (m, high, held_too, rows, lowest) = longest_run (λ j. IsFreeRun w pixels before pixel x (x + n) j) (λ j. decide_run before pixel x n j) y h row run in (
+      let (n, wide, held, run, longest) = longest_run (λ i. IsFree w pixels before pixel i y)
+      (λ i. decide_free before pixel i y) x w column (refl, left.1) in
+      let (m, high, held_too, rows, lowest) = longest_run (λ j. IsFreeRun w pixels before pixel x (x + n) j)
+      (λ j. decide_run before pixel x n j) y h row run in (
         record { pixel = pixel; rect = record { x = x; y = y; w = n; h = m } },
         record {
           inside = (held, held_too);
@@ -174,8 +193,12 @@ module _ (w h : ℕ) (pixels : List ℕ) (background : ℕ) where
           left = left;
           first = λ i j p q before_it left_too.
               let less : j * w + i < k = elim before_it [
-                | inl above ↦ let up : (j + 1) * w ≤ y * w = mul-le-mul_right w (omega (arith, above)) in omega (arith, up, p, place)
-                | inr (level, near) ↦ let same : j * w ≡ y * w = ap (λ (t : ℕ). t * w) level in omega (arith, same, near, place)
+                | inl above ↦
+                    let up : (j + 1) * w ≤ y * w = mul-le-mul_right w (omega (arith, above)) in
+                    omega (arith, up, p, place)
+                | inr (level, near) ↦
+                    let same : j * w ≡ y * w = ap (λ (t : ℕ). t * w) level in
+                    omega (arith, same, near, place)
               ] in
               first (j * w + i) less (rw (mod-mul-add j w i p, div-mul-add j w i p) left_too);
           pixel = refl;
@@ -185,26 +208,33 @@ module _ (w h : ℕ) (pixels : List ℕ) (background : ℕ) where
         },
       )
 
-  next_or_none : (before : List Subrect) → ((x y : ℕ) → x < w → y < h → IsLeft w pixels background before x y → ⊥) ⊎ ((s : Subrect) × IsNextSub w h pixels background before s)
+  next_or_none : (before : List Subrect) → ((x y : ℕ) → x < w → y < h → IsLeft w pixels background before x y → ⊥)
+      ⊎ ((s : Subrect) × IsNextSub w h pixels background before s)
   next_or_none before =
-      elim (first_hit (λ k. IsLeft w pixels background before (k % w) (k / w)) (λ k. decide_left before (k % w) (k / w)) (h * w)) [
-        | inl none ↦ inl (λ x y p q left. none (y * w + x) (place_below w h x y p q) (rw (mod-mul-add y w x p, div-mul-add y w x p) left))
+      elim (first_hit (λ k. IsLeft w pixels background before (k % w) (k / w))
+      (λ k. decide_left before (k % w) (k / w)) (h * w)) [
+        | inl none ↦ inl (λ x y p q left. none (y * w + x) (place_below w h x y p q)
+            (rw (mod-mul-add y w x p, div-mul-add y w x p) left))
         | inr found ↦ inr (next_at before found.0 found.1 found.2 found.3)
       ]
 
   -- one after another: there are no more than places
-  subs_from : (fuel : ℕ) (before : List Subrect) → length pixels ≡ h * w → IsPixelOf pixels background → AreNextSubs w h pixels background [] before → h * w < fuel + length before →
+  subs_from : (fuel : ℕ) (before : List Subrect) → length pixels ≡ h * w → IsPixelOf pixels background →
+      AreNextSubs w h pixels background [] before → h * w < fuel + length before →
       (subs : List Subrect) × AreRuleSubs w h pixels background subs
   subs_from zero before whole (place, below, is) each enough =
-      let few = in_order w h pixels background [] before 0 place each (omega arith) (omega (arith, below, whole)) (sym is) (λ x y p q left. omega arith) in
+      let few = in_order w h pixels background [] before 0 place each (omega arith) (omega (arith, below, whole))
+      (sym is) (λ x y p q left. omega arith) in
       absurd (omega (arith, few.0, enough))
   subs_from (suc fuel) before whole plain each enough =
       elim (next_or_none before) [
         | inl none ↦ (before, record { each = each; none = none })
         | inr found ↦
             let size = length-append before (found.0 ∷ []) in
-            subs_from fuel (before ++ found.0 ∷ []) whole plain (next_push w h pixels background [] before found.0 each found.1) (omega (arith, enough, size))
+            subs_from fuel (before ++ found.0 ∷ []) whole plain
+            (next_push w h pixels background [] before found.0 each found.1) (omega (arith, enough, size))
       ]
 
-  pub some_subs : length pixels ≡ h * w → IsPixelOf pixels background → (subs : List Subrect) × AreRuleSubs w h pixels background subs
+  pub some_subs : length pixels ≡ h * w → IsPixelOf pixels background →
+      (subs : List Subrect) × AreRuleSubs w h pixels background subs
   some_subs whole plain = subs_from (suc (h * w)) [] whole plain tt (omega arith)

@@ -1,10 +1,12 @@
 -- The table that pixels are counted in: which slots belong to which pixel, and how many places each has so far.
-use Rattle.std.proofs.Common.{◌≡◌, ◌≢◌, ℕ, ◌+◌, ◌-◌, ◌<◌, ◌≤◌, List, [], ◌++◌, length, get_or, take, set, replicate, arith, refl, sym, ap, ◌∙◌, inl, inr, ◌⊎◌}
+use Rattle.std.proofs.Common.{◌≡◌, ◌≢◌, ℕ, ◌+◌, ◌-◌, ◌<◌, ◌≤◌, List, [], ◌++◌, length, get_or, take, set, replicate}
+use Rattle.std.proofs.Common.{arith, refl, sym, ap, ◌∙◌, inl, inr, ◌⊎◌}
 use Rattle.std.proofs.lemmas.Bool.{cases_lt, cases_eq}
 use Rattle.std.proofs.lemmas.List.{get_or-set_same, get_or-set_other, take_all, length-append, length-replicate}
 use Rattle.rfb_codec.specs.Choice.{IsPixelOf, places_of, IsBackground}
 use Rattle.rfb_codec.specs.inside.Background.{IsLed, IsRun}
-use Rattle.rfb_codec.proofs.PlacesLemmas.{run_counted, run_passed, is_pixel, has_place, places-append, copies_counted, copies_passed}
+use Rattle.rfb_codec.proofs.PlacesLemmas.{run_counted, run_passed, is_pixel, has_place, places-append, copies_counted}
+use Rattle.rfb_codec.proofs.PlacesLemmas.{copies_passed}
 use Rattle.rfb_codec.proofs.TallyLemmas.{Yields}
 
 -- its slot belongs to the pixel: at a slot stands the first place of its pixel and 1, or 0
@@ -15,7 +17,8 @@ pub record IsOwner (slot : ℕ → ℕ) (pixels firsts : List ℕ) (p : ℕ) : T
 -- the places before start are counted in the table, or stand aside; `most` of them have the best of
 -- those in the table
 pub record Tallied (slot : ℕ → ℕ) (pixels firsts counts aside : List ℕ) (start better most : ℕ) : Type 0 where
-  pub vacant : (p : ℕ) → get_or firsts (slot p) 0 ≡ 0 → (get_or counts (slot p) 0 ≡ 0) × (places_of p (take start pixels) ≡ 0)
+  pub vacant : (p : ℕ) → get_or firsts (slot p) 0 ≡ 0 →
+      (get_or counts (slot p) 0 ≡ 0) × (places_of p (take start pixels) ≡ 0)
   pub counted : (p : ℕ) → IsOwner slot pixels firsts p → get_or counts (slot p) 0 ≡ places_of p (take start pixels)
   pub yields : (p : ℕ) → IsOwner slot pixels firsts p → Yields (places_of p (take start pixels)) p most better
   pub other : (p : ℕ) → (IsOwner slot pixels firsts p → ⊥) → places_of p aside ≡ places_of p (take start pixels)
@@ -25,7 +28,8 @@ pub record Tallied (slot : ℕ → ℕ) (pixels firsts counts aside : List ℕ) 
   pub some : most ≤ places_of better (take start pixels)
   pub there : IsPixelOf pixels better
 
-cases_owner : (slot : ℕ → ℕ) (pixels firsts : List ℕ) (p : ℕ) → IsOwner slot pixels firsts p ⊎ (IsOwner slot pixels firsts p → ⊥)
+cases_owner : (slot : ℕ → ℕ) (pixels firsts : List ℕ) (p : ℕ) →
+    IsOwner slot pixels firsts p ⊎ (IsOwner slot pixels firsts p → ⊥)
 cases_owner slot pixels firsts p =
     elim (cases_lt 0 (get_or firsts (slot p) 0)) [
       | inl taken ↦
@@ -37,7 +41,9 @@ cases_owner slot pixels firsts p =
     ]
 
 -- nothing is counted
-pub tallied_none : (slot : ℕ → ℕ) (pixels firsts counts : List ℕ) → 0 < length pixels → ((s : ℕ) → get_or firsts s 0 ≡ 0) → ((s : ℕ) → get_or counts s 0 ≡ 0) → Tallied slot pixels firsts counts [] 0 (get_or pixels 0 0) 0
+pub tallied_none : (slot : ℕ → ℕ) (pixels firsts counts : List ℕ) →
+    0 < length pixels → ((s : ℕ) → get_or firsts s 0 ≡ 0) → ((s : ℕ) → get_or counts s 0 ≡ 0) →
+    Tallied slot pixels firsts counts [] 0 (get_or pixels 0 0) 0
 tallied_none slot pixels firsts counts some free zeros = record {
   vacant = λ p none. (zeros (slot p), refl);
   counted = λ p own. let none = free (slot p) in let taken = own.taken in absurd (omega arith);
@@ -51,14 +57,19 @@ tallied_none slot pixels firsts counts some free zeros = record {
 }
 
 -- a slot that none has goes to the pixel of the run that begins here
-pub slot_claimed : (slot : ℕ → ℕ) (pixels firsts counts aside : List ℕ) (start better most : ℕ) → start < length pixels → slot (get_or pixels start 0) < length firsts → get_or firsts (slot (get_or pixels start 0)) 0 ≡ 0 →
-    Tallied slot pixels firsts counts aside start better most → Tallied slot pixels (set firsts (slot (get_or pixels start 0)) (start + 1)) counts aside start better most
+pub slot_claimed : (slot : ℕ → ℕ) (pixels firsts counts aside : List ℕ) (start better most : ℕ) →
+    start < length pixels → slot (get_or pixels start 0) < length firsts →
+    get_or firsts (slot (get_or pixels start 0)) 0 ≡ 0 →
+    Tallied slot pixels firsts counts aside start better most →
+    Tallied slot pixels (set firsts (slot (get_or pixels start 0)) (start + 1)) counts aside start better most
 slot_claimed slot pixels firsts counts aside start better most below fits free old =
     let pixel = get_or pixels start 0 in
     let at = slot pixel in
     let after = set firsts at (start + 1) in
-    let here : (p : ℕ) → slot p ≡ at → get_or after (slot p) 0 ≡ start + 1 = λ p same. rw same (get_or-set_same firsts at (start + 1) 0 fits) in
-    let there : (p : ℕ) → slot p ≢ at → get_or after (slot p) 0 ≡ get_or firsts (slot p) 0 = λ p differ. get_or-set_other firsts at (slot p) (start + 1) 0 differ in
+    let here : (p : ℕ) → slot p ≡ at → get_or after (slot p) 0 ≡ start + 1 =
+    λ p same. rw same (get_or-set_same firsts at (start + 1) 0 fits) in
+    let there : (p : ℕ) → slot p ≢ at → get_or after (slot p) 0 ≡ get_or firsts (slot p) 0 =
+    λ p differ. get_or-set_other firsts at (slot p) (start + 1) 0 differ in
     let was_free : (p : ℕ) → slot p ≡ at → get_or firsts (slot p) 0 ≡ 0 = λ p same. rw same free in
     let owned : (p : ℕ) → slot p ≢ at → IsOwner slot pixels after p → IsOwner slot pixels firsts p =
     λ p differ own. record { taken = rw (there p differ) at own.taken; is = rw (there p differ) at own.is } in
@@ -72,12 +83,17 @@ slot_claimed slot pixels firsts counts aside start better most below fits free o
         | inr differ ↦ old.counted p (owned p differ own)
       ];
       yields = λ p own. elim (cases_eq (slot p) at) [
-        | inl same ↦ let was = old.vacant p (was_free p same) in (omega (arith, was.1), λ some tie. absurd (omega (arith, was.1, some)))
+        | inl same ↦
+            let was = old.vacant p (was_free p same) in
+            (omega (arith, was.1), λ some tie. absurd (omega (arith, was.1, some)))
         | inr differ ↦ old.yields p (owned p differ own)
       ];
       other = λ p not. elim (cases_eq (slot p) at) [
-        | inl same ↦ let free_here = was_free p same in old.other p (λ own. let taken = own.taken in absurd (omega arith))
-        | inr differ ↦ old.other p (λ own. not (record { taken = rw (there p differ) own.taken; is = rw (there p differ) own.is }))
+        | inl same ↦
+            let free_here = was_free p same in
+            old.other p (λ own. let taken = own.taken in absurd (omega arith))
+        | inr differ ↦
+            old.other p (λ own. not (record { taken = rw (there p differ) own.taken; is = rw (there p differ) own.is }))
       ];
       less = old.less;
       within = λ p. elim (cases_eq (slot p) at) [
@@ -91,11 +107,13 @@ slot_claimed slot pixels firsts counts aside start better most below fits free o
 
 -- the places of a run of one pixel, and those of others
 pub record Passed (pixels : List ℕ) (start end : ℕ) : Type 0 where
-  pub here : places_of (get_or pixels start 0) (take end pixels) ≡ places_of (get_or pixels start 0) (take start pixels) + (end - start)
+  pub here : places_of (get_or pixels start 0) (take end pixels)
+      ≡ places_of (get_or pixels start 0) (take start pixels) + (end - start)
   pub elsewhere : (p : ℕ) → p ≢ get_or pixels start 0 → places_of p (take end pixels) ≡ places_of p (take start pixels)
   pub grown : (p : ℕ) → places_of p (take start pixels) ≤ places_of p (take end pixels)
 
-pub passed : (pixels : List ℕ) (start end : ℕ) → start < end → end ≤ length pixels → IsRun pixels start end → Passed pixels start end
+pub passed : (pixels : List ℕ) (start end : ℕ) → start < end → end ≤ length pixels →
+    IsRun pixels start end → Passed pixels start end
 passed pixels start end some within run =
     let pixel = get_or pixels start 0 in
     let n = end - start in
@@ -103,7 +121,8 @@ passed pixels start end some within run =
     let counted_to = run_counted pixel pixels start n (omega arith) (λ k from below. run k from (omega arith)) in
     let here : places_of pixel (take end pixels) ≡ places_of pixel (take start pixels) + n = rw whole at counted_to in
     let elsewhere : (p : ℕ) → p ≢ pixel → places_of p (take end pixels) ≡ places_of p (take start pixels) =
-    λ p differ. rw whole at (run_passed p pixels start n (omega arith) (λ k from below same. differ (sym same ∙ run k from (omega arith)))) in
+    λ p differ. rw whole at (run_passed p pixels start n (omega arith)
+    (λ k from below same. differ (sym same ∙ run k from (omega arith)))) in
     record {
       here = here;
       elsewhere = elsewhere;
@@ -114,10 +133,17 @@ passed pixels start end some within run =
     }
 
 -- the run is counted at the slot of its pixel
-pub run_noted : (slot : ℕ → ℕ) (pixels firsts counts aside : List ℕ) (start end better most better' most' : ℕ) → start < end → end ≤ length pixels → IsRun pixels start end → slot (get_or pixels start 0) < length counts → IsOwner slot pixels firsts (get_or pixels start 0) →
-    most ≤ most' → (most ≡ most' → better' ≤ better) → most' ≤ places_of better' (take end pixels) → IsPixelOf pixels better' → Yields (get_or counts (slot (get_or pixels start 0)) 0 + (end - start)) (get_or pixels start 0) most' better' →
-    Tallied slot pixels firsts counts aside start better most → Tallied slot pixels firsts (set counts (slot (get_or pixels start 0)) (get_or counts (slot (get_or pixels start 0)) 0 + (end - start))) aside end better' most'
-run_noted slot pixels firsts counts aside start end better most better' most' some within run fits owner kept still led there yields old =
+pub run_noted : (slot : ℕ → ℕ) (pixels firsts counts aside : List ℕ) (start end better most better' most' : ℕ) →
+    start < end → end ≤ length pixels → IsRun pixels start end → slot (get_or pixels start 0) < length counts →
+    IsOwner slot pixels firsts (get_or pixels start 0) →
+    most ≤ most' → (most ≡ most' → better' ≤ better) →
+    most' ≤ places_of better' (take end pixels) → IsPixelOf pixels better' →
+    Yields (get_or counts (slot (get_or pixels start 0)) 0 + (end - start)) (get_or pixels start 0) most' better' →
+    Tallied slot pixels firsts counts aside start better most →
+    Tallied slot pixels firsts (set counts (slot (get_or pixels start 0))
+    (get_or counts (slot (get_or pixels start 0)) 0 + (end - start))) aside end better' most'
+run_noted slot pixels firsts counts aside start end better most better' most' some within run fits owner
+    kept still led there yields old =
     let pixel = get_or pixels start 0 in
     let at = slot pixel in
     let n = end - start in
@@ -128,10 +154,13 @@ run_noted slot pixels firsts counts aside start end better most better' most' so
     let now : places_of pixel (take end pixels) ≡ new = omega (arith, before, pass.here) in
     let apart : (p : ℕ) → p ≢ pixel → IsOwner slot pixels firsts p → slot p ≢ at =
     λ p differ own same. differ (sym own.is ∙ (rw same owner.is)) in
-    let unchanged : (p : ℕ) → slot p ≢ at → get_or after (slot p) 0 ≡ get_or counts (slot p) 0 = λ p differ. get_or-set_other counts at (slot p) new 0 differ in
+    let unchanged : (p : ℕ) → slot p ≢ at → get_or after (slot p) 0 ≡ get_or counts (slot p) 0 =
+    λ p differ. get_or-set_other counts at (slot p) new 0 differ in
     record {
       vacant = λ p none.
-          let differ : slot p ≢ at = λ same. let taken = owner.taken in let free : get_or firsts at 0 ≡ 0 = rw same at none in absurd (omega arith) in
+          let differ : slot p ≢ at = λ same. let taken = owner.taken in
+          let free : get_or firsts at 0 ≡ 0 = rw same at none in
+          absurd (omega arith) in
           let was = old.vacant p none in
           let not_pixel : p ≢ pixel = λ same. differ (ap slot same) in
           (unchanged p differ ∙ was.0, pass.elsewhere p not_pixel ∙ was.1);
@@ -164,31 +193,49 @@ run_noted slot pixels firsts counts aside start end better most better' most' so
     }
 
 -- the run is put aside
-pub run_aside : (slot : ℕ → ℕ) (pixels firsts counts aside : List ℕ) (start end better most : ℕ) → start < end → end ≤ length pixels → IsRun pixels start end → 0 < get_or firsts (slot (get_or pixels start 0)) 0 →
+pub run_aside : (slot : ℕ → ℕ) (pixels firsts counts aside : List ℕ) (start end better most : ℕ) → start < end →
+    end ≤ length pixels → IsRun pixels start end → 0 < get_or firsts (slot (get_or pixels start 0)) 0 →
     (IsOwner slot pixels firsts (get_or pixels start 0) → ⊥) →
-    Tallied slot pixels firsts counts aside start better most → Tallied slot pixels firsts counts (aside ++ replicate (end - start) (get_or pixels start 0)) end better most
+    Tallied slot pixels firsts counts aside start better most →
+    Tallied slot pixels firsts counts (aside ++ replicate (end - start) (get_or pixels start 0)) end better most
 run_aside slot pixels firsts counts aside start end better most some within run taken not_owner old =
     let pixel = get_or pixels start 0 in
     let n = end - start in
     let copies = replicate n pixel in
     let pass = passed pixels start end some within run in
-    let joined : (p : ℕ) → places_of p (aside ++ copies) ≡ places_of p aside + places_of p copies = λ p. places-append p aside copies in
-    let none : (p : ℕ) → p ≢ pixel → places_of p copies ≡ 0 = λ p differ. copies_passed p pixel n (λ same. differ (sym same)) in
+    let joined : (p : ℕ) → places_of p (aside ++ copies) ≡ places_of p aside + places_of p copies =
+    λ p. places-append p aside copies in
+    let none : (p : ℕ) → p ≢ pixel → places_of p copies ≡ 0 =
+    λ p differ. copies_passed p pixel n (λ same. differ (sym same)) in
     let all : places_of pixel copies ≡ n = copies_counted pixel n in
     record {
       vacant = λ p free.
           let was = old.vacant p free in
-          let not_pixel : p ≢ pixel = λ same. let here : get_or firsts (slot pixel) 0 ≡ 0 = rw same at free in absurd (omega arith) in
+          let not_pixel : p ≢ pixel = λ same. let here : get_or firsts (slot pixel) 0 ≡ 0 = rw same at free in
+          absurd (omega arith) in
           (was.0, pass.elsewhere p not_pixel ∙ was.1);
       counted = λ p own. old.counted p own ∙ sym (pass.elsewhere p (λ same. not_owner (rw same at own)));
       yields = λ p own. rw (pass.elsewhere p (λ same. not_owner (rw same at own))) (old.yields p own);
       other = λ p not. elim (cases_eq p pixel) [
-        | inl is ↦ let was = old.other pixel not_owner in let sum = joined pixel in rw is (omega (arith, was, sum, all, pass.here))
-        | inr differ ↦ let was = old.other p not in let sum = joined p in let zero_here = none p differ in let same = pass.elsewhere p differ in omega (arith, was, sum, zero_here, same)
+        | inl is ↦
+            let was = old.other pixel not_owner in
+            let sum = joined pixel in
+            rw is (omega (arith, was, sum, all, pass.here))
+        | inr differ ↦
+            let was = old.other p not in
+            let sum = joined p in
+            let zero_here = none p differ in
+            let same = pass.elsewhere p differ in
+            omega (arith, was, sum, zero_here, same)
       ];
       less = λ p. elim (cases_eq p pixel) [
         | inl is ↦ let was = old.less pixel in let sum = joined pixel in rw is (omega (arith, was, sum, all, pass.here))
-        | inr differ ↦ let was = old.less p in let sum = joined p in let zero_here = none p differ in let same = pass.elsewhere p differ in omega (arith, was, sum, zero_here, same)
+        | inr differ ↦
+            let was = old.less p in
+            let sum = joined p in
+            let zero_here = none p differ in
+            let same = pass.elsewhere p differ in
+            omega (arith, was, sum, zero_here, same)
       ];
       within = old.within;
       few = let was = old.few in simp (length-append, length-replicate) (omega arith);
@@ -197,16 +244,21 @@ run_aside slot pixels firsts counts aside start end better most some within run 
     }
 
 -- the best of those aside and of the table is the background
-pub background_found : (slot : ℕ → ℕ) (pixels firsts counts aside : List ℕ) (start better most result : ℕ) → length pixels ≤ start → Tallied slot pixels firsts counts aside start better most → IsLed aside better most result → IsBackground pixels result
+pub background_found : (slot : ℕ → ℕ) (pixels firsts counts aside : List ℕ) (start better most result : ℕ) →
+    length pixels ≤ start → Tallied slot pixels firsts counts aside start better most → IsLed aside better most result →
+    IsBackground pixels result
 background_found slot pixels firsts counts aside start better most result whole old led =
     let all : take start pixels ≡ pixels = take_all start pixels whole in
     let less : (p : ℕ) → places_of p aside ≤ places_of p pixels = λ p. rw all at (old.less p) in
     let some : most ≤ places_of better pixels = rw all at old.some in
     let enough : led.count ≤ places_of result pixels = elim led.from [
-      | inl l ↦ let at : places_of result pixels ≡ places_of better pixels = ap (λ (p : ℕ). places_of p pixels) l.0 in omega (arith, at, l.1, some)
+      | inl l ↦
+          let at : places_of result pixels ≡ places_of better pixels = ap (λ (p : ℕ). places_of p pixels) l.0 in
+          omega (arith, at, l.1, some)
       | inr l ↦ let at = less result in omega (arith, at, l.1)
     ] in
-    let each : (other : ℕ) → IsPixelOf pixels other → (places_of other pixels ≤ led.count) × (places_of other pixels ≡ led.count → result ≤ other) = λ other is.
+    let each : (other : ℕ) → IsPixelOf pixels other →
+    (places_of other pixels ≤ led.count) × (places_of other pixels ≡ led.count → result ≤ other) = λ other is.
     let place = has_place other pixels is in
     elim (cases_owner slot pixels firsts other) [
       | inl own ↦

@@ -17,7 +17,8 @@ use Rattle.rfb_wire.proofs.stream_laws.ReadingLaws.{reads_bad}
 use Rattle.rfb_codec.specs.declared.fault.PaintFault.{PaintFault}
 use Rattle.rfb_codec.specs.declared.fault.Flaw.{Flaw}
 use Rattle.rfb_codec.specs.declared.painter.stage.Stage.{Stage}
-use Rattle.rfb_codec.specs.declared.painter.stage.Stage.TheVariants.{BeforeSource, Copied, InPixels, BeforeHead, InSubrects, InTiles, InRawTile}
+use Rattle.rfb_codec.specs.declared.painter.stage.Stage.TheVariants.{BeforeSource, Copied, InPixels, BeforeHead}
+use Rattle.rfb_codec.specs.declared.painter.stage.Stage.TheVariants.{InSubrects, InTiles, InRawTile}
 use Rattle.rfb_codec.specs.RectData.{data_says, rect_data}
 use Rattle.rfb_codec.specs.Front.{ShowsFront}
 use Rattle.rfb_codec.specs.Hextile.{tile_count, tile_width, tile_height}
@@ -33,24 +34,28 @@ use Rattle.rfb_codec.proofs.VerdictLemmas.{whole_under, stage_ended, stage_waits
 module _ {X : Type 0} where
   same_items : (f : ℕ → X → X) (n : ℕ) (xs : List X) → ((i : ℕ) (old : X) → f i old ≡ old) → by_index f n xs ≡ xs
   same_items f n [] same = refl
-  same_items f n (x ∷ xs) same = ap (λ (y : X). y ∷ by_index f (n + 1) xs) (same n x) ∙ ap (λ (ys : List X). x ∷ ys) (same_items f (n + 1) xs same)
+  same_items f n (x ∷ xs) same =
+      ap (λ (y : X). y ∷ by_index f (n + 1) xs) (same n x) ∙ ap (λ (ys : List X). x ∷ ys) (same_items f (n + 1) xs same)
 
   -- a change that changes nothing
   unchanged : (f : ℕ → ℕ → X → X) (g : Grid X) → ((x y : ℕ) (old : X) → f x y old ≡ old) → g ≡ changed f g
   unfolding changed
-  unchanged f g same = ap (grid g.width g.height) (sym (same_items (λ i old. f (i % g.width) (i / g.width) old) 0 g.places (λ i old. same (i % g.width) (i / g.width) old)))
+  unchanged f g same = ap (grid g.width g.height) (sym (same_items (λ i old. f (i % g.width) (i / g.width) old) 0
+      g.places (λ i old. same (i % g.width) (i / g.width) old)))
 
 none_below : (b : Bool) (m : ℕ) (c old : Colour) → (if b && nat_lt m 0 then c else old) ≡ old
 none_below true m c old = let off : nat_lt m 0 ≡ false = grind (arith, nat_tests) in rw off refl
 none_below false m c old = refl
 
-pub fresh_stands : (f : PixelFormat) (rect : Rect) (encoding : Encoding) (picture : Grid Colour) → 0 < size_of f → StandsAt f rect (stage_of encoding) [] picture picture []
+pub fresh_stands : (f : PixelFormat) (rect : Rect) (encoding : Encoding) (picture : Grid Colour) → 0 < size_of f →
+    StandsAt f rect (stage_of encoding) [] picture picture []
 fresh_stands f rect Raw picture some =
     let none : 0 * rect.w + 0 ≡ 0 = omega arith in (
       [],
       rw none (record {
         spelled = record { whole = refl; size = omega arith; few = omega arith; short = some; ended = λ e. refl };
-        shows = unchanged _ picture (λ x y old. none_below (contains rect x y) ((y - rect.y) * rect.w + (x - rect.x)) _ old);
+        shows = unchanged _ picture
+            (λ x y old. none_below (contains rect x y) ((y - rect.y) * rect.w + (x - rect.x)) _ old);
       }),
     )
 fresh_stands f rect CopyRect picture some = record { spelled = (refl, omega arith); shows = refl }
@@ -71,7 +76,8 @@ fresh_pixel w s some = grind (arith, nat_tests)
 below_it : (a m : ℕ) → a < m → nat_lt a m ≡ true
 below_it a m p = grind (arith, nat_tests)
 
-pub fresh_sound : (f : PixelFormat) (rect : Rect) (encoding : Encoding) → 0 < size_of f → is_sound f rect (stage_of encoding) 0 ≡ true
+pub fresh_sound : (f : PixelFormat) (rect : Rect) (encoding : Encoding) → 0 < size_of f →
+    is_sound f rect (stage_of encoding) 0 ≡ true
 fresh_sound f rect Raw some = fresh_pixel rect.w (size_of f) some
 fresh_sound f rect CopyRect some = refl
 fresh_sound f rect Rre some = below_it 0 (4 + size_of f) (omega arith)
@@ -85,16 +91,25 @@ fresh_encoding Hextile = refl
 
 -- ---- step by step
 
-pub fed_none : (f : PixelFormat) (rect : Rect) (stage : Stage) (pending : List ℕ) (picture : Grid Colour) (bytes : List ℕ) → GoesOn f rect stage pending picture (take 0 bytes) stage pending picture
-fed_none f rect stage pending picture bytes = λ before body stands. subst (λ (ys : List ℕ). StandsAt f rect stage pending picture before ys) (sym (append-nil body)) stands
+pub fed_none : (f : PixelFormat) (rect : Rect) (stage : Stage) (pending : List ℕ) (picture : Grid Colour)
+    (bytes : List ℕ) → GoesOn f rect stage pending picture (take 0 bytes) stage pending picture
+fed_none f rect stage pending picture bytes = λ before body stands.
+    subst (λ (ys : List ℕ). StandsAt f rect stage pending picture before ys) (sym (append-nil body)) stands
 
-slices : (i n : ℕ) (body bytes slice : List ℕ) → slice ≡ drop i bytes → (body ++ take i bytes) ++ take n slice ≡ body ++ take (i + n) bytes
+slices : (i n : ℕ) (body bytes slice : List ℕ) → slice ≡ drop i bytes →
+    (body ++ take i bytes) ++ take n slice ≡ body ++ take (i + n) bytes
 slices i n body bytes slice is =
-    append_assoc body (take i bytes) (take n slice) ∙ ap (λ (ys : List ℕ). body ++ (take i bytes ++ take n ys)) is ∙ ap (λ (ys : List ℕ). body ++ ys) (sym (take_add i n bytes))
+    append_assoc body (take i bytes) (take n slice) ∙ ap (λ (ys : List ℕ). body ++ (take i bytes ++ take n ys)) is
+    ∙ ap (λ (ys : List ℕ). body ++ ys) (sym (take_add i n bytes))
 
-pub fed_more : (f : PixelFormat) (rect : Rect) (first stage next : Stage) (none pending rest : List ℕ) (old picture new : Grid Colour) (i n : ℕ) (bytes slice : List ℕ) → slice ≡ drop i bytes → GoesOn f rect first none old (take i bytes) stage pending picture → GoesOn f rect stage pending picture (take n slice) next rest new → GoesOn f rect first none old (take (i + n) bytes) next rest new
+pub fed_more : (f : PixelFormat) (rect : Rect) (first stage next : Stage) (none pending rest : List ℕ)
+    (old picture new : Grid Colour) (i n : ℕ) (bytes slice : List ℕ) →
+    slice ≡ drop i bytes → GoesOn f rect first none old (take i bytes) stage pending picture →
+    GoesOn f rect stage pending picture (take n slice) next rest new →
+    GoesOn f rect first none old (take (i + n) bytes) next rest new
 fed_more f rect first stage next none pending rest old picture new i n bytes slice is one two = λ before body stands.
-    subst (λ (ys : List ℕ). StandsAt f rect next rest new before ys) (slices i n body bytes slice is) (two before (body ++ take i bytes) (one before body stands))
+    subst (λ (ys : List ℕ). StandsAt f rect next rest new before ys) (slices i n body bytes slice is)
+    (two before (body ++ take i bytes) (one before body stands))
 
 pub stopped : (f : PixelFormat) (rect : Rect) (first stage : Stage) (none pending : List ℕ)
     (old picture new : Grid Colour) (i : ℕ) (bytes slice : List ℕ) (flaw : Flaw) → slice ≡ drop i bytes →
@@ -111,7 +126,8 @@ stopped f rect first stage none pending old picture new i bytes slice flaw is sa
     let bad = subst (λ (ys : List ℕ). rect_data f before.width before.height rect
     (encoding_at stage) ys ≡ Bad flaw.fault) (slices i (r.n + 1) body bytes slice is ∙ ap (λ
     (n : ℕ). body ++ take n bytes) last) r.bad in
-    let shows = subst (λ (ys : List ℕ). ShowsFront f rect (encoding_at stage) before ys r.pending new) (slices i r.n body bytes slice is) r.shows in
+    let shows = subst (λ (ys : List ℕ). ShowsFront f rect (encoding_at stage) before ys r.pending new)
+    (slices i r.n body bytes slice is) r.shows in
     let waits = subst (λ (ys : List ℕ). rect_data f before.width before.height rect (encoding_at stage) ys ≡ More)
     (slices i r.n body bytes slice is) w.waits in
     record {
@@ -130,14 +146,25 @@ stopped f rect first stage none pending old picture new i bytes slice flaw is sa
 -- ---- the same of steps
 
 module _ (r : Rectangle) (first : Stage) (none : List ℕ) (old : Grid Colour) where
-  pub reaches_none : (bytes : List ℕ) → is_sound r.format r.rect first (length none) ≡ true → Reaches r first none old (take 0 bytes) first none old
-  reaches_none bytes sound = record { sound = sound; same = refl; goes_on = fed_none r.format r.rect first none old bytes; width = refl; height = refl }
+  pub reaches_none : (bytes : List ℕ) → is_sound r.format r.rect first (length none) ≡ true →
+      Reaches r first none old (take 0 bytes) first none old
+  reaches_none bytes sound = record {
+    sound = sound;
+    same = refl;
+    goes_on = fed_none r.format r.rect first none old bytes;
+    width = refl;
+    height = refl;
+  }
 
-  pub reaches_more : (stage next : Stage) (pending rest : List ℕ) (picture new : Grid Colour) (i n : ℕ) (bytes slice : List ℕ) → slice ≡ drop i bytes → Reaches r first none old (take i bytes) stage pending picture → Reaches r stage pending picture (take n slice) next rest new → Reaches r first none old (take (i + n) bytes) next rest new
+  pub reaches_more : (stage next : Stage) (pending rest : List ℕ) (picture new : Grid Colour) (i n : ℕ)
+      (bytes slice : List ℕ) → slice ≡ drop i bytes → Reaches r first none old (take i bytes) stage pending picture →
+      Reaches r stage pending picture (take n slice) next rest new →
+      Reaches r first none old (take (i + n) bytes) next rest new
   reaches_more stage next pending rest picture new i n bytes slice is one two = record {
     sound = two.sound;
     same = two.same ∙ one.same;
-    goes_on = fed_more r.format r.rect first stage next none pending rest old picture new i n bytes slice is one.goes_on two.goes_on;
+    goes_on = fed_more r.format r.rect first stage next none pending rest old picture new i n bytes
+        slice is one.goes_on two.goes_on;
     width = two.width ∙ one.width;
     height = two.height ∙ one.height;
   }
@@ -160,24 +187,38 @@ module _ (r : Rectangle) (first : Stage) (none : List ℕ) (old : Grid Colour) w
 -- ---- a slice
 
 -- all of it shows the fault too
-pub refuses_all : (f : PixelFormat) (rect : Rect) (encoding : Encoding) (before : Grid Colour) (body bytes : List ℕ) (fault : PaintFault) (now : Grid Colour) → IsRefused f rect encoding before body bytes fault now → rect_data f before.width before.height rect encoding (body ++ bytes) ≡ Bad fault
+pub refuses_all : (f : PixelFormat) (rect : Rect) (encoding : Encoding) (before : Grid Colour) (body bytes : List ℕ)
+    (fault : PaintFault) (now : Grid Colour) → IsRefused f rect encoding before body bytes fault now →
+    rect_data f before.width before.height rect encoding (body ++ bytes) ≡ Bad fault
 refuses_all f rect encoding before body bytes fault now r =
     let n = r.n + 1 in
-    let more = reads_bad (rect_data f before.width before.height rect encoding) (data_says f before.width before.height rect encoding) (rect_data_reads f before.width before.height rect encoding) (body ++ take n bytes) (drop n bytes) fault r.bad in
-    subst (λ (ys : List ℕ). rect_data f before.width before.height rect encoding ys ≡ Bad fault) (append_assoc body (take n bytes) (drop n bytes) ∙ ap (λ (ys : List ℕ). body ++ ys) (take-append-drop n bytes)) more
+    let more = reads_bad (rect_data f before.width before.height rect encoding)
+    (data_says f before.width before.height rect encoding) (rect_data_reads f before.width before.height rect
+    encoding) (body ++ take n bytes) (drop n bytes) fault r.bad in
+    subst (λ (ys : List ℕ). rect_data f before.width before.height rect encoding ys ≡ Bad fault) (append_assoc body
+    (take n bytes) (drop n bytes) ∙ ap (λ (ys : List ℕ). body ++ ys) (take-append-drop n bytes)) more
 
 -- where they end, they are painted
-pub feed_paints : (f : PixelFormat) (rect : Rect) (stage next : Stage) (pending rest : List ℕ) (old new : Grid Colour) (bytes : List ℕ) → IsGrid old → is_ended rect next ≡ true → encoding_at next ≡ encoding_at stage → GoesOn f rect stage pending old bytes next rest new → Paints (record { rect = rect; form = f; stage = stage; pending = pending }) old bytes (record { rect = rect; form = f; stage = next; pending = rest }) new
+pub feed_paints : (f : PixelFormat) (rect : Rect) (stage next : Stage)
+    (pending rest : List ℕ) (old new : Grid Colour) (bytes : List ℕ) → IsGrid old → is_ended rect next ≡ true →
+    encoding_at next ≡ encoding_at stage → GoesOn f rect stage pending old bytes next rest new →
+    Paints (record { rect = rect; form = f; stage = stage; pending = pending }) old bytes
+    (record { rect = rect; form = f; stage = next; pending = rest }) new
 feed_paints f rect stage next pending rest old new bytes whole ended same goes = λ before body stands.
     let whole' = whole_under f rect stage pending old before body whole stands in
     let end = stage_ended f rect next rest new before (body ++ bytes) whole' ended (goes before body stands) in
     (end.contents, rw same at end.read, end.shows, end.none)
 
 -- and where they do not, more are waited for
-pub feed_waits : (f : PixelFormat) (rect : Rect) (stage next : Stage) (pending rest : List ℕ) (old new : Grid Colour) (used : ℕ) (bytes : List ℕ) → used ≡ length bytes → is_ended rect next ≡ false → is_sound f rect next (length rest) ≡ true → encoding_at next ≡ encoding_at stage → GoesOn f rect stage pending old (take used bytes) next rest new → Waits (record { rect = rect; form = f; stage = stage; pending = pending }) old bytes (record { rect = rect; form = f; stage = next; pending = rest }) new
+pub feed_waits : (f : PixelFormat) (rect : Rect) (stage next : Stage) (pending rest : List ℕ) (old new : Grid Colour)
+    (used : ℕ) (bytes : List ℕ) → used ≡ length bytes → is_ended rect next ≡ false → is_sound f rect next (length rest)
+    ≡ true → encoding_at next ≡ encoding_at stage → GoesOn f rect stage pending old (take used bytes) next rest new →
+    Waits (record { rect = rect; form = f; stage = stage; pending = pending }) old bytes
+    (record { rect = rect; form = f; stage = next; pending = rest }) new
 feed_waits f rect stage next pending rest old new used bytes all ended sound same goes = λ before body stands.
     let taken : take used bytes ≡ bytes = take_all used bytes (omega (arith, all)) in
-    let there = subst (λ (ys : List ℕ). StandsAt f rect next rest new before (body ++ ys)) taken (goes before body stands) in
+    let there =
+    subst (λ (ys : List ℕ). StandsAt f rect next rest new before (body ++ ys)) taken (goes before body stands) in
     let waits = stage_waits f rect next rest new before (body ++ bytes) ended sound there in
     (rw same at waits, there)
 
@@ -205,7 +246,8 @@ feed_shows f rect stage pending old new bytes flaw some within stops = λ before
     }
 
 -- with nothing pending a stage is as sound as before
-pub sound_empty : (f : PixelFormat) (rect : Rect) (stage : Stage) (n : ℕ) → is_sound f rect stage n ≡ true → is_sound f rect stage 0 ≡ true
+pub sound_empty : (f : PixelFormat) (rect : Rect) (stage : Stage) (n : ℕ) → is_sound f rect stage n ≡ true →
+    is_sound f rect stage 0 ≡ true
 sound_empty f rect BeforeSource n e = refl
 sound_empty f rect (Copied x y) n e = refl
 sound_empty f rect (InPixels at) n e = fewer n (size_of f) (rect.w == 0 || nat_lt at.x rect.w) e
@@ -215,7 +257,8 @@ sound_empty f rect (InPixels at) n e = fewer n (size_of f) (rect.w == 0 || nat_l
 sound_empty f rect BeforeHead n e = below_it 0 (4 + size_of f) (omega arith)
 sound_empty f rect (InSubrects left) n e = below_it 0 (size_of f + 8) (omega arith)
 sound_empty f rect (InTiles tile seen) n e = refl
-sound_empty f rect (InRawTile tile seen at) n e = fewer n (size_of f) (nat_lt tile (tile_count rect.w rect.h)) (nat_lt at.x (tile_width rect.w tile) && nat_lt at.y (tile_height rect.w rect.h tile)) e
+sound_empty f rect (InRawTile tile seen at) n e = fewer n (size_of f) (nat_lt tile (tile_count rect.w rect.h))
+    (nat_lt at.x (tile_width rect.w tile) && nat_lt at.y (tile_height rect.w rect.h tile)) e
   where
     fewer : (n s : ℕ) (a b : Bool) → (nat_lt n s && a && b) ≡ true → (nat_lt 0 s && a && b) ≡ true
     fewer n s a b e = grind (arith, nat_tests)

@@ -1,5 +1,6 @@
 -- Fronts of data with some bytes more.
-use Rattle.std.proofs.Common.{◌≡◌, ℕ, ◌+◌, ◌*◌, ◌<◌, ◌≤◌, List, [], ◌∷◌, ◌++◌, length, refl, sym, ◌∙◌, ap, arith, append-nil, append_assoc, length-append}
+use Rattle.std.proofs.Common.{◌≡◌, ℕ, ◌+◌, ◌*◌, ◌<◌, ◌≤◌, List, [], ◌∷◌, ◌++◌, length, refl, sym, ◌∙◌, ap, arith}
+use Rattle.std.proofs.Common.{append-nil, append_assoc, length-append}
 use Rattle.std.proofs.Math.Nat.{mul-le-mul_right}
 use Rattle.rfb_pixel.specs.Format.{PixelFormat, size_of}
 use Rattle.rfb_pixel.specs.declared.colour.Colour.{Colour}
@@ -19,7 +20,9 @@ run_within w h x y n wide high =
     omega (arith, rows)
 
 -- bytes of a pixel that is not whole yet
-pub pixel_waits : (f : PixelFormat) (all count : ℕ) (pixels pending more body : List ℕ) → SpellsPixels f all count pixels pending body → count < all → length (pending ++ more) < size_of f → SpellsPixels f all count pixels (pending ++ more) (body ++ more)
+pub pixel_waits : (f : PixelFormat) (all count : ℕ) (pixels pending more body : List ℕ) →
+    SpellsPixels f all count pixels pending body → count < all → length (pending ++ more) < size_of f →
+    SpellsPixels f all count pixels (pending ++ more) (body ++ more)
 pixel_waits f all count pixels pending more body s left short = record {
   whole = ap (λ (ys : List ℕ). ys ++ more) s.whole ∙ append_assoc pixels pending more;
   size = s.size;
@@ -29,9 +32,12 @@ pixel_waits f all count pixels pending more body s left short = record {
 }
 
 -- whole pixels more, of which the first bytes were pending
-pub pixels_end : (f : PixelFormat) (all count n : ℕ) (pixels pending more body : List ℕ) → SpellsPixels f all count pixels pending body → count + n ≤ all → 0 < size_of f → length (pending ++ more) ≡ n * size_of f → SpellsPixels f all (count + n) (pixels ++ (pending ++ more)) [] (body ++ more)
+pub pixels_end : (f : PixelFormat) (all count n : ℕ) (pixels pending more body : List ℕ) →
+    SpellsPixels f all count pixels pending body → count + n ≤ all → 0 < size_of f → length (pending ++ more)
+    ≡ n * size_of f → SpellsPixels f all (count + n) (pixels ++ (pending ++ more)) [] (body ++ more)
 pixels_end f all count n pixels pending more body s few some size = record {
-  whole = ap (λ (ys : List ℕ). ys ++ more) s.whole ∙ append_assoc pixels pending more ∙ sym (append-nil (pixels ++ (pending ++ more)));
+  whole = ap (λ (ys : List ℕ). ys ++ more) s.whole ∙ append_assoc pixels pending more
+      ∙ sym (append-nil (pixels ++ (pending ++ more)));
   size = let a = s.size in length-append pixels (pending ++ more) ∙ omega (arith, a, size);
   few = few;
   short = some;
@@ -39,20 +45,42 @@ pixels_end f all count n pixels pending more body s few some size = record {
 }
 
 -- pixels painted after those before a place
-pub walked_on : (f : PixelFormat) (rect : Rect) (at next : Place) (n : ℕ) (pending more run rest : List ℕ) (old new before : Grid Colour) (body : List ℕ) → StandsPixels f rect at pending old before body → places_before rect.w at + n ≤ rect.h * rect.w → 0 < size_of f → run ≡ pending ++ more → length run ≡ n * size_of f → rest ≡ [] → places_before rect.w next ≡ places_before rect.w at + n → PaintsRun f rect (places_before rect.w at) n run old new → StandsPixels f rect next rest new before (body ++ more)
-walked_on f rect at next n pending more run rest old new before body (pixels, s, shows) few some run_is size none count paints =
-    rw (count, none) (pixels ++ run, rw run_is (pixels_end f (rect.h * rect.w) (places_before rect.w at) n pixels pending more body s few some (rw run_is at size)), paints pixels before s.size shows)
+pub walked_on : (f : PixelFormat) (rect : Rect) (at next : Place) (n : ℕ) (pending more run rest : List ℕ)
+    (old new before : Grid Colour) (body : List ℕ) → StandsPixels f rect at pending old before body →
+    places_before rect.w at + n ≤ rect.h * rect.w → 0 < size_of f → run ≡ pending ++ more →
+    length run ≡ n * size_of f → rest ≡ [] → places_before rect.w next ≡ places_before rect.w at + n →
+    PaintsRun f rect (places_before rect.w at) n run old new → StandsPixels f rect next rest new before (body ++ more)
+walked_on f rect at next n pending more run rest old new before body (pixels, s, shows) few some
+    run_is size none count paints =
+    rw (count, none) (
+      pixels ++ run,
+      rw run_is (pixels_end f (rect.h * rect.w) (places_before rect.w at) n pixels pending more body s
+          few some (rw run_is at size)),
+      paints pixels before s.size shows,
+    )
 
 -- those of one row
-pub walked : (f : PixelFormat) (rect : Rect) (at next : Place) (n : ℕ) (pending more run rest : List ℕ) (old new before : Grid Colour) (body : List ℕ) → StandsPixels f rect at pending old before body → at.x + n ≤ rect.w → at.y < rect.h → 0 < size_of f → run ≡ pending ++ more → length run ≡ n * size_of f → rest ≡ [] → places_before rect.w next ≡ places_before rect.w at + n → PaintsRun f rect (places_before rect.w at) n run old new → StandsPixels f rect next rest new before (body ++ more)
+pub walked : (f : PixelFormat) (rect : Rect) (at next : Place) (n : ℕ) (pending more run rest : List ℕ)
+    (old new before : Grid Colour) (body : List ℕ) → StandsPixels f rect at pending old before body →
+    at.x + n ≤ rect.w → at.y < rect.h → 0 < size_of f → run ≡ pending ++ more → length run ≡ n * size_of f → rest ≡ [] →
+    places_before rect.w next ≡ places_before rect.w at + n → PaintsRun f rect (places_before rect.w at) n run old new →
+    StandsPixels f rect next rest new before (body ++ more)
 walked f rect at next n pending more run rest old new before body stands wide high =
-    walked_on f rect at next n pending more run rest old new before body stands (run_within rect.w rect.h at.x at.y n wide high)
+    walked_on f rect at next n pending more run rest old new before body stands
+    (run_within rect.w rect.h at.x at.y n wide high)
 
 -- or bytes of the next one
-pub walk_waits : (f : PixelFormat) (rect : Rect) (at : Place) (pending more rest : List ℕ) (now before : Grid Colour) (body : List ℕ) → StandsPixels f rect at pending now before body → at.x < rect.w → at.y < rect.h → rest ≡ pending ++ more → length rest < size_of f → StandsPixels f rect at rest now before (body ++ more)
+pub walk_waits : (f : PixelFormat) (rect : Rect) (at : Place) (pending more rest : List ℕ) (now before : Grid Colour)
+    (body : List ℕ) → StandsPixels f rect at pending now before body → at.x < rect.w → at.y < rect.h →
+    rest ≡ pending ++ more → length rest < size_of f → StandsPixels f rect at rest now before (body ++ more)
 walk_waits f rect at pending more rest now before body (pixels, s, shows) wide high is short =
     let few = run_within rect.w rect.h at.x at.y 1 (omega arith) high in
-    rw is (pixels, pixel_waits f (rect.h * rect.w) (places_before rect.w at) pixels pending more body s (omega (arith, few)) (rw is at short), shows)
+    rw is (
+      pixels,
+      pixel_waits f (rect.h * rect.w) (places_before rect.w at) pixels pending more body s
+          (omega (arith, few)) (rw is at short),
+      shows,
+    )
 
 pub no_items : {A : Type 0} (xs : List A) → length xs ≡ 0 → xs ≡ []
 no_items [] e = refl

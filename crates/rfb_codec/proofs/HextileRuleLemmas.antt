@@ -1,5 +1,6 @@
 -- A tile by the rule of Hextile: there is one at most, how long it is, and when it is raw.
-use Rattle.std.proofs.Common.{◌≡◌, ◌≢◌, ℕ, ◌+◌, ◌*◌, ◌/◌, ◌<◌, ◌≤◌, ◌⊎◌, inl, inr, List, [], ◌∷◌, ◌++◌, length, map, min, slice_index, Option, Some, None, if◌then◌else◌, refl, sym, subst, ◌∙◌, ap, arith}
+use Rattle.std.proofs.Common.{◌≡◌, ◌≢◌, ℕ, ◌+◌, ◌*◌, ◌/◌, ◌<◌, ◌≤◌, ◌⊎◌, inl, inr, List, [], ◌∷◌, ◌++◌, length, map}
+use Rattle.std.proofs.Common.{min, slice_index, Option, Some, None, if◌then◌else◌, refl, sym, subst, ◌∙◌, ap, arith}
 use Rattle.std.proofs.Math.Nat.{mul-le-mul_right}
 use Rattle.std.specs.List.{flat_map}
 use Rattle.std.proofs.lemmas.List.{length-map}
@@ -12,7 +13,8 @@ use Rattle.rfb_codec.specs.declared.choice.palette.Palette.TheVariants.{One, Two
 use Rattle.rfb_codec.specs.Raw.{raw_length}
 use Rattle.rfb_codec.specs.Choice.{IsPixelOf, places_of, IsBackground, AreRuleSubs}
 use Rattle.rfb_codec.specs.Tile.{Tile, PlainTile, ColoredTile, rect_in}
-use Rattle.rfb_codec.specs.HextileRule.{Held, named_in, IsOnePixel, IsTwoPixels, HasThird, IsManyPixels, IsDrawn, colour_length, parts_length, tile_length, IsRuleTile}
+use Rattle.rfb_codec.specs.HextileRule.{Held, named_in, IsOnePixel, IsTwoPixels, HasThird, IsManyPixels, IsDrawn}
+use Rattle.rfb_codec.specs.HextileRule.{colour_length, parts_length, tile_length, IsRuleTile}
 use Rattle.rfb_codec.specs.inside.Background.{HasMore}
 use Rattle.rfb_codec.specs.inside.Cover.{IsGivenUp}
 use Rattle.rfb_codec.specs.inside.Palette.{HasPalette}
@@ -30,7 +32,8 @@ one_background b pixels some each =
     let only : (other : ℕ) → IsPixelOf pixels other → b ≡ other = λ other is. sym (is.2 ∙ each is.0 is.1) in
     record {
       there = (0, some, sym (each 0 some));
-      most = λ other is. let same = only other is in subst (λ o. places_of o pixels ≤ places_of b pixels) same (omega arith);
+      most = λ other is. let same = only other is in
+          subst (λ o. places_of o pixels ≤ places_of b pixels) same (omega arith);
       least = λ other is tied. let same = only other is in omega (arith, same);
     }
 
@@ -40,7 +43,9 @@ two_background b g pixels (has, other, both, more) = record {
   there = has;
   most = λ p there. elim (both there.0 there.1) [
     | inl e ↦ let same : p ≡ b = there.2 ∙ e in rw same (omega arith)
-    | inr e ↦ let same : p ≡ g = there.2 ∙ e in rw same (elim more [ inl less ↦ omega (arith, less) | inr tie ↦ omega (arith, tie.0) ])
+    | inr e ↦
+        let same : p ≡ g = there.2 ∙ e in
+        rw same (elim more [ inl less ↦ omega (arith, less) | inr tie ↦ omega (arith, tie.0) ])
   ];
   least = λ p there equal. elim (both there.0 there.1) [
     | inl e ↦ let same : p ≡ b = there.2 ∙ e in omega (arith, same)
@@ -55,12 +60,15 @@ two_background b g pixels (has, other, both, more) = record {
 pub two_differ : (b g : ℕ) (pixels : List ℕ) → HasPalette (Two b g) pixels → g ≢ b
 two_differ b g pixels (has, other, both, more) same =
     elim more [
-      | inl less ↦ let as_many : places_of g pixels ≡ places_of b pixels = rw same refl in absurd (omega (arith, less, as_many))
+      | inl less ↦
+          let as_many : places_of g pixels ≡ places_of b pixels = rw same refl in
+          absurd (omega (arith, less, as_many))
       | inr tie ↦ omega (arith, tie.1, same)
     ]
 
 -- where all places have one of two pixels there is no third
-no_third : (b g : ℕ) (pixels : List ℕ) → ((i : ℕ) → i < length pixels → (slice_index pixels i ≡ b) ⊎ (slice_index pixels i ≡ g)) → HasThird pixels → ⊥
+no_third : (b g : ℕ) (pixels : List ℕ) →
+    ((i : ℕ) → i < length pixels → (slice_index pixels i ≡ b) ⊎ (slice_index pixels i ≡ g)) → HasThird pixels → ⊥
 no_third b g pixels both t =
     elim (each t.first t.has_first) [
       | inl f ↦ elim (each t.second t.has_second) [
@@ -77,15 +85,18 @@ no_third b g pixels both t =
     each p there = elim (both there.0 there.1) [ inl e ↦ inl (there.2 ∙ e) | inr e ↦ inr (there.2 ∙ e) ]
 
 -- nor a second where all have one
-no_second : (b p q : ℕ) (pixels : List ℕ) → ((i : ℕ) → i < length pixels → slice_index pixels i ≡ b) → IsPixelOf pixels p → IsPixelOf pixels q → p ≢ q → ⊥
-no_second b p q pixels all first second differ = differ ((first.2 ∙ all first.0 first.1) ∙ sym (second.2 ∙ all second.0 second.1))
+no_second : (b p q : ℕ) (pixels : List ℕ) → ((i : ℕ) → i < length pixels → slice_index pixels i ≡ b) →
+    IsPixelOf pixels p → IsPixelOf pixels q → p ≢ q → ⊥
+no_second b p q pixels all first second differ =
+    differ ((first.2 ∙ all first.0 first.1) ∙ sym (second.2 ∙ all second.0 second.1))
 
 -- ---- one tile
 
 module _ (w h : ℕ) (pixels : List ℕ) (held : Held) where
   two_same : (t u : Tile) → IsTwoPixels w h pixels held t → IsTwoPixels w h pixels held u → t ≡ u
   two_same t u one two =
-      let b : one.background ≡ two.background = same_background pixels one.background two.background one.chosen two.chosen in
+      let b : one.background ≡ two.background =
+      same_background pixels one.background two.background one.chosen two.chosen in
       let g : one.foreground ≡ two.foreground =
       elim (two.both one.there.0 one.there.1) [
         | inl e ↦ absurd (one.differ ((one.there.2 ∙ e) ∙ sym b))
@@ -93,11 +104,13 @@ module _ (w h : ℕ) (pixels : List ℕ) (held : Held) where
       ] in
       let rule = subst (λ (p : ℕ). AreRuleSubs w h pixels p one.subs) b one.rule in
       let subs : one.subs ≡ two.subs = same_subs w h pixels two.background one.subs two.subs rule two.rule in
-      one.tile_is ∙ ((λ i. PlainTile (named_in held.background (b i)) (named_in held.foreground (g i)) (map rect_in (subs i))) ∙ sym two.tile_is)
+      one.tile_is ∙ ((λ i. PlainTile (named_in held.background (b i)) (named_in held.foreground (g i))
+      (map rect_in (subs i))) ∙ sym two.tile_is)
 
   many_same : (t u : Tile) → IsManyPixels w h pixels held t → IsManyPixels w h pixels held u → t ≡ u
   many_same t u one two =
-      let b : one.background ≡ two.background = same_background pixels one.background two.background one.chosen two.chosen in
+      let b : one.background ≡ two.background =
+      same_background pixels one.background two.background one.chosen two.chosen in
       let rule = subst (λ (p : ℕ). AreRuleSubs w h pixels p one.subs) b one.rule in
       let subs : one.subs ≡ two.subs = same_subs w h pixels two.background one.subs two.subs rule two.rule in
       one.tile_is ∙ ((λ i. ColoredTile (named_in held.background (b i)) (subs i)) ∙ sym two.tile_is)
@@ -108,10 +121,12 @@ module _ (w h : ℕ) (pixels : List ℕ) (held : Held) where
       one.tile_is ∙ ((λ i. PlainTile (named_in held.background (b i)) None []) ∙ sym two.tile_is)
 
   one_two : (t u : Tile) → IsOnePixel pixels held t → IsTwoPixels w h pixels held u → ⊥
-  one_two t u one two = no_second one.background two.foreground two.background pixels one.all two.there two.chosen.there two.differ
+  one_two t u one two =
+      no_second one.background two.foreground two.background pixels one.all two.there two.chosen.there two.differ
 
   one_many : (t u : Tile) → IsOnePixel pixels held t → IsManyPixels w h pixels held u → ⊥
-  one_many t u one many = no_second one.background many.more.first many.more.second pixels one.all many.more.has_first many.more.has_second many.more.differ
+  one_many t u one many = no_second one.background many.more.first many.more.second pixels one.all many.more.has_first
+      many.more.has_second many.more.differ
 
   two_many : (t u : Tile) → IsTwoPixels w h pixels held t → IsManyPixels w h pixels held u → ⊥
   two_many t u two many = no_third two.background two.foreground pixels two.both many.more
@@ -127,10 +142,17 @@ module _ (w h : ℕ) (pixels : List ℕ) (held : Held) where
   drawn_same t u some (inr (inr a)) (inr (inl b)) = absurd (two_many u t b a)
   drawn_same t u some (inr (inr a)) (inr (inr b)) = many_same t u a b
 
-  pub rule_same : (f : PixelFormat) (t u : Tile) → 0 < length pixels → IsRuleTile f w h pixels held t → IsRuleTile f w h pixels held u → t ≡ u
+  pub rule_same : (f : PixelFormat) (t u : Tile) → 0 < length pixels → IsRuleTile f w h pixels held t →
+      IsRuleTile f w h pixels held u → t ≡ u
   rule_same f t u some (inl a) (inl b) = drawn_same t u some a.drawn b.drawn
-  rule_same f t u some (inl a) (inr b) = let no = b.no_shorter t a.drawn in let less = a.shorter in absurd (omega (arith, no, less))
-  rule_same f t u some (inr a) (inl b) = let no = a.no_shorter u b.drawn in let less = b.shorter in absurd (omega (arith, no, less))
+  rule_same f t u some (inl a) (inr b) =
+      let no = b.no_shorter t a.drawn in
+      let less = a.shorter in
+      absurd (omega (arith, no, less))
+  rule_same f t u some (inr a) (inl b) =
+      let no = a.no_shorter u b.drawn in
+      let less = b.shorter in
+      absurd (omega (arith, no, less))
   rule_same f t u some (inr a) (inr b) = a.tile_is ∙ sym b.tile_is
 
 -- ---- its length
@@ -139,15 +161,18 @@ colour_is : (f : PixelFormat) (colour : Option ℕ) → colour_length f colour �
 colour_is f None = refl
 colour_is f (Some colour) = sym (length-pixel_bytes f colour)
 
-parts_are : (size : ℕ) (subs : List Subrect) → parts_length size subs ≡ (if are_some subs then 1 + length subs * size else 0)
+parts_are : (size : ℕ) (subs : List Subrect) →
+    parts_length size subs ≡ (if are_some subs then 1 + length subs * size else 0)
 parts_are size [] = refl
 parts_are size (s ∷ subs) = refl
 
-places_are : (subs : List Subrect) → parts_length 2 (map rect_in subs) ≡ (if are_some subs then 1 + length subs * 2 else 0)
+places_are : (subs : List Subrect) →
+    parts_length 2 (map rect_in subs) ≡ (if are_some subs then 1 + length subs * 2 else 0)
 places_are [] = refl
 places_are (s ∷ subs) = let size = length-map subs rect_in in omega (arith, size)
 
-pub tile_length_is : (f : PixelFormat) (layout : TileLayout) (pixels : List ℕ) (subs : List Subrect) → tile_length f (tile_of f layout pixels subs) ≡ length (tile_bytes f layout pixels subs)
+pub tile_length_is : (f : PixelFormat) (layout : TileLayout) (pixels : List ℕ) (subs : List Subrect) →
+    tile_length f (tile_of f layout pixels subs) ≡ length (tile_bytes f layout pixels subs)
 tile_length_is f Raw pixels subs = omega arith
 tile_length_is f (Plain background foreground) pixels subs =
     let all = length-spelled_plain f background foreground pixels subs in
@@ -168,71 +193,93 @@ places_sent : (subs : List Subrect) → counted_bytes own_place subs ≡ counted
 places_sent [] = refl
 places_sent (s ∷ subs) =
     let count : length (s ∷ subs) ≡ length (map rect_in (s ∷ subs)) = sym (length-map (s ∷ subs) rect_in) in
-    let places : flat_map own_place (s ∷ subs) ≡ flat_map place_bytes (map rect_in (s ∷ subs)) = sym (flat_map-map place_bytes rect_in (s ∷ subs)) in
+    let places : flat_map own_place (s ∷ subs) ≡ flat_map place_bytes (map rect_in (s ∷ subs)) =
+    sym (flat_map-map place_bytes rect_in (s ∷ subs)) in
     λ i. count i ∷ places i
 
 -- the bytes of a layout are those that its tile is sent as
-pub sent_is : (f : PixelFormat) (layout : TileLayout) (pixels : List ℕ) (subs : List Subrect) → tile_bytes f layout pixels subs ≡ sent_as f (tile_of f layout pixels subs)
+pub sent_is : (f : PixelFormat) (layout : TileLayout) (pixels : List ℕ) (subs : List Subrect) →
+    tile_bytes f layout pixels subs ≡ sent_as f (tile_of f layout pixels subs)
 sent_is f Raw pixels subs = refl
 sent_is f (Plain background foreground) pixels [] = refl
-sent_is f (Plain background foreground) pixels (s ∷ subs) = ap (λ (places : List ℕ). mask_of (Plain background foreground) (s ∷ subs) ∷ (colour_bytes f background ++ (colour_bytes f foreground ++ places))) (places_sent (s ∷ subs))
+sent_is f (Plain background foreground) pixels (s ∷ subs) =
+    ap (λ (places : List ℕ). mask_of (Plain background foreground) (s ∷ subs)
+    ∷ (colour_bytes f background ++ (colour_bytes f foreground ++ places))) (places_sent (s ∷ subs))
 sent_is f (Colored background) pixels subs = refl
 
 -- ---- drawn tiles that are no shorter than raw
 
 -- more subrectangles than the limit have at least the bytes of the pixels
-long_parts : {A : Type 0} (size room limit : ℕ) (parts : List A) → 0 < size → limit ≡ min 255 (room / size) → limit + 1 ≤ length parts → length parts < 256 → 1 + room ≤ parts_length size parts
+long_parts : {A : Type 0} (size room limit : ℕ) (parts : List A) → 0 < size → limit ≡ min 255 (room / size) →
+    limit + 1 ≤ length parts → length parts < 256 → 1 + room ≤ parts_length size parts
 long_parts size room limit [] some is more few = absurd (omega (arith, more))
 long_parts size room limit (part ∷ parts) some is more few =
     let over = over_limit room size (room / size) (length (part ∷ parts)) some refl (omega (arith, is, more, few)) in
     omega (arith, over)
 
-module _ (f : PixelFormat) (w h : ℕ) (pixels : List ℕ) (held : Held) (whole : length pixels ≡ h * w) (small : length pixels ≤ 256) where
+module _ (f : PixelFormat) (w h : ℕ) (pixels : List ℕ) (held : Held) (whole : length pixels ≡ h * w)
+    (small : length pixels ≤ 256) where
   -- two pixels, of which too many subrectangles would be needed
-  pub two_no_shorter : (b g limit : ℕ) (some : List Subrect) → HasPalette (Two b g) pixels → limit ≡ min 255 (raw_length f w h / 2) → IsGivenUp w h pixels b limit some →
+  pub two_no_shorter : (b g limit : ℕ) (some : List Subrect) → HasPalette (Two b g) pixels →
+      limit ≡ min 255 (raw_length f w h / 2) → IsGivenUp w h pixels b limit some →
       (drawn : Tile) → IsDrawn w h pixels held drawn → 1 + raw_length f w h ≤ tile_length f drawn
-  two_no_shorter b g limit some palette is given drawn (inl one) = absurd (no_second one.background g b pixels one.all palette.1 palette.0 (two_differ b g pixels palette))
+  two_no_shorter b g limit some palette is given drawn (inl one) =
+      absurd (no_second one.background g b pixels one.all palette.1 palette.0 (two_differ b g pixels palette))
   two_no_shorter b g limit some palette is given drawn (inr (inl two)) =
-      let same : two.background ≡ b = same_background pixels two.background b two.chosen (two_background b g pixels palette) in
+      let same : two.background ≡ b =
+      same_background pixels two.background b two.chosen (two_background b g pixels palette) in
       let rule = subst (λ (p : ℕ). AreRuleSubs w h pixels p two.subs) same two.rule in
-      let more = fewer w h pixels b [] some two.subs given.x given.y given.column given.row given.each rule.each given.left rule.none in
+      let more = fewer w h pixels b [] some two.subs given.x given.y given.column given.row given.each
+      rule.each given.left rule.none in
       let few = few_subs w h pixels two.background two.subs whole two.chosen.there two.rule in
       let full = given.full in
       let size = length-map two.subs rect_in in
-      let long = long_parts 2 (raw_length f w h) limit (map rect_in two.subs) (omega arith) is (omega (arith, more, full, size)) (omega (arith, few, whole, small, size)) in
+      let long = long_parts 2 (raw_length f w h) limit (map rect_in two.subs) (omega arith) is
+      (omega (arith, more, full, size)) (omega (arith, few, whole, small, size)) in
       let length_is = ap (tile_length f) two.tile_is in
       omega (arith, long, length_is)
-  two_no_shorter b g limit some palette is given drawn (inr (inr many)) = absurd (no_third b g pixels palette.2 many.more)
+  two_no_shorter b g limit some palette is given drawn (inr (inr many)) =
+      absurd (no_third b g pixels palette.2 many.more)
 
   -- more, which need more subrectangles than that
   many_long : (limit : ℕ) → HasThird pixels → limit ≡ min 255 (raw_length f w h / (size_of f + 2)) →
-      ((background : ℕ) (subs : List Subrect) → IsBackground pixels background → AreRuleSubs w h pixels background subs → limit + 1 ≤ length subs) →
+      ((background : ℕ) (subs : List Subrect) → IsBackground pixels background →
+      AreRuleSubs w h pixels background subs → limit + 1 ≤ length subs) →
       (drawn : Tile) → IsDrawn w h pixels held drawn → 1 + raw_length f w h ≤ tile_length f drawn
-  many_long limit third is more drawn (inl one) = absurd (no_second one.background third.first third.second pixels one.all third.has_first third.has_second third.differ)
-  many_long limit third is more drawn (inr (inl two)) = absurd (no_third two.background two.foreground pixels two.both third)
+  many_long limit third is more drawn (inl one) = absurd (no_second one.background third.first third.second pixels
+      one.all third.has_first third.has_second third.differ)
+  many_long limit third is more drawn (inr (inl two)) =
+      absurd (no_third two.background two.foreground pixels two.both third)
   many_long limit third is more drawn (inr (inr many)) =
       let few = few_subs w h pixels many.background many.subs whole many.chosen.there many.rule in
-      let long = long_parts (size_of f + 2) (raw_length f w h) limit many.subs (omega arith) is (more many.background many.subs many.chosen many.rule) (omega (arith, few, whole, small)) in
+      let long = long_parts (size_of f + 2) (raw_length f w h) limit many.subs (omega arith) is
+      (more many.background many.subs many.chosen many.rule) (omega (arith, few, whole, small)) in
       let length_is = ap (tile_length f) many.tile_is in
       omega (arith, long, length_is)
 
-  pub many_pixels_long : (limit : ℕ) → HasThird pixels → limit ≡ min 255 (raw_length f w h / (size_of f + 2)) → HasMore (limit + 1) pixels →
+  pub many_pixels_long : (limit : ℕ) → HasThird pixels → limit ≡ min 255 (raw_length f w h / (size_of f + 2)) →
+      HasMore (limit + 1) pixels →
       (drawn : Tile) → IsDrawn w h pixels held drawn → 1 + raw_length f w h ≤ tile_length f drawn
-  many_pixels_long limit third is more = many_long limit third is (λ background subs chosen rule. enough_subs w h pixels background subs (limit + 1) whole rule more)
+  many_pixels_long limit third is more = many_long limit third is
+      (λ background subs chosen rule. enough_subs w h pixels background subs (limit + 1) whole rule more)
 
-  pub many_subs_long : (limit background : ℕ) (some : List Subrect) → HasThird pixels → limit ≡ min 255 (raw_length f w h / (size_of f + 2)) → IsBackground pixels background →
-      IsGivenUp w h pixels background limit some → (drawn : Tile) → IsDrawn w h pixels held drawn → 1 + raw_length f w h ≤ tile_length f drawn
+  pub many_subs_long : (limit background : ℕ) (some : List Subrect) → HasThird pixels →
+      limit ≡ min 255 (raw_length f w h / (size_of f + 2)) → IsBackground pixels background →
+      IsGivenUp w h pixels background limit some → (drawn : Tile) → IsDrawn w h pixels held drawn →
+      1 + raw_length f w h ≤ tile_length f drawn
   many_subs_long limit background some third is chosen given =
       many_long limit third is
       (λ other subs plain rule.
       let same : other ≡ background = same_background pixels other background plain chosen in
       let here = subst (λ (p : ℕ). AreRuleSubs w h pixels p subs) same rule in
-      let more = fewer w h pixels background [] some subs given.x given.y given.column given.row given.each here.each given.left here.none in
+      let more = fewer w h pixels background [] some subs given.x given.y given.column given.row given.each
+      here.each given.left here.none in
       let full = given.full in
       omega (arith, more, full))
 
 -- a tile that is drawn, and no shorter than raw: neither is any other
-pub raw_where_drawn_is_long : (f : PixelFormat) (w h : ℕ) (pixels : List ℕ) (held : Held) (tile : Tile) → 0 < length pixels → IsDrawn w h pixels held tile → 1 + raw_length f w h ≤ tile_length f tile →
+pub raw_where_drawn_is_long : (f : PixelFormat) (w h : ℕ) (pixels : List ℕ) (held : Held) (tile : Tile) →
+    0 < length pixels → IsDrawn w h pixels held tile → 1 + raw_length f w h ≤ tile_length f tile →
     (drawn : Tile) → IsDrawn w h pixels held drawn → 1 + raw_length f w h ≤ tile_length f drawn
 raw_where_drawn_is_long f w h pixels held tile some is long drawn other =
     let same = ap (tile_length f) (drawn_same w h pixels held tile drawn some is other) in

@@ -1,5 +1,6 @@
 -- Laws of painting: where pixels are read from, and what a picture is after each of them.
-use Rattle.std.proofs.Common.{◌≡◌, ℕ, ◌+◌, ◌-◌, ◌*◌, ◌<◌, ◌≤◌, List, length, take, drop, arith, refl, sym, ap, ◌∙◌, Bool, true, false, if◌then◌else◌, ◌||◌}
+use Rattle.std.proofs.Common.{◌≡◌, ℕ, ◌+◌, ◌-◌, ◌*◌, ◌<◌, ◌≤◌, List, length, take, drop, arith, refl, sym, ap, ◌∙◌}
+use Rattle.std.proofs.Common.{Bool, true, false, if◌then◌else◌, ◌||◌}
 use Rattle.std.specs.Prelude.{slice_index_or}
 use Rattle.std.proofs.lemmas.List.{drop-drop, drop-take}
 use Rattle.std.proofs.Math.Nat.{mul-le-mul_right}
@@ -9,7 +10,8 @@ use Rattle.rfb_pixel.proofs.FormatLaws.{pixel_number-take}
 use Rattle.rfb_picture.specs.declared.rect.Rect.{Rect}
 use Rattle.rfb_picture.specs.Rect.{contains}
 use Rattle.rfb_picture.specs.Grid.{Grid, IsGrid, at_or, with_row}
-use Rattle.rfb_picture.proofs.GridLaws.{at-changed, changed_twice, contains_more, contains_true, height-changed, same_changes, same_grid, whole-changed, width-changed}
+use Rattle.rfb_picture.proofs.GridLaws.{at-changed, changed_twice, contains_more, contains_true, height-changed}
+use Rattle.rfb_picture.proofs.GridLaws.{same_changes, same_grid, whole-changed, width-changed}
 use Rattle.rfb_codec.specs.Pixels.{drawn}
 use Rattle.rfb_codec.specs.Raw.{raw_pixel}
 use Rattle.rfb_codec.specs.RectData.{replaced}
@@ -19,20 +21,26 @@ use Rattle.rfb_codec.proofs.PixelLaws.{at-drawn}
 -- ---- pixels
 
 -- a pixel of a part of the bytes is a pixel of all of them
-pub pixel_number-part : (f : PixelFormat) (bytes : List ℕ) (start size n : ℕ) → n + size_of f ≤ size → pixel_number f (drop n (take size (drop start bytes))) ≡ pixel_number f (drop (start + n) bytes)
+pub pixel_number-part : (f : PixelFormat) (bytes : List ℕ) (start size n : ℕ) → n + size_of f ≤ size →
+    pixel_number f (drop n (take size (drop start bytes))) ≡ pixel_number f (drop (start + n) bytes)
 pixel_number-part f bytes start size n within =
     let rest = size - n in
     let split : n + rest ≡ size = omega arith in
-    let part : drop n (take size (drop start bytes)) ≡ take rest (drop n (drop start bytes)) = ap (λ (m : ℕ). drop n (take m (drop start bytes))) (sym split) ∙ drop-take n rest (drop start bytes) in
-    ap (pixel_number f) part ∙ pixel_number-take f (drop n (drop start bytes)) rest (omega arith) ∙ ap (pixel_number f) (drop-drop n start bytes)
+    let part : drop n (take size (drop start bytes)) ≡ take rest (drop n (drop start bytes)) =
+    ap (λ (m : ℕ). drop n (take m (drop start bytes))) (sym split) ∙ drop-take n rest (drop start bytes) in
+    ap (pixel_number f) part ∙ pixel_number-take f (drop n (drop start bytes)) rest (omega arith)
+    ∙ ap (pixel_number f) (drop-drop n start bytes)
 
 -- a pixel of a row, which has a part of the bytes for itself, is the rectangle's pixel there
-pub pixel_of_row : (f : PixelFormat) (bytes : List ℕ) (n k w n' w' size part : ℕ) → n' ≡ n → w' ≡ w → size ≡ size_of f → part ≡ w' * size → k < w → pixel_number f (drop (k * size_of f) (take part (drop (n' * (w' * size)) bytes))) ≡ raw_pixel f w bytes k n
+pub pixel_of_row : (f : PixelFormat) (bytes : List ℕ) (n k w n' w' size part : ℕ) →
+    n' ≡ n → w' ≡ w → size ≡ size_of f → part ≡ w' * size → k < w →
+    pixel_number f (drop (k * size_of f) (take part (drop (n' * (w' * size)) bytes))) ≡ raw_pixel f w bytes k n
 pixel_of_row f bytes n k w n' w' size part rows columns sizes parts below =
     let within : (k + 1) * size_of f ≤ w * size_of f = mul-le-mul_right (size_of f) (omega arith) in
     let place : n' * (w' * size) + k * size_of f ≡ (n * w + k) * size_of f = rw (rows, columns, sizes) (omega arith) in
     let enough : k * size_of f + size_of f ≤ part = rw (parts, columns, sizes) (omega arith) in
-    pixel_number-part f bytes (n' * (w' * size)) part (k * size_of f) enough ∙ ap (λ (m : ℕ). pixel_number f (drop m bytes)) place
+    pixel_number-part f bytes (n' * (w' * size)) part (k * size_of f) enough
+    ∙ ap (λ (m : ℕ). pixel_number f (drop m bytes)) place
 
 -- ---- pictures
 
@@ -41,7 +49,8 @@ either true u v w same = same refl
 either false u v w same = refl
 
 -- its colours over a rectangle are what the block makes of a picture
-pub over_drawn : (f : PixelFormat) (rect : Rect) (c : ℕ → ℕ → ℕ) (g : Grid Colour) → IsGrid g → over rect (λ x y. colour_of f (c x y)) g ≡ replaced f rect (drawn rect.w rect.h c) g
+pub over_drawn : (f : PixelFormat) (rect : Rect) (c : ℕ → ℕ → ℕ) (g : Grid Colour) → IsGrid g →
+    over rect (λ x y. colour_of f (c x y)) g ≡ replaced f rect (drawn rect.w rect.h c) g
 over_drawn f rect c g whole =
     same_changes _ _ g whole
     (λ x y d p q. either (contains rect x y) _ _ (at_or g x y d)
@@ -54,22 +63,27 @@ pub over_none : (rect : Rect) (c : ℕ → ℕ → Colour) (g : Grid Colour) →
 over_none rect c g whole =
     let none = record rect { h = 0 } in
     let drawing = λ (x y : ℕ) (old : Colour). if contains none x y then c (x - rect.x) (y - rect.y) else old in
-    same_grid g (over none c g) whole (whole-changed drawing g whole) (sym (width-changed drawing g)) (sym (height-changed drawing g))
-    (λ x y d p q. sym (at-changed drawing g x y d whole p q ∙ unseen (contains none x y) _ _ (λ e. let h = contains_true none x y e in absurd (omega arith))))
+    same_grid g (over none c g) whole (whole-changed drawing g whole) (sym (width-changed drawing g))
+    (sym (height-changed drawing g))
+    (λ x y d p q. sym (at-changed drawing g x y d whole p q
+    ∙ unseen (contains none x y) _ _ (λ e. let h = contains_true none x y e in absurd (omega arith))))
   where
     unseen : (b : Bool) (c old : Colour) → (b ≡ true → ⊥) → (if b then c else old) ≡ old
     unseen true c old never = absurd (never refl)
     unseen false c old never = refl
 
 -- a place of one more row: what was written there, or what was painted before
-painted_place : (first row : Bool) (written c old : Colour) → (row ≡ true → written ≡ c) → (if row then written else (if first then c else old)) ≡ (if first || row then c else old)
+painted_place : (first row : Bool) (written c old : Colour) → (row ≡ true → written ≡ c) →
+    (if row then written else (if first then c else old)) ≡ (if first || row then c else old)
 painted_place true true written c old same = same refl
 painted_place true false written c old same = refl
 painted_place false true written c old same = same refl
 painted_place false false written c old same = refl
 
 -- with one row more written it is painted over one row more
-pub over_more : (rect : Rect) (n : ℕ) (c : ℕ → ℕ → Colour) (row : List Colour) (g : Grid Colour) → IsGrid g → length row ≡ rect.w → ((k : ℕ) (d : Colour) → k < rect.w → slice_index_or row k d ≡ c k n) → with_row rect.x (rect.y + n) row (over (record rect { h = n }) c g) ≡ over (record rect { h = n + 1 }) c g
+pub over_more : (rect : Rect) (n : ℕ) (c : ℕ → ℕ → Colour) (row : List Colour) (g : Grid Colour) →
+    IsGrid g → length row ≡ rect.w → ((k : ℕ) (d : Colour) → k < rect.w → slice_index_or row k d ≡ c k n) →
+    with_row rect.x (rect.y + n) row (over (record rect { h = n }) c g) ≡ over (record rect { h = n + 1 }) c g
 over_more rect n c row g whole len each =
     changed_twice _ _ g
     ∙ same_changes _ _ g whole
@@ -78,7 +92,8 @@ over_more rect n c row g whole len each =
     let first = contains (record rect { h = n }) x y in
     let in_row = contains (record { x = rect.x; y = rect.y + n; w = rect.w; h = 1 }) x y in
     let before = if first then c (x - rect.x) (y - rect.y) else old in
-    let place : (if in_row then slice_index_or row (x - rect.x) before else before) ≡ (if first || in_row then c (x - rect.x) (y - rect.y) else old) =
+    let place : (if in_row then slice_index_or row (x - rect.x) before else before)
+    ≡ (if first || in_row then c (x - rect.x) (y - rect.y) else old) =
     painted_place first in_row (slice_index_or row (x - rect.x) before) (c (x - rect.x) (y - rect.y)) old
     (λ e.
     let h = contains_true (record { x = rect.x; y = rect.y + n; w = rect.w; h = 1 }) x y e in

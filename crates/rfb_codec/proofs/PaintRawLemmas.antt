@@ -12,4 +12,5 @@ use Rattle.rfb_codec.specs.Raw.{raw, raw_length, raw_pixel}
 pub raw_short : (f : PixelFormat) (w h : ℕ) (bytes : List ℕ) → length bytes < raw_length f w h → raw f w h bytes ≡ More
 unfolding raw
 raw_short f w h bytes fewer =
-    ap (continue_with {F = PaintFault} (λ part. done (drawn w h (raw_pixel f w part)))) (piece_short (raw_length f w h) bytes fewer)
+    ap (continue_with {F = PaintFault} (λ part. done (drawn w h (raw_pixel f w part))))
+    (piece_short (raw_length f w h) bytes fewer)

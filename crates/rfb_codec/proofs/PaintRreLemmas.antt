@@ -1,6 +1,7 @@
 -- Laws of RRE data that are painted: what a run of subrectangles is read as, and what is shown after
 -- each of them.
-use Rattle.std.proofs.Common.{◌≡◌, ℕ, ◌+◌, ◌-◌, ◌<◌, ◌≤◌, List, [], ◌∷◌, ◌++◌, length, take, drop, arith, refl, sym, ap, ◌∙◌, Bool, true, false, if◌then◌else◌, ◌&&◌}
+use Rattle.std.proofs.Common.{◌≡◌, ℕ, ◌+◌, ◌-◌, ◌<◌, ◌≤◌, List, [], ◌∷◌, ◌++◌, length, take, drop, arith, refl, sym, ap}
+use Rattle.std.proofs.Common.{◌∙◌, Bool, true, false, if◌then◌else◌, ◌&&◌}
 use Rattle.std.proofs.lemmas.List.{drop-drop, take_rest}
 use Rattle.std.proofs.lemmas.Bool.Decides.{nat_tests}
 use Rattle.byteorder.specs.Endian.{big_number}
@@ -29,12 +30,17 @@ abbrev u16_after : List ℕ → ℕ → ℕ
 u16_after bytes n = big_number 2 (take (length bytes - n) (drop n bytes))
 
 -- what is read of its bytes at their offsets
-pub subrect_read : (f : PixelFormat) (bytes : List ℕ) (size pixel x y w h : ℕ) → size ≡ size_of f → pixel ≡ pixel_number f (take size bytes) → x ≡ u16_after bytes size → y ≡ u16_after bytes (size + 2) → w ≡ u16_after bytes (size + 4) → h ≡ u16_after bytes (size + 6) → ◌≡◌ {A = Subrect} (record { pixel = pixel; rect = record { x = x; y = y; w = w; h = h } }) (subrect_of f bytes)
+pub subrect_read : (f : PixelFormat) (bytes : List ℕ) (size pixel x y w h : ℕ) →
+    size ≡ size_of f → pixel ≡ pixel_number f (take size bytes) → x ≡ u16_after bytes size →
+    y ≡ u16_after bytes (size + 2) → w ≡ u16_after bytes (size + 4) → h ≡ u16_after bytes (size + 6) →
+    ◌≡◌ {A = Subrect} (record { pixel = pixel; rect = record { x = x; y = y; w = w; h = h } }) (subrect_of f bytes)
 subrect_read f bytes size pixel x y w h size_is pixel_is x_is y_is w_is h_is =
     let at : (n m : ℕ) → n ≡ u16_after bytes (size + m) → n ≡ big_number 2 (drop m (drop (size_of f) bytes)) = λ n m is.
-    is ∙ ap (big_number 2) (take_rest bytes (size + m) ∙ sym (drop-drop m size bytes) ∙ ap (λ (k : ℕ). drop m (drop k bytes)) size_is) in
+    is ∙ ap (big_number 2) (take_rest bytes (size + m) ∙ sym (drop-drop m size bytes)
+    ∙ ap (λ (k : ℕ). drop m (drop k bytes)) size_is) in
     let pixel' : pixel ≡ pixel_number f bytes = pixel_is ∙ pixel_number-take f bytes size (omega arith) in
-    let x' : x ≡ big_number 2 (drop (size_of f) bytes) = x_is ∙ ap (big_number 2) (take_rest bytes size ∙ ap (λ (k : ℕ). drop k bytes) size_is) in
+    let x' : x ≡ big_number 2 (drop (size_of f) bytes) =
+    x_is ∙ ap (big_number 2) (take_rest bytes size ∙ ap (λ (k : ℕ). drop k bytes) size_is) in
     let y' = at y 2 y_is in
     let w' = at w 4 w_is in
     let h' = at h 6 h_is in
@@ -47,23 +53,29 @@ abbrev pub moved : Rect → Rect → Rect
 moved rect s = record { x = rect.x + s.x; y = rect.y + s.y; w = s.w; h = s.h }
 
 -- it holds the places of the other that it holds there
-moved_is : (rect s : Rect) (x y : ℕ) → IsOnScreen rect.w rect.h s → contains (moved rect s) x y ≡ (contains rect x y && contains s (x - rect.x) (y - rect.y))
+moved_is : (rect s : Rect) (x y : ℕ) → IsOnScreen rect.w rect.h s →
+    contains (moved rect s) x y ≡ (contains rect x y && contains s (x - rect.x) (y - rect.y))
 moved_is rect s x y on =
     let right : s.x + s.w ≤ rect.w = on.0 in
     let low : s.y + s.h ≤ rect.h = on.1 in
     grind (arith, nat_tests)
 
-both : {A : Type 0} (a b : Bool) (u v old : A) → (if a && b then u else (if a then v else old)) ≡ (if a then (if b then u else v) else old)
+both : {A : Type 0} (a b : Bool) (u v old : A) →
+    (if a && b then u else (if a then v else old)) ≡ (if a then (if b then u else v) else old)
 both true true u v old = refl
 both true false u v old = refl
 both false b u v old = refl
 
 -- a subrectangle inside a rectangle of the picture has its places in the picture
-pub moved_inside : (rect s : Rect) (width height : ℕ) → IsOnScreen width height rect → IsOnScreen rect.w rect.h s → IsOnScreen width height (moved rect s)
+pub moved_inside : (rect s : Rect) (width height : ℕ) → IsOnScreen width height rect → IsOnScreen rect.w rect.h s →
+    IsOnScreen width height (moved rect s)
 moved_inside rect s width height outer inner = (omega (arith, outer.0, inner.0), omega (arith, outer.1, inner.1))
 
 -- one subrectangle more is filled over those before it
-pub over_filled : (f : PixelFormat) (rect : Rect) (b : ℕ) (subs : List Subrect) (s : Subrect) (g : Grid Colour) → IsGrid g → IsOnScreen rect.w rect.h s.rect → filled (moved rect s.rect) (colour_of f s.pixel) (over rect (λ x y. colour_of f (pixel_at b subs x y)) g) ≡ over rect (λ x y. colour_of f (pixel_at b (subs ++ s ∷ []) x y)) g
+pub over_filled : (f : PixelFormat) (rect : Rect) (b : ℕ) (subs : List Subrect) (s : Subrect) (g : Grid Colour) →
+    IsGrid g → IsOnScreen rect.w rect.h s.rect →
+    filled (moved rect s.rect) (colour_of f s.pixel) (over rect (λ x y. colour_of f (pixel_at b subs x y)) g)
+    ≡ over rect (λ x y. colour_of f (pixel_at b (subs ++ s ∷ []) x y)) g
 over_filled f rect b subs s g whole on =
     changed_twice _ _ g
     ∙ same_changes _ _ g whole
@@ -71,9 +83,11 @@ over_filled f rect b subs s g whole on =
     let old = at_or g x y d in
     let here = contains s.rect (x - rect.x) (y - rect.y) in
     let before = pixel_at b subs (x - rect.x) (y - rect.y) in
-    let last : colour_of f (pixel_at b (subs ++ s ∷ []) (x - rect.x) (y - rect.y)) ≡ (if here then colour_of f s.pixel else colour_of f before) =
+    let last : colour_of f (pixel_at b (subs ++ s ∷ []) (x - rect.x) (y - rect.y))
+    ≡ (if here then colour_of f s.pixel else colour_of f before) =
     ap (colour_of f) (pixel_at-last b subs s (x - rect.x) (y - rect.y)) ∙ by here s.pixel before in
-    ap (λ (t : Bool). if t then colour_of f s.pixel else (if contains rect x y then colour_of f before else old)) (moved_is rect s.rect x y on)
+    ap (λ (t : Bool). if t then colour_of f s.pixel else (if contains rect x y then colour_of f before else old))
+    (moved_is rect s.rect x y on)
     ∙ both (contains rect x y) here (colour_of f s.pixel) (colour_of f before) old
     ∙ ap (λ (k : Colour). if contains rect x y then k else old) (sym last))
   where
@@ -91,5 +105,7 @@ shown_over w h background subs = continue_with (λ (all : List Subrect). done (d
 pub rre_short : (f : PixelFormat) (w h : ℕ) (bytes : List ℕ) → length bytes < 4 + size_of f → rre f w h bytes ≡ More
 unfolding rre
 rre_short f w h bytes fewer =
-    ap (λ (part : Next (List ℕ) PaintFault). continue_with (λ (head : RreHead). λ (rest : List ℕ). shown_over w h head.background (many head.count (subrect f w h) rest)) (continue_with (λ (xs : List ℕ). done (rre_head_of f xs)) part))
+    ap (λ (part : Next (List ℕ) PaintFault). continue_with (λ (head : RreHead). λ (rest : List ℕ). shown_over w
+    h head.background (many head.count (subrect f w h) rest))
+    (continue_with (λ (xs : List ℕ). done (rre_head_of f xs)) part))
     (piece_short {F = PaintFault} (4 + size_of f) bytes fewer)

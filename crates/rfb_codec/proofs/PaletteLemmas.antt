@@ -1,5 +1,6 @@
 -- Counts of the places of two pixels.
-use Rattle.std.proofs.Common.{◌≡◌, ◌≢◌, ℕ, suc, ◌+◌, ◌<◌, ◌≤◌, ◌⊎◌, zero, inl, inr, List, true, false, length, nat_eq, get_or, slice_index, take, arith, refl}
+use Rattle.std.proofs.Common.{◌≡◌, ◌≢◌, ℕ, suc, ◌+◌, ◌<◌, ◌≤◌, ◌⊎◌, zero, inl, inr, List, true, false, length, nat_eq}
+use Rattle.std.proofs.Common.{get_or, slice_index, take, arith, refl}
 use Rattle.std.proofs.lemmas.List.Sums.{count_by_more_yes, count_by_more_no}
 use Rattle.std.proofs.lemmas.List.{take_all}
 use Rattle.std.proofs.lemmas.Bool.{cases_lt}
@@ -9,7 +10,9 @@ use Rattle.rfb_codec.specs.Choice.{places_of}
 use Rattle.rfb_codec.specs.inside.Palette.{IsMoreFrequent}
 
 -- where each place has one of two, the places of both are all: first of the first `n`
-counted_up_to : (a b n : ℕ) (pixels : List ℕ) → a ≢ b → ((i : ℕ) → i < length pixels → (slice_index pixels i ≡ a) ⊎ (slice_index pixels i ≡ b)) → n ≤ length pixels → places_of a (take n pixels) + places_of b (take n pixels) ≡ n
+counted_up_to : (a b n : ℕ) (pixels : List ℕ) → a ≢ b →
+    ((i : ℕ) → i < length pixels → (slice_index pixels i ≡ a) ⊎ (slice_index pixels i ≡ b)) → n ≤ length pixels →
+    places_of a (take n pixels) + places_of b (take n pixels) ≡ n
 counted_up_to a b zero pixels differ each within = refl
 counted_up_to a b (suc n) pixels differ each within =
     let below : n < length pixels = omega arith in
@@ -30,14 +33,18 @@ counted_up_to a b (suc n) pixels differ each within =
           rw next (omega (arith, before, more_a, more_b))
     ]
 
-two_counted : (a b : ℕ) (pixels : List ℕ) → a ≢ b → ((i : ℕ) → i < length pixels → (slice_index pixels i ≡ a) ⊎ (slice_index pixels i ≡ b)) → places_of a pixels + places_of b pixels ≡ length pixels
+two_counted : (a b : ℕ) (pixels : List ℕ) → a ≢ b →
+    ((i : ℕ) → i < length pixels → (slice_index pixels i ≡ a) ⊎ (slice_index pixels i ≡ b)) →
+    places_of a pixels + places_of b pixels ≡ length pixels
 two_counted a b pixels differ each =
     let all : take (length pixels) pixels ≡ pixels = take_all (length pixels) pixels (omega arith) in
     rw all at (counted_up_to a b (length pixels) pixels differ each (omega arith))
 
 -- the first is the background
-pub first_is_more : (first second firsts seconds : ℕ) (pixels : List ℕ) → first ≢ second → ((i : ℕ) → i < length pixels → (slice_index pixels i ≡ first) ⊎ (slice_index pixels i ≡ second)) →
-    seconds ≡ places_of second pixels → firsts + seconds ≡ length pixels → Leads firsts first seconds second → IsMoreFrequent first second pixels
+pub first_is_more : (first second firsts seconds : ℕ) (pixels : List ℕ) → first ≢ second →
+    ((i : ℕ) → i < length pixels → (slice_index pixels i ≡ first) ⊎ (slice_index pixels i ≡ second)) →
+    seconds ≡ places_of second pixels → firsts + seconds ≡ length pixels → Leads firsts first seconds second →
+    IsMoreFrequent first second pixels
 first_is_more first second firsts seconds pixels differ each counted both more =
     let all = two_counted first second pixels differ each in
     elim more [
@@ -46,8 +53,10 @@ first_is_more first second firsts seconds pixels differ each counted both more =
     ]
 
 -- the second is the background
-pub second_is_more : (first second firsts seconds : ℕ) (pixels : List ℕ) → first ≢ second → ((i : ℕ) → i < length pixels → (slice_index pixels i ≡ first) ⊎ (slice_index pixels i ≡ second)) →
-    seconds ≡ places_of second pixels → firsts + seconds ≡ length pixels → firsts ≤ seconds → (firsts ≡ seconds → second ≤ first) → IsMoreFrequent second first pixels
+pub second_is_more : (first second firsts seconds : ℕ) (pixels : List ℕ) → first ≢ second →
+    ((i : ℕ) → i < length pixels → (slice_index pixels i ≡ first) ⊎ (slice_index pixels i ≡ second)) →
+    seconds ≡ places_of second pixels → firsts + seconds ≡ length pixels → firsts ≤ seconds →
+    (firsts ≡ seconds → second ≤ first) → IsMoreFrequent second first pixels
 second_is_more first second firsts seconds pixels differ each counted both most tied =
     let all = two_counted first second pixels differ each in
     elim (cases_lt firsts seconds) [

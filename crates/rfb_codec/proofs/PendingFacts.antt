@@ -15,12 +15,14 @@ abbrev row : ℕ → Rect
 row w = record { x = 0; y = 0; w = w; h = 1 }
 
 -- a tile of 16 by 1 with a background, one subrectangle and its pixel; it is whole at its sixth byte
-a_coloured_tile : byte_by_byte (data_pending bgr233 (row 17) Hextile) [] (26 ∷ 16 ∷ 1 ∷ 32 ∷ 0 ∷ 0 ∷ []) ≡ 1 ∷ 2 ∷ 3 ∷ 4 ∷ 5 ∷ 0 ∷ []
+a_coloured_tile : byte_by_byte (data_pending bgr233 (row 17) Hextile) [] (26 ∷ 16 ∷ 1 ∷ 32 ∷ 0 ∷ 0 ∷ [])
+    ≡ 1 ∷ 2 ∷ 3 ∷ 4 ∷ 5 ∷ 0 ∷ []
 unfolding data_pending
 a_coloured_tile = refl
 
 -- a second tile that asks for nothing is whole at its mask
-a_tile_of_its_mask_alone : byte_by_byte (data_pending bgr233 (row 33) Hextile) [] (2 ∷ 16 ∷ 0 ∷ 2 ∷ 48 ∷ []) ≡ 1 ∷ 0 ∷ 0 ∷ 1 ∷ 0 ∷ []
+a_tile_of_its_mask_alone : byte_by_byte (data_pending bgr233 (row 33) Hextile) [] (2 ∷ 16 ∷ 0 ∷ 2 ∷ 48 ∷ [])
+    ≡ 1 ∷ 0 ∷ 0 ∷ 1 ∷ 0 ∷ []
 unfolding data_pending
 a_tile_of_its_mask_alone = refl
 
@@ -37,7 +39,8 @@ a_source : byte_by_byte (data_pending bgr233 (row 2) CopyRect) [] (0 ∷ 1 ∷ 0
 unfolding data_pending
 a_source = refl
 
-a_background_and_a_subrectangle : byte_by_byte (data_pending bgr233 (row 2) Rre) [] (0 ∷ 0 ∷ 0 ∷ 1 ∷ 16 ∷ 32 ∷ 0 ∷ 0 ∷ 0 ∷ 0 ∷ 0 ∷ 1 ∷ 0 ∷ 1 ∷ []) ≡ 1 ∷ 2 ∷ 3 ∷ 4 ∷ 0 ∷ 1 ∷ 2 ∷ 3 ∷ 4 ∷ 5 ∷ 6 ∷ 7 ∷ 8 ∷ 0 ∷ []
+a_background_and_a_subrectangle : byte_by_byte (data_pending bgr233 (row 2) Rre) [] (0 ∷ 0 ∷ 0 ∷ 1 ∷ 16 ∷ 32 ∷ 0 ∷ 0 ∷ 0
+    ∷ 0 ∷ 0 ∷ 1 ∷ 0 ∷ 1 ∷ []) ≡ 1 ∷ 2 ∷ 3 ∷ 4 ∷ 0 ∷ 1 ∷ 2 ∷ 3 ∷ 4 ∷ 5 ∷ 6 ∷ 7 ∷ 8 ∷ 0 ∷ []
 unfolding data_pending
 a_background_and_a_subrectangle = refl
 
@@ -45,7 +48,8 @@ inside : UpdatePoint
 inside = record { width = 4; height = 1; form = rgb565; left = 1 }
 
 -- a head, and a pixel and a half after it
-a_rectangle : byte_by_byte (update_pending inside) [] (0 ∷ 0 ∷ 0 ∷ 0 ∷ 0 ∷ 2 ∷ 0 ∷ 1 ∷ 0 ∷ 0 ∷ 0 ∷ 0 ∷ 7 ∷ 56 ∷ 2 ∷ []) ≡ 1 ∷ 2 ∷ 3 ∷ 4 ∷ 5 ∷ 6 ∷ 7 ∷ 8 ∷ 9 ∷ 10 ∷ 11 ∷ 0 ∷ 1 ∷ 0 ∷ 1 ∷ []
+a_rectangle : byte_by_byte (update_pending inside) [] (0 ∷ 0 ∷ 0 ∷ 0 ∷ 0 ∷ 2 ∷ 0 ∷ 1 ∷ 0 ∷ 0 ∷ 0 ∷ 0 ∷ 7 ∷ 56 ∷ 2 ∷ [])
+    ≡ 1 ∷ 2 ∷ 3 ∷ 4 ∷ 5 ∷ 6 ∷ 7 ∷ 8 ∷ 9 ∷ 10 ∷ 11 ∷ 0 ∷ 1 ∷ 0 ∷ 1 ∷ []
 unfolding update_pending data_pending inside
 a_rectangle = refl
 

@@ -1,5 +1,7 @@
 -- Laws of the bytes of pixels, one after another.
-use Rattle.std.proofs.Common.{◌≡◌, ℕ, zero, suc, ◌+◌, ◌-◌, ◌*◌, ◌%◌, ◌^◌, ◌<◌, ◌≤◌, List, [], ◌∷◌, ◌++◌, Bool, true, false, cond, length, take, drop, slice_index, arith, ap, ◌∙◌, sym, append-nil, length-append, append_assoc}
+use Rattle.std.proofs.Common.{◌≡◌, ℕ, zero, suc, ◌+◌, ◌-◌, ◌*◌, ◌%◌, ◌^◌, ◌<◌, ◌≤◌, List, [], ◌∷◌, ◌++◌, Bool, true}
+use Rattle.std.proofs.Common.{false, cond, length, take, drop, slice_index, arith, ap, ◌∙◌, sym, append-nil}
+use Rattle.std.proofs.Common.{length-append, append_assoc}
 use Rattle.std.proofs.Math.Nat.{mod-eq_of_lt, mul-le-mul_right}
 use Rattle.std.proofs.Math.Seq.{take-add}
 use Rattle.std.proofs.lemmas.List.{drop_at, drop-drop, take_more, get_or_default, length-take-le, length-drop}
@@ -25,16 +27,23 @@ length-pixel_bytes f pixel = ordered f.big_endian
     ordered false = length-bytes_low_first 0 (size_of f) pixel
 
 -- one pixel more after those that are written
-pub pixels_more : (f : PixelFormat) (pixels bytes part : List ℕ) (i size k : ℕ) → size ≡ size_of f → i < length pixels → i * size ≤ length bytes → part ≡ pixel_bytes f (slice_index pixels i) → take (i * size) bytes ≡ flat_map (pixel_bytes f) (take i pixels) → take ((i + 1) * size) (put_mid (i * size) k bytes part) ≡ flat_map (pixel_bytes f) (take (i + 1) pixels)
+pub pixels_more : (f : PixelFormat) (pixels bytes part : List ℕ) (i size k : ℕ) →
+    size ≡ size_of f → i < length pixels → i * size ≤ length bytes →
+    part ≡ pixel_bytes f (slice_index pixels i) → take (i * size) bytes ≡ flat_map (pixel_bytes f) (take i pixels) →
+    take ((i + 1) * size) (put_mid (i * size) k bytes part) ≡ flat_map (pixel_bytes f) (take (i + 1) pixels)
 pixels_more f pixels bytes part i size k e within room is before =
     let long : length part ≡ size = ap length is ∙ length-pixel_bytes f (slice_index pixels i) ∙ sym e in
     let end : (i + 1) * size ≡ i * size + length part = omega (arith, long) in
-    let one : flat_map (pixel_bytes f) (slice_index pixels i ∷ []) ≡ part = append-nil (pixel_bytes f (slice_index pixels i)) ∙ sym is in
+    let one : flat_map (pixel_bytes f) (slice_index pixels i ∷ []) ≡ part =
+    append-nil (pixel_bytes f (slice_index pixels i)) ∙ sym is in
     take-put_mid (i * size) k bytes part ((i + 1) * size) end room
-    ∙ sym (ap (flat_map (pixel_bytes f)) (take_more pixels i 0 within) ∙ flat_map-append (pixel_bytes f) (take i pixels) (slice_index pixels i ∷ []) ∙ ap (λ (rest : List ℕ). flat_map (pixel_bytes f) (take i pixels) ++ rest) one ∙ ap (λ (front : List ℕ). front ++ part) (sym before))
+    ∙ sym (ap (flat_map (pixel_bytes f)) (take_more pixels i 0 within) ∙ flat_map-append (pixel_bytes f) (take i pixels)
+    (slice_index pixels i ∷ []) ∙ ap (λ (rest : List ℕ). flat_map (pixel_bytes f) (take i pixels) ++ rest) one
+    ∙ ap (λ (front : List ℕ). front ++ part) (sym before))
 
 -- how many bytes pixels have
-pub length-pixels : (f : PixelFormat) (pixels : List ℕ) → length (flat_map (pixel_bytes f) pixels) ≡ length pixels * size_of f
+pub length-pixels : (f : PixelFormat) (pixels : List ℕ) →
+    length (flat_map (pixel_bytes f) pixels) ≡ length pixels * size_of f
 length-pixels f [] = omega arith
 length-pixels f (p ∷ pixels) =
     let more = length-pixels f pixels in
@@ -42,34 +51,40 @@ length-pixels f (p ∷ pixels) =
     rw length-append (omega (arith, more, here))
 
 -- after the bytes of the pixels before it, a pixel is read
-pub pixel_number-pixels : (f : PixelFormat) (pixels : List ℕ) (i : ℕ) → i < length pixels → pixel_number f (drop (i * size_of f) (flat_map (pixel_bytes f) pixels)) ≡ slice_index pixels i % 2 ^ (8 * size_of f)
+pub pixel_number-pixels : (f : PixelFormat) (pixels : List ℕ) (i : ℕ) → i < length pixels →
+    pixel_number f (drop (i * size_of f) (flat_map (pixel_bytes f) pixels)) ≡ slice_index pixels i % 2 ^ (8 * size_of f)
 pixel_number-pixels f [] i within = absurd (omega arith)
 pixel_number-pixels f (p ∷ pixels) zero within =
     let none : zero * size_of f ≡ 0 = omega arith in
-    ap (λ (n : ℕ). pixel_number f (drop n (flat_map (pixel_bytes f) (p ∷ pixels)))) none ∙ pixel_number-pixel_bytes f p (flat_map (pixel_bytes f) pixels)
+    ap (λ (n : ℕ). pixel_number f (drop n (flat_map (pixel_bytes f) (p ∷ pixels)))) none
+    ∙ pixel_number-pixel_bytes f p (flat_map (pixel_bytes f) pixels)
 pixel_number-pixels f (p ∷ pixels) (suc i) within =
     let rest = flat_map (pixel_bytes f) pixels in
     let far : suc i * size_of f ≡ size_of f + i * size_of f = omega arith in
     let below : i < length pixels = omega arith in
     ap (λ (n : ℕ). pixel_number f (drop n (pixel_bytes f p ++ rest))) far
-    ∙ ap (pixel_number f) (sym (drop-drop (i * size_of f) (size_of f) (pixel_bytes f p ++ rest)) ∙ ap (drop (i * size_of f)) (drop_at (pixel_bytes f p) rest (size_of f) (length-pixel_bytes f p)))
+    ∙ ap (pixel_number f) (sym (drop-drop (i * size_of f) (size_of f) (pixel_bytes f p ++ rest))
+    ∙ ap (drop (i * size_of f)) (drop_at (pixel_bytes f p) rest (size_of f) (length-pixel_bytes f p)))
     ∙ pixel_number-pixels f pixels i below
 
 -- the bytes of a block's pixels are its Raw data
-pub stands_raw : (f : PixelFormat) (block : Grid ℕ) → IsGrid block → HasPixels f block → StandsRaw f block (flat_map (pixel_bytes f) block.places)
+pub stands_raw : (f : PixelFormat) (block : Grid ℕ) → IsGrid block → HasPixels f block →
+    StandsRaw f block (flat_map (pixel_bytes f) block.places)
 stands_raw f block whole small = record {
   size = length-pixels f block.places ∙ ap (λ (n : ℕ). n * size_of f) whole;
   shows = λ x y d left below.
       let place = y * block.width + x in
       let under : place < block.height * block.width = place_below block.width block.height x y left below in
       let within : place < length block.places = omega (arith, whole) in
-      get_or_default block.places place d 0 within ∙ sym (pixel_number-pixels f block.places place within ∙ mod-eq_of_lt (small place));
+      get_or_default block.places place d 0 within
+      ∙ sym (pixel_number-pixels f block.places place within ∙ mod-eq_of_lt (small place));
 }
 
 -- ---- part by part
 
 -- a part has as many pixels as it has places
-pub length-part : (pixels : List ℕ) (start end : ℕ) → start ≤ end → end ≤ length pixels → length (take (end - start) (drop start pixels)) ≡ end - start
+pub length-part : (pixels : List ℕ) (start end : ℕ) → start ≤ end → end ≤ length pixels →
+    length (take (end - start) (drop start pixels)) ≡ end - start
 length-part pixels start end l within =
     let rest : end - start ≤ length (drop start pixels) = rw length-drop (omega arith) in
     length-take-le (end - start) (drop start pixels) rest
@@ -82,16 +97,22 @@ bytes_of_part start end size l =
     omega (arith, both)
 
 -- which are no more than all
-pub room_for_part : (start end all size : ℕ) → start ≤ end → end ≤ all → start * size + (end - start) * size ≤ all * size
+pub room_for_part : (start end all size : ℕ) → start ≤ end → end ≤ all →
+    start * size + (end - start) * size ≤ all * size
 room_for_part start end all size l within =
     let bytes : end * size ≤ all * size = mul-le-mul_right size within in
     let both = bytes_of_part start end size l in
     omega (arith, bytes, both)
 
 -- one part more is appended
-pub part_more : (f : PixelFormat) (pixels before : List ℕ) (start end : ℕ) → start ≤ end → (before ++ flat_map (pixel_bytes f) (take start pixels)) ++ flat_map (pixel_bytes f) (take (end - start) (drop start pixels)) ≡ before ++ flat_map (pixel_bytes f) (take end pixels)
+pub part_more : (f : PixelFormat) (pixels before : List ℕ) (start end : ℕ) →
+    start ≤ end → (before ++ flat_map (pixel_bytes f) (take start pixels)) ++ flat_map (pixel_bytes f)
+    (take (end - start) (drop start pixels)) ≡ before ++ flat_map (pixel_bytes f) (take end pixels)
 part_more f pixels before start end l =
     let split : start + (end - start) ≡ end = omega arith in
-    let whole : take end pixels ≡ take start pixels ++ take (end - start) (drop start pixels) = ap (λ (n : ℕ). take n pixels) (sym split) ∙ take-add start (end - start) pixels in
-    append_assoc before (flat_map (pixel_bytes f) (take start pixels)) (flat_map (pixel_bytes f) (take (end - start) (drop start pixels)))
-    ∙ ap (λ (more : List ℕ). before ++ more) (sym (ap (flat_map (pixel_bytes f)) whole ∙ flat_map-append (pixel_bytes f) (take start pixels) (take (end - start) (drop start pixels))))
+    let whole : take end pixels ≡ take start pixels ++ take (end - start) (drop start pixels) =
+    ap (λ (n : ℕ). take n pixels) (sym split) ∙ take-add start (end - start) pixels in
+    append_assoc before (flat_map (pixel_bytes f) (take start pixels))
+    (flat_map (pixel_bytes f) (take (end - start) (drop start pixels)))
+    ∙ ap (λ (more : List ℕ). before ++ more) (sym (ap (flat_map (pixel_bytes f)) whole
+    ∙ flat_map-append (pixel_bytes f) (take start pixels) (take (end - start) (drop start pixels))))

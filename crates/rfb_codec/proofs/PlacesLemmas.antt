@@ -1,25 +1,30 @@
 -- How many places have a pixel: at a run, in parts of a list, and in one that is sorted.
-use Rattle.std.proofs.Common.{◌≡◌, ◌≢◌, ℕ, zero, suc, ◌+◌, ◌<◌, ◌≤◌, List, ◌++◌, true, false, cond, length, nat_eq, get_or, slice_index, take, replicate, arith, refl, inl, inr}
+use Rattle.std.proofs.Common.{◌≡◌, ◌≢◌, ℕ, zero, suc, ◌+◌, ◌<◌, ◌≤◌, List, ◌++◌, true, false, cond, length, nat_eq}
+use Rattle.std.proofs.Common.{get_or, slice_index, take, replicate, arith, refl, inl, inr}
 use Rattle.std.specs.List.Sorted.{IsPermutation}
 use Rattle.std.proofs.lemmas.List.Sorted.{sum_by-IsPermutation}
-use Rattle.std.proofs.lemmas.List.Sums.{count_by_more_yes, count_by_more_no, sum_by-cons, sum_by-append, sum_by-take-le, get_or-le-sum_by}
+use Rattle.std.proofs.lemmas.List.Sums.{count_by_more_yes, count_by_more_no, sum_by-cons, sum_by-append, sum_by-take-le}
+use Rattle.std.proofs.lemmas.List.Sums.{get_or-le-sum_by}
 use Rattle.std.proofs.lemmas.List.{take_all}
 use Rattle.std.proofs.lemmas.Bool.{cases_eq}
 use Rattle.std.proofs.lemmas.Bool.Decides.{nat_tests}
 use Rattle.rfb_codec.specs.Choice.{IsPixelOf, places_of}
 
-pub more_yes : (p : ℕ) (xs : List ℕ) (i : ℕ) → i < length xs → get_or xs i 0 ≡ p → places_of p (take (i + 1) xs) ≡ places_of p (take i xs) + 1
+pub more_yes : (p : ℕ) (xs : List ℕ) (i : ℕ) → i < length xs → get_or xs i 0 ≡ p →
+    places_of p (take (i + 1) xs) ≡ places_of p (take i xs) + 1
 more_yes p xs i below is =
     let yes : nat_eq (get_or xs i 0) p ≡ true = grind (arith, nat_tests) in
     count_by_more_yes (λ (q : ℕ). nat_eq q p) xs i 0 below yes
 
-pub more_no : (p : ℕ) (xs : List ℕ) (i : ℕ) → i < length xs → get_or xs i 0 ≢ p → places_of p (take (i + 1) xs) ≡ places_of p (take i xs)
+pub more_no : (p : ℕ) (xs : List ℕ) (i : ℕ) → i < length xs → get_or xs i 0 ≢ p →
+    places_of p (take (i + 1) xs) ≡ places_of p (take i xs)
 more_no p xs i below is =
     let no : nat_eq (get_or xs i 0) p ≡ false = grind (arith, nat_tests) in
     count_by_more_no (λ (q : ℕ). nat_eq q p) xs i 0 below no
 
 -- a run of the pixel adds its length
-pub run_counted : (p : ℕ) (xs : List ℕ) (i n : ℕ) → i + n ≤ length xs → ((k : ℕ) → i ≤ k → k < i + n → get_or xs k 0 ≡ p) → places_of p (take (i + n) xs) ≡ places_of p (take i xs) + n
+pub run_counted : (p : ℕ) (xs : List ℕ) (i n : ℕ) → i + n ≤ length xs →
+    ((k : ℕ) → i ≤ k → k < i + n → get_or xs k 0 ≡ p) → places_of p (take (i + n) xs) ≡ places_of p (take i xs) + n
 run_counted p xs i zero within run = let none : i + 0 ≡ i = omega arith in rw none (omega arith)
 run_counted p xs i (suc n) within run =
     let before = run_counted p xs i n (omega arith) (λ k from below. run k from (omega arith)) in
@@ -28,7 +33,8 @@ run_counted p xs i (suc n) within run =
     rw next (omega (arith, before, more))
 
 -- a run of others adds none
-pub run_passed : (p : ℕ) (xs : List ℕ) (i n : ℕ) → i + n ≤ length xs → ((k : ℕ) → i ≤ k → k < i + n → get_or xs k 0 ≢ p) → places_of p (take (i + n) xs) ≡ places_of p (take i xs)
+pub run_passed : (p : ℕ) (xs : List ℕ) (i n : ℕ) → i + n ≤ length xs →
+    ((k : ℕ) → i ≤ k → k < i + n → get_or xs k 0 ≢ p) → places_of p (take (i + n) xs) ≡ places_of p (take i xs)
 run_passed p xs i zero within run = let none : i + 0 ≡ i = omega arith in rw none refl
 run_passed p xs i (suc n) within run =
     let before = run_passed p xs i n (omega arith) (λ k from below. run k from (omega arith)) in
@@ -37,13 +43,15 @@ run_passed p xs i (suc n) within run =
     rw next (omega (arith, before, more))
 
 -- no place before has it
-pub none_before : (p : ℕ) (xs : List ℕ) (i : ℕ) → i ≤ length xs → ((k : ℕ) → k < i → get_or xs k 0 ≢ p) → places_of p (take i xs) ≡ 0
+pub none_before : (p : ℕ) (xs : List ℕ) (i : ℕ) → i ≤ length xs → ((k : ℕ) → k < i → get_or xs k 0 ≢ p) →
+    places_of p (take i xs) ≡ 0
 none_before p xs i within none =
     let start : 0 + i ≡ i = omega arith in
     rw start at (run_passed p xs 0 i (omega arith) (λ k from below. none k (omega arith)))
 
 -- a pixel that some place has is one of the pixels
-some_before : (p : ℕ) (xs : List ℕ) (i : ℕ) → i ≤ length xs → 0 < places_of p (take i xs) → (k : ℕ) × (k < length xs) × (p ≡ slice_index xs k)
+some_before : (p : ℕ) (xs : List ℕ) (i : ℕ) → i ≤ length xs → 0 < places_of p (take i xs) →
+    (k : ℕ) × (k < length xs) × (p ≡ slice_index xs k)
 some_before p xs zero within some = absurd (omega arith)
 some_before p xs (suc i) within some =
     elim (cases_eq (get_or xs i 0) p) [

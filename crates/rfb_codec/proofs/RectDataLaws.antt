@@ -1,5 +1,6 @@
 -- The reading of a rectangle's data is what bytes say under its head, in both directions.
-use Rattle.std.proofs.Common.{◌≡◌, ℕ, List, Bool, true, false, Option, Some, None, length, if◌then◌else◌, refl, sym, subst, ◌∙◌}
+use Rattle.std.proofs.Common.{◌≡◌, ℕ, List, Bool, true, false, Option, Some, None, length, if◌then◌else◌, refl, sym}
+use Rattle.std.proofs.Common.{subst, ◌∙◌}
 use Rattle.rfb_pixel.specs.Format.{PixelFormat}
 use Rattle.rfb_picture.specs.declared.rect.Rect.{Rect}
 use Rattle.rfb_picture.specs.Grid.{Grid}
@@ -18,7 +19,8 @@ use Rattle.rfb_codec.specs.declared.fault.PaintFault.TheVariants.{SourceOutside}
 use Rattle.rfb_codec.specs.Raw.{raw}
 use Rattle.rfb_codec.specs.Rre.{rre}
 use Rattle.rfb_codec.specs.Hextile.{hextile}
-use Rattle.rfb_codec.specs.RectData.{RectData, Pixels, Source, SpellsSource, moved_to, SpellsData, FaultsData, data_says, source_fault, source_rect, source, rect_data}
+use Rattle.rfb_codec.specs.RectData.{RectData, Pixels, Source, SpellsSource, moved_to, SpellsData, FaultsData}
+use Rattle.rfb_codec.specs.RectData.{data_says, source_fault, source_rect, source, rect_data}
 use Rattle.rfb_codec.proofs.RawLaws.{raw_says, raw_reads}
 use Rattle.rfb_codec.proofs.RreLaws.{rre_says, rre_reads}
 use Rattle.rfb_codec.proofs.HextileLaws.{hextile_says, hextile_reads}
@@ -29,32 +31,45 @@ use Rattle.rfb_codec.proofs.HextileLaws.{hextile_says, hextile_reads}
 abbrev pixels_say : Says (Grid ℕ) PaintFault → Says RectData PaintFault
 pixels_say s = renamed_says (λ block. Pixels block) (λ fault. fault) s
 
-raw_same : (f : PixelFormat) (width height : ℕ) (rect : Rect) → Same (pixels_say (raw_says f rect.w rect.h)) (data_says f width height rect Raw)
-raw_same f width height rect = record { item = item; fault = λ fault bytes told. told.2; item_back = item_back; fault_back = λ fault bytes none. absurd none }
+raw_same : (f : PixelFormat) (width height : ℕ) (rect : Rect) →
+    Same (pixels_say (raw_says f rect.w rect.h)) (data_says f width height rect Raw)
+raw_same f width height rect = record {
+  item = item;
+  fault = λ fault bytes told. told.2;
+  item_back = item_back;
+  fault_back = λ fault bytes none. absurd none;
+}
   where
-    item : (a : RectData) (bytes : List ℕ) → (pixels_say (raw_says f rect.w rect.h)).item a bytes → SpellsData f width height rect Raw a bytes
+    item : (a : RectData) (bytes : List ℕ) → (pixels_say (raw_says f rect.w rect.h)).item a bytes →
+        SpellsData f width height rect Raw a bytes
     item (Pixels block) bytes (k, is, stands) = let same : block ≡ k = cc in rw same stands
     item (Source x y) bytes (k, is, stands) = cc
 
-    item_back : (a : RectData) (bytes : List ℕ) → SpellsData f width height rect Raw a bytes → (pixels_say (raw_says f rect.w rect.h)).item a bytes
+    item_back : (a : RectData) (bytes : List ℕ) → SpellsData f width height rect Raw a bytes →
+        (pixels_say (raw_says f rect.w rect.h)).item a bytes
     item_back (Pixels block) bytes stands = (block, refl, stands)
     item_back (Source x y) bytes none = absurd none
 
-rre_same : (f : PixelFormat) (width height : ℕ) (rect : Rect) → Same (pixels_say (rre_says f rect.w rect.h)) (data_says f width height rect Rre)
+rre_same : (f : PixelFormat) (width height : ℕ) (rect : Rect) →
+    Same (pixels_say (rre_says f rect.w rect.h)) (data_says f width height rect Rre)
 rre_same f width height rect = record { item = item; fault = fault; item_back = item_back; fault_back = fault_back }
   where
-    item : (a : RectData) (bytes : List ℕ) → (pixels_say (rre_says f rect.w rect.h)).item a bytes → SpellsData f width height rect Rre a bytes
+    item : (a : RectData) (bytes : List ℕ) → (pixels_say (rre_says f rect.w rect.h)).item a bytes →
+        SpellsData f width height rect Rre a bytes
     item (Pixels block) bytes (k, is, stands) = let same : block ≡ k = cc in rw same stands
     item (Source x y) bytes (k, is, stands) = cc
 
-    item_back : (a : RectData) (bytes : List ℕ) → SpellsData f width height rect Rre a bytes → (pixels_say (rre_says f rect.w rect.h)).item a bytes
+    item_back : (a : RectData) (bytes : List ℕ) → SpellsData f width height rect Rre a bytes →
+        (pixels_say (rre_says f rect.w rect.h)).item a bytes
     item_back (Pixels block) bytes stands = (block, refl, stands)
     item_back (Source x y) bytes none = absurd none
 
-    fault : (g : PaintFault) (bytes : List ℕ) → (pixels_say (rre_says f rect.w rect.h)).fault g bytes → FaultsData f width height rect Rre g bytes
+    fault : (g : PaintFault) (bytes : List ℕ) → (pixels_say (rre_says f rect.w rect.h)).fault g bytes →
+        FaultsData f width height rect Rre g bytes
     fault g bytes (k, is, told) = (is ∙ told.0, told.1)
 
-    fault_back : (g : PaintFault) (bytes : List ℕ) → FaultsData f width height rect Rre g bytes → (pixels_say (rre_says f rect.w rect.h)).fault g bytes
+    fault_back : (g : PaintFault) (bytes : List ℕ) → FaultsData f width height rect Rre g bytes →
+        (pixels_say (rre_says f rect.w rect.h)).fault g bytes
     fault_back g bytes told = (g, refl, told)
 
 -- ---- CopyRect
@@ -63,55 +78,95 @@ rre_same f width height rect = record { item = item; fault = fault; item_back = 
 source_spelled : (bytes : List ℕ) → length bytes ≡ 4 → SpellsSource (u16_at 0 bytes) (u16_at 2 bytes) bytes
 source_spelled bytes size = record { size = size; x_is = refl; y_is = refl }
 
-source_same : (f : PixelFormat) (width height : ℕ) (rect : Rect) → Same (checked_says 4 (λ bytes. source_fault width height (source_rect rect bytes)) (λ bytes. Source (u16_at 0 bytes) (u16_at 2 bytes))) (data_says f width height rect CopyRect)
+source_same : (f : PixelFormat) (width height : ℕ) (rect : Rect) →
+    Same (checked_says 4 (λ bytes. source_fault width height (source_rect rect bytes))
+    (λ bytes. Source (u16_at 0 bytes) (u16_at 2 bytes))) (data_says f width height rect CopyRect)
 source_same f width height rect = record { item = item; fault = fault; item_back = item_back; fault_back = fault_back }
   where
-    inside : (r : Rect) (b : Bool) → is_on_screen width height r ≡ b → ◌≡◌ {A = Option PaintFault} (if b then None else Some SourceOutside) None → IsOnScreen width height r
+    inside : (r : Rect) (b : Bool) → is_on_screen width height r ≡ b →
+        ◌≡◌ {A = Option PaintFault} (if b then None else Some SourceOutside) None → IsOnScreen width height r
     inside r true is e = on_true width height r is
     inside r false is e = cc
 
-    outside : (r : Rect) (b : Bool) (fault : PaintFault) → is_on_screen width height r ≡ b → ◌≡◌ {A = Option PaintFault} (if b then None else Some SourceOutside) (Some fault) → (fault ≡ SourceOutside) × (IsOnScreen width height r → ⊥)
+    outside : (r : Rect) (b : Bool) (fault : PaintFault) → is_on_screen width height r ≡ b →
+        ◌≡◌ {A = Option PaintFault} (if b then None else Some SourceOutside) (Some fault) →
+        (fault ≡ SourceOutside) × (IsOnScreen width height r → ⊥)
     outside r true fault is e = cc
-    outside r false fault is e = let same : SourceOutside ≡ fault = cc in (sym same, λ on. let yes' = on_test width height r on in cc)
+    outside r false fault is e =
+        let same : SourceOutside ≡ fault = cc in
+        (sym same, λ on. let yes' = on_test width height r on in cc)
 
-    item : (a : RectData) (bytes : List ℕ) → (length bytes ≡ 4) × (source_fault width height (source_rect rect bytes) ≡ None) × (a ≡ Source (u16_at 0 bytes) (u16_at 2 bytes)) → SpellsData f width height rect CopyRect a bytes
-    item a bytes (size, good, same) = subst (λ (b : RectData). SpellsData f width height rect CopyRect b bytes) (sym same) (source_spelled bytes size, inside (source_rect rect bytes) (is_on_screen width height (source_rect rect bytes)) refl good)
+    item : (a : RectData) (bytes : List ℕ) → (length bytes ≡ 4) × (source_fault width height (source_rect rect bytes)
+        ≡ None) × (a ≡ Source (u16_at 0 bytes) (u16_at 2 bytes)) → SpellsData f width height rect CopyRect a bytes
+    item a bytes (
+      size,
+      good,
+      same,
+    ) = subst (λ (b : RectData). SpellsData f width height rect CopyRect b bytes) (sym same) (
+      source_spelled bytes size,
+      inside (source_rect rect bytes) (is_on_screen width height (source_rect rect bytes)) refl good,
+    )
 
-    fault : (g : PaintFault) (bytes : List ℕ) → (length bytes ≡ 4) × (source_fault width height (source_rect rect bytes) ≡ Some g) → FaultsData f width height rect CopyRect g bytes
+    fault : (g : PaintFault) (bytes : List ℕ) →
+        (length bytes ≡ 4) × (source_fault width height (source_rect rect bytes) ≡ Some g) →
+        FaultsData f width height rect CopyRect g bytes
     fault g bytes (size, told) =
         let off = outside (source_rect rect bytes) (is_on_screen width height (source_rect rect bytes)) g refl told in
         (off.0, record { x = u16_at 0 bytes; y = u16_at 2 bytes; spelled = source_spelled bytes size; outside = off.1 })
 
-    item_back : (a : RectData) (bytes : List ℕ) → SpellsData f width height rect CopyRect a bytes → (length bytes ≡ 4) × (source_fault width height (source_rect rect bytes) ≡ None) × (a ≡ Source (u16_at 0 bytes) (u16_at 2 bytes))
+    item_back : (a : RectData) (bytes : List ℕ) → SpellsData f width height rect CopyRect a bytes → (length bytes ≡ 4)
+        × (source_fault width height (source_rect rect bytes) ≡ None) × (a ≡ Source (u16_at 0 bytes) (u16_at 2 bytes))
     item_back (Pixels block) bytes none = absurd none
     item_back (Source x y) bytes (spelled, on) =
-        let test : is_on_screen width height (source_rect rect bytes) ≡ true = rw (spelled.x_is, spelled.y_is) (on_test width height (moved_to x y rect) on) in
+        let test : is_on_screen width height (source_rect rect bytes) ≡ true =
+        rw (spelled.x_is, spelled.y_is) (on_test width height (moved_to x y rect) on) in
         (spelled.size, rw test refl, rw (spelled.x_is, spelled.y_is) refl)
 
-    fault_back : (g : PaintFault) (bytes : List ℕ) → FaultsData f width height rect CopyRect g bytes → (length bytes ≡ 4) × (source_fault width height (source_rect rect bytes) ≡ Some g)
+    fault_back : (g : PaintFault) (bytes : List ℕ) → FaultsData f width height rect CopyRect g bytes →
+        (length bytes ≡ 4) × (source_fault width height (source_rect rect bytes) ≡ Some g)
     fault_back g bytes (is, told) =
-        let off : is_on_screen width height (moved_to told.x told.y rect) ≡ false = off_test width height (moved_to told.x told.y rect) (is_on_screen width height (moved_to told.x told.y rect)) refl told.outside in
-        let test : is_on_screen width height (source_rect rect bytes) ≡ false = rw (told.spelled.x_is, told.spelled.y_is) off in
+        let off : is_on_screen width height (moved_to told.x told.y rect) ≡ false = off_test width height
+        (moved_to told.x told.y rect) (is_on_screen width height (moved_to told.x told.y rect)) refl told.outside in
+        let test : is_on_screen width height (source_rect rect bytes) ≡ false =
+        rw (told.spelled.x_is, told.spelled.y_is) off in
         (told.spelled.size, rw (test, is) refl)
 
-hextile_same : (f : PixelFormat) (width height : ℕ) (rect : Rect) → Same (pixels_say (hextile_says f rect.w rect.h)) (data_says f width height rect Hextile)
-hextile_same f width height rect = record { item = item; fault = fault; item_back = item_back; fault_back = λ g bytes told. (g, refl, told) }
+hextile_same : (f : PixelFormat) (width height : ℕ) (rect : Rect) →
+    Same (pixels_say (hextile_says f rect.w rect.h)) (data_says f width height rect Hextile)
+hextile_same f width height rect =
+    record { item = item; fault = fault; item_back = item_back; fault_back = λ g bytes told. (g, refl, told) }
   where
-    item : (a : RectData) (bytes : List ℕ) → (pixels_say (hextile_says f rect.w rect.h)).item a bytes → SpellsData f width height rect Hextile a bytes
+    item : (a : RectData) (bytes : List ℕ) → (pixels_say (hextile_says f rect.w rect.h)).item a bytes →
+        SpellsData f width height rect Hextile a bytes
     item (Pixels block) bytes (k, is, stands) = let same : block ≡ k = cc in rw same stands
     item (Source x y) bytes (k, is, stands) = cc
 
-    item_back : (a : RectData) (bytes : List ℕ) → SpellsData f width height rect Hextile a bytes → (pixels_say (hextile_says f rect.w rect.h)).item a bytes
+    item_back : (a : RectData) (bytes : List ℕ) → SpellsData f width height rect Hextile a bytes →
+        (pixels_say (hextile_says f rect.w rect.h)).item a bytes
     item_back (Pixels block) bytes stands = (block, refl, stands)
     item_back (Source x y) bytes none = absurd none
 
-    fault : (g : PaintFault) (bytes : List ℕ) → (pixels_say (hextile_says f rect.w rect.h)).fault g bytes → FaultsData f width height rect Hextile g bytes
+    fault : (g : PaintFault) (bytes : List ℕ) → (pixels_say (hextile_says f rect.w rect.h)).fault g bytes →
+        FaultsData f width height rect Hextile g bytes
     fault g bytes (k, is, told) = rw is told
 
 -- the reading gives exactly the data and the faults that bytes say
-pub rect_data_reads : (f : PixelFormat) (width height : ℕ) (rect : Rect) (encoding : Encoding) → Reads (rect_data f width height rect encoding) (data_says f width height rect encoding)
+pub rect_data_reads : (f : PixelFormat) (width height : ℕ) (rect : Rect) (encoding : Encoding) →
+    Reads (rect_data f width height rect encoding) (data_says f width height rect encoding)
 unfolding rect_data
-rect_data_reads f width height rect Raw = same_reads (renamed (λ block. Pixels block) (λ fault. fault) (raw f rect.w rect.h)) (pixels_say (raw_says f rect.w rect.h)) (data_says f width height rect Raw) (raw_same f width height rect) (renamed_reads (λ block. Pixels block) (λ fault. fault) (raw f rect.w rect.h) (raw_says f rect.w rect.h) (raw_reads f rect.w rect.h))
-rect_data_reads f width height rect CopyRect = same_reads (source width height rect) (checked_says 4 (λ bytes. source_fault width height (source_rect rect bytes)) (λ bytes. Source (u16_at 0 bytes) (u16_at 2 bytes))) (data_says f width height rect CopyRect) (source_same f width height rect) (checked_reads 4 (λ bytes. source_fault width height (source_rect rect bytes)) (λ bytes. Source (u16_at 0 bytes) (u16_at 2 bytes)))
-rect_data_reads f width height rect Rre = same_reads (renamed (λ block. Pixels block) (λ fault. fault) (rre f rect.w rect.h)) (pixels_say (rre_says f rect.w rect.h)) (data_says f width height rect Rre) (rre_same f width height rect) (renamed_reads (λ block. Pixels block) (λ fault. fault) (rre f rect.w rect.h) (rre_says f rect.w rect.h) (rre_reads f rect.w rect.h))
-rect_data_reads f width height rect Hextile = same_reads (renamed (λ block. Pixels block) (λ fault. fault) (hextile f rect.w rect.h)) (pixels_say (hextile_says f rect.w rect.h)) (data_says f width height rect Hextile) (hextile_same f width height rect) (renamed_reads (λ block. Pixels block) (λ fault. fault) (hextile f rect.w rect.h) (hextile_says f rect.w rect.h) (hextile_reads f rect.w rect.h))
+rect_data_reads f width height rect Raw = same_reads
+    (renamed (λ block. Pixels block) (λ fault. fault) (raw f rect.w rect.h)) (pixels_say (raw_says f rect.w rect.h))
+    (data_says f width height rect Raw) (raw_same f width height rect) (renamed_reads (λ block. Pixels block)
+    (λ fault. fault) (raw f rect.w rect.h) (raw_says f rect.w rect.h) (raw_reads f rect.w rect.h))
+rect_data_reads f width height rect CopyRect = same_reads (source width height rect) (checked_says 4
+    (λ bytes. source_fault width height (source_rect rect bytes)) (λ bytes. Source (u16_at 0 bytes) (u16_at 2 bytes)))
+    (data_says f width height rect CopyRect) (source_same f width height rect) (checked_reads 4
+    (λ bytes. source_fault width height (source_rect rect bytes)) (λ bytes. Source (u16_at 0 bytes) (u16_at 2 bytes)))
+rect_data_reads f width height rect Rre = same_reads
+    (renamed (λ block. Pixels block) (λ fault. fault) (rre f rect.w rect.h)) (pixels_say (rre_says f rect.w rect.h))
+    (data_says f width height rect Rre) (rre_same f width height rect) (renamed_reads (λ block. Pixels block)
+    (λ fault. fault) (rre f rect.w rect.h) (rre_says f rect.w rect.h) (rre_reads f rect.w rect.h))
+rect_data_reads f width height rect Hextile = same_reads (renamed (λ block. Pixels block) (λ fault. fault)
+    (hextile f rect.w rect.h)) (pixels_say (hextile_says f rect.w rect.h)) (data_says f width height rect Hextile)
+    (hextile_same f width height rect) (renamed_reads (λ block. Pixels block) (λ fault. fault) (hextile f rect.w rect.h)
+    (hextile_says f rect.w rect.h) (hextile_reads f rect.w rect.h))

@@ -1,5 +1,6 @@
 -- Laws of the bytes that a cover is written as.
-use Rattle.std.proofs.Common.{◌≡◌, ℕ, ◌+◌, ◌*◌, ◌/◌, ◌^◌, ◌<◌, ◌≤◌, List, [], ◌∷◌, ◌++◌, length, arith, refl, ap, ◌∙◌, sym, append-nil, length-append}
+use Rattle.std.proofs.Common.{◌≡◌, ℕ, ◌+◌, ◌*◌, ◌/◌, ◌^◌, ◌<◌, ◌≤◌, List, [], ◌∷◌, ◌++◌, length, arith, refl, ap, ◌∙◌}
+use Rattle.std.proofs.Common.{sym, append-nil, length-append}
 use Rattle.std.proofs.Math.Nat.{mod-eq_of_lt, mul-le-mul_right}
 use Rattle.std.proofs.lemmas.Nat.{div_below}
 use Rattle.std.proofs.lemmas.List.{drop_at, get_or_default}
@@ -22,15 +23,18 @@ use Rattle.rfb_codec.specs.inside.Cover.{ArePartsOf, IsCover}
 use Rattle.rfb_codec.proofs.PixelLemmas.{length-pixel_bytes}
 
 -- a pixel of the format is read back from its bytes
-pub pixel_read : (f : PixelFormat) (pixel : ℕ) (rest : List ℕ) → IsPixel f pixel → pixel_number f (pixel_bytes f pixel ++ rest) ≡ pixel
+pub pixel_read : (f : PixelFormat) (pixel : ℕ) (rest : List ℕ) → IsPixel f pixel →
+    pixel_number f (pixel_bytes f pixel ++ rest) ≡ pixel
 pixel_read f pixel rest small = pixel_number-pixel_bytes f pixel rest ∙ mod-eq_of_lt small
 
 -- one of a block's pixels is one of the format
-pub pixel_of_block : (f : PixelFormat) (block : Grid ℕ) (pixel : ℕ) → HasPixels f block → IsPixelOf block.places pixel → IsPixel f pixel
+pub pixel_of_block : (f : PixelFormat) (block : Grid ℕ) (pixel : ℕ) → HasPixels f block →
+    IsPixelOf block.places pixel → IsPixel f pixel
 pixel_of_block f block pixel small is = rw (is.2) (small is.0)
 
 -- a rectangle is read back from its bytes
-rect_read : (rect : Rect) → rect.x < 65536 → rect.y < 65536 → rect.w < 65536 → rect.h < 65536 → IsRectAt 0 rect (rect_bytes rect)
+rect_read : (rect : Rect) → rect.x < 65536 → rect.y < 65536 → rect.w < 65536 → rect.h < 65536 →
+    IsRectAt 0 rect (rect_bytes rect)
 rect_read rect x y w h = record {
   x_position = big_number-reads_back 2 rect.x [] x;
   y_position = big_number-reads_back 2 rect.y [] y;
@@ -43,15 +47,18 @@ pub length-subrect : (f : PixelFormat) (s : Subrect) → length (subrect_bytes f
 length-subrect f s = let pixel = length-pixel_bytes f s.pixel in rw length-append (omega (arith, pixel))
 
 -- it is read back from them
-subrect_read : (f : PixelFormat) (s : Subrect) → IsPixel f s.pixel → IsOnScreen 64 64 s.rect → SpellsSubrect f s (subrect_bytes f s)
+subrect_read : (f : PixelFormat) (s : Subrect) → IsPixel f s.pixel → IsOnScreen 64 64 s.rect →
+    SpellsSubrect f s (subrect_bytes f s)
 subrect_read f s small inside = record {
   size = length-subrect f s;
   pixel_is = pixel_read f s.pixel (rect_bytes s.rect) small;
-  rect_is = rw (drop_at (pixel_bytes f s.pixel) (rect_bytes s.rect) (size_of f) (length-pixel_bytes f s.pixel)) (rect_read s.rect (omega arith) (omega arith) (omega arith) (omega arith));
+  rect_is = rw (drop_at (pixel_bytes f s.pixel) (rect_bytes s.rect) (size_of f) (length-pixel_bytes f s.pixel))
+      (rect_read s.rect (omega arith) (omega arith) (omega arith) (omega arith));
 }
 
 -- how many bytes subrectangles have
-pub length-subrects : (f : PixelFormat) (subs : List Subrect) → length (flat_map (subrect_bytes f) subs) ≡ length subs * (size_of f + 8)
+pub length-subrects : (f : PixelFormat) (subs : List Subrect) →
+    length (flat_map (subrect_bytes f) subs) ≡ length subs * (size_of f + 8)
 length-subrects f [] = omega arith
 length-subrects f (s ∷ subs) =
     let here = length-subrect f s in
@@ -59,7 +66,9 @@ length-subrects f (s ∷ subs) =
     rw length-append (omega (arith, here, more))
 
 -- the parts of a block are listed
-subrects_listed : (f : PixelFormat) (block : Grid ℕ) (background : ℕ) (subs : List Subrect) → block.width ≤ 64 → block.height ≤ 64 → HasPixels f block → ArePartsOf block.width block.height block.places background subs → Listed (SpellsInside f block.width block.height) subs (flat_map (subrect_bytes f) subs)
+subrects_listed : (f : PixelFormat) (block : Grid ℕ) (background : ℕ) (subs : List Subrect) → block.width ≤ 64 →
+    block.height ≤ 64 → HasPixels f block → ArePartsOf block.width block.height block.places background subs →
+    Listed (SpellsInside f block.width block.height) subs (flat_map (subrect_bytes f) subs)
 subrects_listed f block background [] wide high small parts = refl
 subrects_listed f block background (s ∷ subs) wide high small parts =
     let inside : IsOnScreen 64 64 s.rect = (omega (arith, parts.0.inside), omega (arith, parts.0.inside)) in (
@@ -74,7 +83,8 @@ subrects_listed f block background (s ∷ subs) wide high small parts =
 abbrev pub rre_head : PixelFormat → ℕ → ℕ → List ℕ
 rre_head f count background = big_bytes 4 count ++ pixel_bytes f background
 
-head_read : (f : PixelFormat) (count background : ℕ) → count < 2 ^ 32 → IsPixel f background → SpellsRreHead f count background (rre_head f count background)
+head_read : (f : PixelFormat) (count background : ℕ) → count < 2 ^ 32 → IsPixel f background →
+    SpellsRreHead f count background (rre_head f count background)
 head_read f count background few small = record {
   size = let pixel = length-pixel_bytes f background in omega (arith, pixel);
   count_is = big_number-reads_back 4 count (pixel_bytes f background) few;
@@ -82,7 +92,11 @@ head_read f count background few small = record {
 }
 
 -- the bytes of the rule's cover stand for the block, by the rule
-pub stands_rre : (f : PixelFormat) (block : Grid ℕ) (background : ℕ) (subs : List Subrect) → IsGrid block → block.width ≤ 64 → block.height ≤ 64 → length subs < 2 ^ 32 → HasPixels f block → IsBackground block.places background → IsCover block.width block.height block.places background subs → AreRuleSubs block.width block.height block.places background subs → StandsRreByRule f block (rre_head f (length subs) background ++ flat_map (subrect_bytes f) subs)
+pub stands_rre : (f : PixelFormat) (block : Grid ℕ) (background : ℕ) (subs : List Subrect) →
+    IsGrid block → block.width ≤ 64 → block.height ≤ 64 → length subs < 2 ^ 32 → HasPixels f block →
+    IsBackground block.places background → IsCover block.width block.height block.places background subs →
+    AreRuleSubs block.width block.height block.places background subs →
+    StandsRreByRule f block (rre_head f (length subs) background ++ flat_map (subrect_bytes f) subs)
 stands_rre f block background subs whole wide high few small chosen cover rule = record {
   stands = record {
     background = background;
@@ -105,5 +119,6 @@ pub limit_fits : (places size n : ℕ) → places ≤ 3 * n → size ≤ 4 → p
 limit_fits places size n few small =
     let bytes : places * size ≤ 3 * n * size = mul-le-mul_right size few in
     let pixels : size * n ≤ 4 * n = mul-le-mul_right n small in
-    let below : places * size / (size + 8) < n + 1 = div_below (places * size) (size + 8) (n + 1) (omega arith) (omega (arith, bytes, pixels)) in
+    let below : places * size / (size + 8) < n + 1 =
+    div_below (places * size) (size + 8) (n + 1) (omega arith) (omega (arith, bytes, pixels)) in
     omega arith

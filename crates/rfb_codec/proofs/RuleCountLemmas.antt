@@ -1,6 +1,8 @@
 -- The rule has one choice for a block, and no fewer subrectangles than the block has pixels beside
 -- its background.
-use Rattle.std.proofs.Common.{◌≡◌, ◌≢◌, ℕ, zero, suc, ◌+◌, ◌*◌, ◌/◌, ◌%◌, ◌<◌, ◌≤◌, List, [], ◌∷◌, ◌++◌, Bool, true, false, ◌||◌, length, map, slice_index, get_or, arith, refl, sym, ap, subst, ◌∙◌, inl, inr, ◌⊎◌, append_assoc, append-nil, All}
+use Rattle.std.proofs.Common.{◌≡◌, ◌≢◌, ℕ, zero, suc, ◌+◌, ◌*◌, ◌/◌, ◌%◌, ◌<◌, ◌≤◌, List, [], ◌∷◌, ◌++◌, Bool, true}
+use Rattle.std.proofs.Common.{false, ◌||◌, length, map, slice_index, get_or, arith, refl, sym, ap, subst, ◌∙◌, inl, inr}
+use Rattle.std.proofs.Common.{◌⊎◌, append_assoc, append-nil, All}
 use Rattle.std.proofs.lemmas.Bool.{cases_eq, cases_order, both_ways}
 use Rattle.std.proofs.lemmas.List.Elements.{All-head, All-tail, All-weaker, All-get_or, All-from_get_or}
 use Rattle.std.proofs.lemmas.List.{length-map}
@@ -9,7 +11,8 @@ use Rattle.std.proofs.Math.Nat.{mod-lt, mul-le-mul_right}
 use Rattle.rfb_picture.specs.Rect.{contains}
 use Rattle.rfb_picture.proofs.GridLaws.{contains_true, contains_row, place_below}
 use Rattle.rfb_codec.specs.declared.subrect.Subrect.{Subrect}
-use Rattle.rfb_codec.specs.Choice.{IsPixelOf, IsBackground, is_in_any, IsLeft, IsBefore, IsNextSub, AreNextSubs, AreRuleSubs}
+use Rattle.rfb_codec.specs.Choice.{IsPixelOf, IsBackground, is_in_any, IsLeft, IsBefore, IsNextSub, AreNextSubs}
+use Rattle.rfb_codec.specs.Choice.{AreRuleSubs}
 use Rattle.rfb_codec.specs.inside.Background.{HasMore, AllDiffer}
 use Rattle.rfb_codec.proofs.RuleLemmas.{in_push}
 
@@ -26,87 +29,133 @@ same_background pixels a b first second =
 -- ---- one list of subrectangles
 
 module _ (width height : ℕ) (pixels : List ℕ) (background : ℕ) where
-  module _ (before : List Subrect) (s t : Subrect) (one : IsNextSub width height pixels background before s) (other : IsNextSub width height pixels background before t) where
+  module _ (before : List Subrect) (s t : Subrect) (one : IsNextSub width height pixels background before s)
+      (other : IsNextSub width height pixels background before t) where
     -- the corner of one is no place before that of the other
     not_before : IsBefore s.rect.x s.rect.y t.rect.x t.rect.y → ⊥
-    not_before is = other.first s.rect.x s.rect.y (omega (arith, one.inside, one.wide)) (omega (arith, one.inside, one.high)) is one.left
+    not_before is = other.first s.rect.x s.rect.y (omega (arith, one.inside, one.wide))
+        (omega (arith, one.inside, one.high)) is one.left
 
     not_wider : s.rect.x ≡ t.rect.x → s.rect.y ≡ t.rect.y → s.pixel ≡ t.pixel → s.rect.w < t.rect.w → ⊥
     not_wider x y pixel less =
-        let free = other.rows s.rect.y (omega (arith, y)) (omega (arith, y, other.high)) (s.rect.x + s.rect.w) (omega (arith, x)) (omega (arith, x, less)) in
+        let free = other.rows s.rect.y (omega (arith, y)) (omega (arith, y, other.high)) (s.rect.x + s.rect.w)
+        (omega (arith, x)) (omega (arith, x, less)) in
         one.longest (omega (arith, other.inside, x, less)) (rw pixel free)
 
-    not_higher : s.rect.x ≡ t.rect.x → s.rect.y ≡ t.rect.y → s.rect.w ≡ t.rect.w → s.pixel ≡ t.pixel → s.rect.h < t.rect.h → ⊥
+    not_higher : s.rect.x ≡ t.rect.x → s.rect.y ≡ t.rect.y → s.rect.w ≡ t.rect.w →
+        s.pixel ≡ t.pixel → s.rect.h < t.rect.h → ⊥
     not_higher x y w pixel less =
         one.lowest (omega (arith, other.inside, y, less))
-        (λ i from below. rw pixel (other.rows (s.rect.y + s.rect.h) (omega (arith, y)) (omega (arith, y, less)) i (omega (arith, x, from)) (omega (arith, x, w, below))))
+        (λ i from below. rw pixel (other.rows (s.rect.y + s.rect.h) (omega (arith, y)) (omega (arith, y, less)) i
+        (omega (arith, x, from)) (omega (arith, x, w, below))))
 
-  next_same : (before : List Subrect) (s t : Subrect) → IsNextSub width height pixels background before s → IsNextSub width height pixels background before t → s ≡ t
+  next_same : (before : List Subrect) (s t : Subrect) → IsNextSub width height pixels background before s →
+      IsNextSub width height pixels background before t → s ≡ t
   next_same before s t one other =
       let y : s.rect.y ≡ t.rect.y = elim (cases_order s.rect.y t.rect.y) [
         | inl same ↦ same
-        | inr apart ↦ elim apart [ inl less ↦ absurd (not_before before s t one other (inl less)) | inr more ↦ absurd (not_before before t s other one (inl more)) ]
+        | inr apart ↦ elim apart [
+          | inl less ↦ absurd (not_before before s t one other (inl less))
+          | inr more ↦ absurd (not_before before t s other one (inl more))
+        ]
       ] in
       let x : s.rect.x ≡ t.rect.x = elim (cases_order s.rect.x t.rect.x) [
         | inl same ↦ same
-        | inr apart ↦ elim apart [ inl less ↦ absurd (not_before before s t one other (inr (y, less))) | inr more ↦ absurd (not_before before t s other one (inr (sym y, more))) ]
+        | inr apart ↦ elim apart [
+          | inl less ↦ absurd (not_before before s t one other (inr (y, less)))
+          | inr more ↦ absurd (not_before before t s other one (inr (sym y, more)))
+        ]
       ] in
       let pixel : s.pixel ≡ t.pixel = one.pixel ∙ (rw (x, y) (sym other.pixel)) in
       let w : s.rect.w ≡ t.rect.w = elim (cases_order s.rect.w t.rect.w) [
         | inl same ↦ same
-        | inr apart ↦ elim apart [ inl less ↦ absurd (not_wider before s t one other x y pixel less) | inr more ↦ absurd (not_wider before t s other one (sym x) (sym y) (sym pixel) more) ]
+        | inr apart ↦ elim apart [
+          | inl less ↦ absurd (not_wider before s t one other x y pixel less)
+          | inr more ↦ absurd (not_wider before t s other one (sym x) (sym y) (sym pixel) more)
+        ]
       ] in
       let h : s.rect.h ≡ t.rect.h = elim (cases_order s.rect.h t.rect.h) [
         | inl same ↦ same
-        | inr apart ↦ elim apart [ inl less ↦ absurd (not_higher before s t one other x y w pixel less) | inr more ↦ absurd (not_higher before t s other one (sym x) (sym y) (sym w) (sym pixel) more) ]
+        | inr apart ↦ elim apart [
+          | inl less ↦ absurd (not_higher before s t one other x y w pixel less)
+          | inr more ↦ absurd (not_higher before t s other one (sym x) (sym y) (sym w) (sym pixel) more)
+        ]
       ] in
       λ i. record { pixel = pixel i; rect = record { x = x i; y = y i; w = w i; h = h i } }
 
   -- some of the rule's are no more than all of them
-  pub no_more : (before some all : List Subrect) → AreNextSubs width height pixels background before some → AreNextSubs width height pixels background before all →
-      ((x y : ℕ) → x < width → y < height → IsLeft width pixels background (before ++ all) x y → ⊥) → length some ≤ length all
+  pub no_more : (before some all : List Subrect) → AreNextSubs width height pixels background before some →
+      AreNextSubs width height pixels background before all →
+      ((x y : ℕ) → x < width → y < height → IsLeft width pixels background (before ++ all) x y → ⊥) →
+      length some ≤ length all
   no_more before [] all each other none = omega arith
   no_more before (s ∷ some) [] (next, each) other none =
-      absurd (none s.rect.x s.rect.y (omega (arith, next.inside, next.wide)) (omega (arith, next.inside, next.high)) (subst (λ (l : List Subrect). IsLeft width pixels background l s.rect.x s.rect.y) (sym (append-nil before)) next.left))
+      absurd (none s.rect.x s.rect.y (omega (arith, next.inside, next.wide)) (omega (arith, next.inside, next.high))
+      (subst (λ (l : List Subrect). IsLeft width pixels background l s.rect.x s.rect.y)
+      (sym (append-nil before)) next.left))
   no_more before (s ∷ some) (t ∷ all) (next, each) (next', other) none =
       let same = next_same before s t next next' in
-      let rest = subst (λ (u : Subrect). AreNextSubs width height pixels background (before ++ u ∷ []) some) same each in
-      let after : (x y : ℕ) → x < width → y < height → IsLeft width pixels background ((before ++ t ∷ []) ++ all) x y → ⊥ = λ x y p q. subst (λ (l : List Subrect). IsLeft width pixels background l x y → ⊥) (sym (append_assoc before (t ∷ []) all)) (none x y p q) in
+      let rest =
+      subst (λ (u : Subrect). AreNextSubs width height pixels background (before ++ u ∷ []) some) same each in
+      let after : (x y : ℕ) → x < width → y < height → IsLeft width pixels background ((before ++ t ∷ []) ++ all) x y →
+      ⊥ = λ x y p q. subst (λ (l : List Subrect). IsLeft width pixels background l x y → ⊥)
+      (sym (append_assoc before (t ∷ []) all)) (none x y p q) in
       let less = no_more (before ++ t ∷ []) some all rest other after in
       omega (arith, less)
 
   -- and fewer, where they leave a place
-  pub fewer : (before some all : List Subrect) (x y : ℕ) → x < width → y < height → AreNextSubs width height pixels background before some → AreNextSubs width height pixels background before all →
+  pub fewer : (before some all : List Subrect) (x y : ℕ) → x < width → y < height →
+      AreNextSubs width height pixels background before some → AreNextSubs width height pixels background before all →
       IsLeft width pixels background (before ++ some) x y →
-      ((x y : ℕ) → x < width → y < height → IsLeft width pixels background (before ++ all) x y → ⊥) → length some < length all
+      ((x y : ℕ) → x < width → y < height → IsLeft width pixels background (before ++ all) x y → ⊥) →
+      length some < length all
   fewer before [] [] x y p q each other left none = absurd (none x y p q left)
   fewer before [] (t ∷ all) x y p q each other left none = omega arith
-  fewer before (s ∷ some) [] x y p q each other left none = let no = no_more before (s ∷ some) [] each other none in absurd (omega (arith, no))
+  fewer before (s ∷ some) [] x y p q each other left none =
+      let no = no_more before (s ∷ some) [] each other none in
+      absurd (omega (arith, no))
   fewer before (s ∷ some) (t ∷ all) x y p q (next, each) (next', other) left none =
       let same = next_same before s t next next' in
-      let rest = subst (λ (u : Subrect). AreNextSubs width height pixels background (before ++ u ∷ []) some) same each in
-      let left_over = subst (λ (l : List Subrect). IsLeft width pixels background l x y) (sym (append_assoc before (t ∷ []) some)) (subst (λ (u : Subrect). IsLeft width pixels background (before ++ u ∷ some) x y) same left) in
-      let after : (x y : ℕ) → x < width → y < height → IsLeft width pixels background ((before ++ t ∷ []) ++ all) x y → ⊥ = λ x y p q. subst (λ (l : List Subrect). IsLeft width pixels background l x y → ⊥) (sym (append_assoc before (t ∷ []) all)) (none x y p q) in
+      let rest =
+      subst (λ (u : Subrect). AreNextSubs width height pixels background (before ++ u ∷ []) some) same each in
+      let left_over =
+      subst (λ (l : List Subrect). IsLeft width pixels background l x y) (sym (append_assoc before (t ∷ []) some))
+      (subst (λ (u : Subrect). IsLeft width pixels background (before ++ u ∷ some) x y) same left) in
+      let after : (x y : ℕ) → x < width → y < height → IsLeft width pixels background ((before ++ t ∷ []) ++ all) x y →
+      ⊥ = λ x y p q. subst (λ (l : List Subrect). IsLeft width pixels background l x y → ⊥)
+      (sym (append_assoc before (t ∷ []) all)) (none x y p q) in
       let less = fewer (before ++ t ∷ []) some all x y p q rest other left_over after in
       omega (arith, less)
 
   -- two lists that leave no place are one
-  all_same : (before a b : List Subrect) → AreNextSubs width height pixels background before a → AreNextSubs width height pixels background before b →
-      ((x y : ℕ) → x < width → y < height → IsLeft width pixels background (before ++ a) x y → ⊥) → ((x y : ℕ) → x < width → y < height → IsLeft width pixels background (before ++ b) x y → ⊥) → a ≡ b
+  all_same : (before a b : List Subrect) → AreNextSubs width height pixels background before a →
+      AreNextSubs width height pixels background before b →
+      ((x y : ℕ) → x < width → y < height → IsLeft width pixels background (before ++ a) x y → ⊥) →
+      ((x y : ℕ) → x < width → y < height → IsLeft width pixels background (before ++ b) x y → ⊥) → a ≡ b
   all_same before [] [] first second none_first none_second = refl
   all_same before [] (t ∷ b) first (next, second) none_first none_second =
-      absurd (none_first t.rect.x t.rect.y (omega (arith, next.inside, next.wide)) (omega (arith, next.inside, next.high)) (subst (λ (l : List Subrect). IsLeft width pixels background l t.rect.x t.rect.y) (sym (append-nil before)) next.left))
+      absurd (none_first t.rect.x t.rect.y (omega (arith, next.inside, next.wide))
+      (omega (arith, next.inside, next.high)) (subst (λ (l : List Subrect). IsLeft width pixels background l
+      t.rect.x t.rect.y) (sym (append-nil before)) next.left))
   all_same before (s ∷ a) [] (next, first) second none_first none_second =
-      absurd (none_second s.rect.x s.rect.y (omega (arith, next.inside, next.wide)) (omega (arith, next.inside, next.high)) (subst (λ (l : List Subrect). IsLeft width pixels background l s.rect.x s.rect.y) (sym (append-nil before)) next.left))
+      absurd (none_second s.rect.x s.rect.y (omega (arith, next.inside, next.wide))
+      (omega (arith, next.inside, next.high)) (subst (λ (l : List Subrect). IsLeft width pixels background l
+      s.rect.x s.rect.y) (sym (append-nil before)) next.left))
   all_same before (s ∷ a) (t ∷ b) (next, first) (next', second) none_first none_second =
       let same = next_same before s t next next' in
       let moved = subst (λ (u : Subrect). AreNextSubs width height pixels background (before ++ u ∷ []) a) same first in
-      let none_a : (x y : ℕ) → x < width → y < height → IsLeft width pixels background ((before ++ t ∷ []) ++ a) x y → ⊥ = λ x y p q. subst (λ (l : List Subrect). IsLeft width pixels background l x y → ⊥) (sym (append_assoc before (t ∷ []) a)) (subst (λ (u : Subrect). IsLeft width pixels background (before ++ u ∷ a) x y → ⊥) same (none_first x y p q)) in
-      let none_b : (x y : ℕ) → x < width → y < height → IsLeft width pixels background ((before ++ t ∷ []) ++ b) x y → ⊥ = λ x y p q. subst (λ (l : List Subrect). IsLeft width pixels background l x y → ⊥) (sym (append_assoc before (t ∷ []) b)) (none_second x y p q) in
+      let none_a : (x y : ℕ) → x < width → y < height → IsLeft width pixels background ((before ++ t ∷ []) ++ a) x y →
+      ⊥ = λ x y p q. subst (λ (l : List Subrect). IsLeft width pixels background l x y → ⊥)
+      (sym (append_assoc before (t ∷ []) a)) (subst
+      (λ (u : Subrect). IsLeft width pixels background (before ++ u ∷ a) x y → ⊥) same (none_first x y p q)) in
+      let none_b : (x y : ℕ) → x < width → y < height → IsLeft width pixels background ((before ++ t ∷ []) ++ b) x y →
+      ⊥ = λ x y p q. subst (λ (l : List Subrect). IsLeft width pixels background l x y → ⊥)
+      (sym (append_assoc before (t ∷ []) b)) (none_second x y p q) in
       let rest = all_same (before ++ t ∷ []) a b moved second none_a none_b in
       λ i. same i ∷ rest i
 
-  pub same_subs : (a b : List Subrect) → AreRuleSubs width height pixels background a → AreRuleSubs width height pixels background b → a ≡ b
+  pub same_subs : (a b : List Subrect) → AreRuleSubs width height pixels background a →
+      AreRuleSubs width height pixels background b → a ≡ b
   same_subs a b first second = all_same [] a b first.each second.each first.none second.none
 
   -- ---- no more than there are places
@@ -114,23 +163,32 @@ module _ (width height : ℕ) (pixels : List ℕ) (background : ℕ) where
   -- the places before (x, y), row by row
   before_is : (i j x y : ℕ) → i < width → x < width → j * width + i < y * width + x → IsBefore i j x y
   before_is i j x y p q less = elim (cases_order j y) [
-    | inl same ↦ inr (same, let rows : j * width ≡ y * width = ap (λ (n : ℕ). n * width) same in omega (arith, less, rows))
+    | inl same ↦
+        inr (same, let rows : j * width ≡ y * width = ap (λ (n : ℕ). n * width) same in omega (arith, less, rows))
     | inr apart ↦ elim apart [
       | inl above ↦ inl above
-      | inr below ↦ let rows : (y + 1) * width ≤ j * width = mul-le-mul_right width (omega (arith, below)) in absurd (omega (arith, less, rows, q))
+      | inr below ↦
+          let rows : (y + 1) * width ≤ j * width = mul-le-mul_right width (omega (arith, below)) in
+          absurd (omega (arith, less, rows, q))
     ]
   ]
 
   -- a place that is left after one more was left, and is not its corner
-  left_after : (before : List Subrect) (s : Subrect) (x y : ℕ) → IsLeft width pixels background (before ++ s ∷ []) x y → IsLeft width pixels background before x y × (contains s.rect x y ≡ false)
-  left_after before s x y left = let parts = neither (is_in_any before x y) (contains s.rect x y) (sym (in_push before s x y) ∙ left.1) in ((left.0, parts.0), parts.1)
+  left_after : (before : List Subrect) (s : Subrect) (x y : ℕ) → IsLeft width pixels background (before ++ s ∷ []) x y →
+      IsLeft width pixels background before x y × (contains s.rect x y ≡ false)
+  left_after before s x y left =
+      let parts = neither (is_in_any before x y) (contains s.rect x y) (sym (in_push before s x y) ∙ left.1) in
+      ((left.0, parts.0), parts.1)
     where
       neither : (a b : Bool) → (a || b) ≡ false → (a ≡ false) × (b ≡ false)
       neither true b e = absurd cc
       neither false b e = (refl, e)
 
-  -- where each place that is left comes from a number on: as many as there are numbers, and one less where a place of the background is among them
-  pub in_order : (before subs : List Subrect) (from place : ℕ) → AreNextSubs width height pixels background before subs → from ≤ height * width → place < height * width → slice_index pixels place ≡ background →
+  -- where each place that is left comes from a number on: as many as there are numbers, and one less where a place of
+  -- the background is among them
+  pub in_order : (before subs : List Subrect) (from place : ℕ) →
+      AreNextSubs width height pixels background before subs → from ≤ height * width → place < height * width →
+      slice_index pixels place ≡ background →
       ((x y : ℕ) → x < width → y < height → IsLeft width pixels background before x y → from ≤ y * width + x) →
       (length subs + from ≤ height * width) × (from ≤ place → length subs + from + 1 ≤ height * width)
   in_order before [] from place each within below plain low = (omega arith, λ l. omega arith)
@@ -163,15 +221,21 @@ module _ (width height : ℕ) (pixels : List ℕ) (background : ℕ) where
       )
     where
       -- the corner's number is its own
-      corner : (i j : ℕ) → i < width → s.rect.x < width → s.rect.y * width + s.rect.x ≡ j * width + i → contains s.rect i j ≡ true
+      corner : (i j : ℕ) → i < width → s.rect.x < width → s.rect.y * width + s.rect.x ≡ j * width + i →
+          contains s.rect i j ≡ true
       corner i j p q same =
-          let row : j ≡ s.rect.y = sym (div-mul-add j width i p) ∙ (ap (λ (n : ℕ). n / width) (sym same) ∙ div-mul-add s.rect.y width s.rect.x q) in
-          let column : i ≡ s.rect.x = sym (mod-mul-add j width i p) ∙ (ap (λ (n : ℕ). n % width) (sym same) ∙ mod-mul-add s.rect.y width s.rect.x q) in
-          contains_row s.rect i j (omega (arith, column)) (omega (arith, column, next.wide)) (omega (arith, row)) (omega (arith, row, next.high))
+          let row : j ≡ s.rect.y = sym (div-mul-add j width i p)
+          ∙ (ap (λ (n : ℕ). n / width) (sym same) ∙ div-mul-add s.rect.y width s.rect.x q) in
+          let column : i ≡ s.rect.x = sym (mod-mul-add j width i p)
+          ∙ (ap (λ (n : ℕ). n % width) (sym same) ∙ mod-mul-add s.rect.y width s.rect.x q) in
+          contains_row s.rect i j (omega (arith, column)) (omega (arith, column, next.wide)) (omega (arith, row))
+          (omega (arith, row, next.high))
 
-  pub few_subs : (subs : List Subrect) → length pixels ≡ height * width → IsPixelOf pixels background → AreRuleSubs width height pixels background subs → length subs < height * width
+  pub few_subs : (subs : List Subrect) → length pixels ≡ height * width → IsPixelOf pixels background →
+      AreRuleSubs width height pixels background subs → length subs < height * width
   few_subs subs whole (place, below, is) rule =
-      let all = in_order [] subs 0 place rule.each (omega arith) (omega (arith, below, whole)) (sym is) (λ x y p q left. omega arith) in
+      let all = in_order [] subs 0 place rule.each (omega arith) (omega (arith, below, whole)) (sym is)
+      (λ x y p q left. omega arith) in
       let less = all.1 (omega arith) in
       omega (arith, less)
 
@@ -183,9 +247,11 @@ Among p [] = ⊥
 Among p (q ∷ others) = (p ≡ q) ⊎ Among p others
 
 -- the others, once it is taken out
-taken_out : (p : ℕ) (xs : List ℕ) → Among p xs → (ys : List ℕ) × (length xs ≡ suc (length ys)) × ((q : ℕ) → q ≢ p → Among q xs → Among q ys)
+taken_out : (p : ℕ) (xs : List ℕ) → Among p xs →
+    (ys : List ℕ) × (length xs ≡ suc (length ys)) × ((q : ℕ) → q ≢ p → Among q xs → Among q ys)
 taken_out p [] is = absurd is
-taken_out p (x ∷ xs) (inl same) = (xs, refl, λ q other is. elim is [ inl e ↦ absurd (other (e ∙ sym same)) | inr there ↦ there ])
+taken_out p (x ∷ xs) (inl same) =
+    (xs, refl, λ q other is. elim is [ inl e ↦ absurd (other (e ∙ sym same)) | inr there ↦ there ])
 taken_out p (x ∷ xs) (inr there) =
     let (ys, size, kept) = taken_out p xs there in
     (x ∷ ys, ap suc size, λ q other is. elim is [ inl e ↦ inl e | inr deeper ↦ inr (kept q other deeper) ])
@@ -196,7 +262,8 @@ different_among [] all differ there = omega arith
 different_among (p ∷ some) all (apart, differ) there =
     let (others, size, kept) = taken_out p all (All-head (λ q. Among q all) p some there) in
     let more = All-tail (λ q. Among q all) p some there in
-    let rest = All-from_get_or (λ q. Among q others) some 0 (λ i below. kept (get_or some i 0) (All-get_or (λ q. q ≢ p) some i 0 below apart) (All-get_or (λ q. Among q all) some i 0 below more)) in
+    let rest = All-from_get_or (λ q. Among q others) some 0 (λ i below. kept (get_or some i 0)
+    (All-get_or (λ q. q ≢ p) some i 0 below apart) (All-get_or (λ q. Among q all) some i 0 below more)) in
     let less = different_among some others differ rest in
     omega (arith, size, less)
 
@@ -205,15 +272,21 @@ pixels_of subs = map (λ (s : Subrect). s.pixel) subs
 
 module _ (width height : ℕ) (pixels : List ℕ) (background : ℕ) where
   -- a place of a subrectangle has its pixel
-  among_subs : (before subs : List Subrect) → AreNextSubs width height pixels background before subs → (x y : ℕ) → is_in_any subs x y ≡ true → Among (slice_index pixels (y * width + x)) (pixels_of subs)
+  among_subs : (before subs : List Subrect) → AreNextSubs width height pixels background before subs → (x y : ℕ) →
+      is_in_any subs x y ≡ true → Among (slice_index pixels (y * width + x)) (pixels_of subs)
   among_subs before [] each x y e = cc
-  among_subs before (s ∷ subs) (next, each) x y e = by (contains s.rect x y) refl e (among_subs (before ++ s ∷ []) subs each x y)
+  among_subs before (s ∷ subs) (next, each) x y e =
+      by (contains s.rect x y) refl e (among_subs (before ++ s ∷ []) subs each x y)
     where
-      by : (here : Bool) → contains s.rect x y ≡ here → (here || is_in_any subs x y) ≡ true → (is_in_any subs x y ≡ true → Among (slice_index pixels (y * width + x)) (pixels_of subs)) → Among (slice_index pixels (y * width + x)) (s.pixel ∷ pixels_of subs)
+      by : (here : Bool) → contains s.rect x y ≡ here → (here || is_in_any subs x y) ≡ true →
+          (is_in_any subs x y ≡ true → Among (slice_index pixels (y * width + x)) (pixels_of subs)) →
+          Among (slice_index pixels (y * width + x)) (s.pixel ∷ pixels_of subs)
       by true is any rest = let (a, b, c, d) = contains_true s.rect x y is in inl (next.rows y c d x a b).0
       by false is any rest = inr (rest any)
 
-  pixel_among : (subs : List Subrect) → length pixels ≡ height * width → AreRuleSubs width height pixels background subs → (p : ℕ) → IsPixelOf pixels p → Among p (background ∷ pixels_of subs)
+  pixel_among : (subs : List Subrect) → length pixels ≡ height * width →
+      AreRuleSubs width height pixels background subs → (p : ℕ) → IsPixelOf pixels p →
+      Among p (background ∷ pixels_of subs)
   pixel_among subs whole rule p (i, below, is) =
       let some : 0 < width = positive width (rw whole at below) in
       let x : i % width < width = mod-lt i some in
@@ -228,14 +301,19 @@ module _ (width height : ℕ) (pixels : List ℕ) (background : ℕ) where
       positive zero l = absurd (omega arith)
       positive (suc w) l = omega arith
 
-      by : (any : Bool) → is_in_any subs (i % width) (i / width) ≡ any → i % width < width → i / width < height → i / width * width + i % width ≡ i → p ≢ background → Among p (pixels_of subs)
-      by true e x y place other = subst (λ (q : ℕ). Among q (pixels_of subs)) (ap (λ (n : ℕ). slice_index pixels n) place ∙ sym is) (among_subs [] subs rule.each (i % width) (i / width) e)
-      by false e x y place other = absurd (rule.none (i % width) (i / width) x y ((λ same. other (is ∙ (ap (λ (n : ℕ). slice_index pixels n) (sym place) ∙ same))), e))
+      by : (any : Bool) → is_in_any subs (i % width) (i / width) ≡ any → i % width < width → i / width < height →
+          i / width * width + i % width ≡ i → p ≢ background → Among p (pixels_of subs)
+      by true e x y place other = subst (λ (q : ℕ). Among q (pixels_of subs))
+          (ap (λ (n : ℕ). slice_index pixels n) place ∙ sym is) (among_subs [] subs rule.each (i % width) (i / width) e)
+      by false e x y place other = absurd (rule.none (i % width) (i / width) x y
+          ((λ same. other (is ∙ (ap (λ (n : ℕ). slice_index pixels n) (sym place) ∙ same))), e))
 
   -- each pixel but the background needs one
-  pub enough_subs : (subs : List Subrect) (most : ℕ) → length pixels ≡ height * width → AreRuleSubs width height pixels background subs → HasMore most pixels → most ≤ length subs
+  pub enough_subs : (subs : List Subrect) (most : ℕ) → length pixels ≡ height * width →
+      AreRuleSubs width height pixels background subs → HasMore most pixels → most ≤ length subs
   enough_subs subs most whole rule more =
-      let among = All-weaker (λ p. IsPixelOf pixels p) (λ p. Among p (background ∷ pixels_of subs)) (pixel_among subs whole rule) more.some more.there in
+      let among = All-weaker (λ p. IsPixelOf pixels p) (λ p. Among p (background ∷ pixels_of subs))
+      (pixel_among subs whole rule) more.some more.there in
       let less = different_among more.some (background ∷ pixels_of subs) more.differ among in
       let size : length (pixels_of subs) ≡ length subs = length-map subs (λ (s : Subrect). s.pixel) in
       let many = more.many in

@@ -5,7 +5,8 @@ use Rattle.rfb_pixel.specs.Format.{rgb888, bgr233}
 use Rattle.rfb_picture.specs.Grid.{grid, changed, uniform}
 use Rattle.rfb_wire.specs.declared.encoding.Encoding.TheVariants.{CopyRect}
 use Rattle.rfb_wire.specs.stream.Reading.{More, Got, Bad}
-use Rattle.rfb_codec.specs.declared.fault.PaintFault.TheVariants.{SubrectOutside, SourceOutside, NoBackground, NoForeground, BothColourBits}
+use Rattle.rfb_codec.specs.declared.fault.PaintFault.TheVariants.{SubrectOutside, SourceOutside, NoBackground}
+use Rattle.rfb_codec.specs.declared.fault.PaintFault.TheVariants.{NoForeground, BothColourBits}
 use Rattle.rfb_codec.specs.Raw.{raw}
 use Rattle.rfb_codec.specs.Rre.{rre}
 use Rattle.rfb_codec.specs.Hextile.{hextile}
@@ -27,25 +28,30 @@ raw_waits_for_its_last_byte = refl
 
 -- ---- CopyRect
 
-a_source_is_two_numbers : rect_data bgr233 4 1 (record { x = 1; y = 0; w = 3; h = 1 }) CopyRect (0 ∷ 0 ∷ 0 ∷ 0 ∷ 9 ∷ []) ≡ Got (Source 0 0) (9 ∷ [])
+a_source_is_two_numbers : rect_data bgr233 4 1 (record { x = 1; y = 0; w = 3; h = 1 }) CopyRect (0 ∷ 0 ∷ 0 ∷ 0 ∷ 9 ∷ [])
+    ≡ Got (Source 0 0) (9 ∷ [])
 unfolding rect_data
 a_source_is_two_numbers = refl
 
-a_source_that_leaves_the_screen_is_refused : rect_data bgr233 2 1 (record { x = 0; y = 0; w = 2; h = 1 }) CopyRect (0 ∷ 1 ∷ 0 ∷ 0 ∷ []) ≡ Bad SourceOutside
+a_source_that_leaves_the_screen_is_refused : rect_data bgr233 2 1 (record { x = 0; y = 0; w = 2; h = 1 }) CopyRect
+    (0 ∷ 1 ∷ 0 ∷ 0 ∷ []) ≡ Bad SourceOutside
 unfolding rect_data
 a_source_that_leaves_the_screen_is_refused = refl
 
-an_empty_rectangle_has_a_source_too : rect_data bgr233 2 1 (record { x = 0; y = 0; w = 0; h = 1 }) CopyRect (0 ∷ 3 ∷ 0 ∷ 0 ∷ []) ≡ Bad SourceOutside
+an_empty_rectangle_has_a_source_too : rect_data bgr233 2 1 (record { x = 0; y = 0; w = 0; h = 1 }) CopyRect
+    (0 ∷ 3 ∷ 0 ∷ 0 ∷ []) ≡ Bad SourceOutside
 unfolding rect_data
 an_empty_rectangle_has_a_source_too = refl
 
 -- ---- RRE
 
-a_subrectangle_over_a_background : rre rgb888 8 1 (0 ∷ 0 ∷ 0 ∷ 1 ∷ 0 ∷ 0 ∷ 0 ∷ 0 ∷ 255 ∷ 255 ∷ 255 ∷ 0 ∷ 0 ∷ 7 ∷ 0 ∷ 0 ∷ 0 ∷ 1 ∷ 0 ∷ 1 ∷ []) ≡ Got (grid 8 1 (0 ∷ 0 ∷ 0 ∷ 0 ∷ 0 ∷ 0 ∷ 0 ∷ 16777215 ∷ [])) []
+a_subrectangle_over_a_background : rre rgb888 8 1 (0 ∷ 0 ∷ 0 ∷ 1 ∷ 0 ∷ 0 ∷ 0 ∷ 0 ∷ 255 ∷ 255 ∷ 255 ∷ 0 ∷ 0 ∷ 7 ∷ 0 ∷ 0
+    ∷ 0 ∷ 1 ∷ 0 ∷ 1 ∷ []) ≡ Got (grid 8 1 (0 ∷ 0 ∷ 0 ∷ 0 ∷ 0 ∷ 0 ∷ 0 ∷ 16777215 ∷ [])) []
 unfolding rre changed uniform
 a_subrectangle_over_a_background = refl
 
-the_last_of_two_subrectangles_is_shown : rre bgr233 3 1 (0 ∷ 0 ∷ 0 ∷ 2 ∷ 0 ∷ 7 ∷ 0 ∷ 0 ∷ 0 ∷ 0 ∷ 0 ∷ 2 ∷ 0 ∷ 1 ∷ 56 ∷ 0 ∷ 1 ∷ 0 ∷ 0 ∷ 0 ∷ 2 ∷ 0 ∷ 1 ∷ []) ≡ Got (grid 3 1 (7 ∷ 56 ∷ 56 ∷ [])) []
+the_last_of_two_subrectangles_is_shown : rre bgr233 3 1 (0 ∷ 0 ∷ 0 ∷ 2 ∷ 0 ∷ 7 ∷ 0 ∷ 0 ∷ 0 ∷ 0 ∷ 0 ∷ 2 ∷ 0 ∷ 1 ∷ 56 ∷ 0
+    ∷ 1 ∷ 0 ∷ 0 ∷ 0 ∷ 2 ∷ 0 ∷ 1 ∷ []) ≡ Got (grid 3 1 (7 ∷ 56 ∷ 56 ∷ [])) []
 unfolding rre changed uniform
 the_last_of_two_subrectangles_is_shown = refl
 
@@ -53,13 +59,16 @@ a_count_is_not_judged : rre bgr233 2 1 (255 ∷ 255 ∷ 255 ∷ 255 ∷ 16 ∷ 3
 unfolding rre
 a_count_is_not_judged = refl
 
-a_subrectangle_is_judged_at_its_last_byte : rre bgr233 2 1 (255 ∷ 255 ∷ 255 ∷ 255 ∷ 16 ∷ 32 ∷ 0 ∷ 2 ∷ 0 ∷ 0 ∷ 0 ∷ 1 ∷ 0 ∷ 1 ∷ []) ≡ Bad SubrectOutside
+a_subrectangle_is_judged_at_its_last_byte : rre bgr233 2 1
+    (255 ∷ 255 ∷ 255 ∷ 255 ∷ 16 ∷ 32 ∷ 0 ∷ 2 ∷ 0 ∷ 0 ∷ 0 ∷ 1 ∷ 0 ∷ 1 ∷ []) ≡ Bad SubrectOutside
 unfolding rre
 a_subrectangle_is_judged_at_its_last_byte = refl
 
 -- ---- Hextile
 
-tiles_of_one_pixel_keep_the_background : hextile rgb888 17 1 (2 ∷ 1 ∷ 128 ∷ 255 ∷ 0 ∷ 0 ∷ []) ≡ Got (grid 17 1 (16744449 ∷ 16744449 ∷ 16744449 ∷ 16744449 ∷ 16744449 ∷ 16744449 ∷ 16744449 ∷ 16744449 ∷ 16744449 ∷ 16744449 ∷ 16744449 ∷ 16744449 ∷ 16744449 ∷ 16744449 ∷ 16744449 ∷ 16744449 ∷ 16744449 ∷ [])) []
+tiles_of_one_pixel_keep_the_background : hextile rgb888 17 1 (2 ∷ 1 ∷ 128 ∷ 255 ∷ 0 ∷ 0 ∷ [])
+    ≡ Got (grid 17 1 (16744449 ∷ 16744449 ∷ 16744449 ∷ 16744449 ∷ 16744449 ∷ 16744449 ∷ 16744449 ∷ 16744449 ∷ 16744449
+    ∷ 16744449 ∷ 16744449 ∷ 16744449 ∷ 16744449 ∷ 16744449 ∷ 16744449 ∷ 16744449 ∷ 16744449 ∷ [])) []
 unfolding hextile changed uniform
 tiles_of_one_pixel_keep_the_background = refl
 
@@ -87,12 +96,17 @@ subrectangles_need_a_foreground : hextile bgr233 17 1 (2 ∷ 16 ∷ 8 ∷ []) �
 unfolding hextile
 subrectangles_need_a_foreground = refl
 
-three_tiles_of_two_pixels : hextile bgr233 48 1 (26 ∷ 16 ∷ 2 ∷ 32 ∷ 224 ∷ 0 ∷ 48 ∷ 240 ∷ 0 ∷ 12 ∷ 32 ∷ 1 ∷ 240 ∷ 0 ∷ 8 ∷ 1 ∷ 240 ∷ 0 ∷ []) ≡ Got (grid 48 1 (16 ∷ 16 ∷ 16 ∷ 16 ∷ 16 ∷ 16 ∷ 16 ∷ 16 ∷ 16 ∷ 16 ∷ 16 ∷ 16 ∷ 16 ∷ 16 ∷ 32 ∷ 48 ∷ 16 ∷ 16 ∷ 16 ∷ 16 ∷ 16 ∷ 16 ∷ 16 ∷ 16 ∷ 16 ∷ 16 ∷ 16 ∷ 16 ∷ 16 ∷ 16 ∷ 16 ∷ 32 ∷ 16 ∷ 16 ∷ 16 ∷ 16 ∷ 16 ∷ 16 ∷ 16 ∷ 16 ∷ 16 ∷ 16 ∷ 16 ∷ 16 ∷ 16 ∷ 16 ∷ 16 ∷ 32 ∷ [])) []
+three_tiles_of_two_pixels : hextile bgr233 48 1 (26 ∷ 16 ∷ 2 ∷ 32 ∷ 224 ∷ 0 ∷ 48 ∷ 240 ∷ 0 ∷ 12 ∷ 32 ∷ 1 ∷ 240 ∷ 0 ∷ 8
+    ∷ 1 ∷ 240 ∷ 0 ∷ []) ≡ Got (grid 48 1 (16 ∷ 16 ∷ 16 ∷ 16 ∷ 16 ∷ 16 ∷ 16 ∷ 16 ∷ 16 ∷ 16 ∷ 16 ∷ 16 ∷ 16 ∷ 16 ∷ 32 ∷ 48
+    ∷ 16 ∷ 16 ∷ 16 ∷ 16 ∷ 16 ∷ 16 ∷ 16 ∷ 16 ∷ 16 ∷ 16 ∷ 16 ∷ 16 ∷ 16 ∷ 16 ∷ 16 ∷ 32 ∷ 16 ∷ 16 ∷ 16 ∷ 16 ∷ 16 ∷ 16 ∷ 16
+    ∷ 16 ∷ 16 ∷ 16 ∷ 16 ∷ 16 ∷ 16 ∷ 16 ∷ 16 ∷ 32 ∷ [])) []
 unfolding hextile changed uniform
 three_tiles_of_two_pixels = refl
 
 -- a background is carried past a raw tile, by this project's choice
-a_raw_tile_leaves_the_background : hextile bgr233 33 1 (2 ∷ 9 ∷ 1 ∷ 1 ∷ 2 ∷ 3 ∷ 4 ∷ 5 ∷ 6 ∷ 7 ∷ 8 ∷ 1 ∷ 2 ∷ 3 ∷ 4 ∷ 5 ∷ 6 ∷ 7 ∷ 8 ∷ 0 ∷ []) ≡ Got (grid 33 1 (9 ∷ 9 ∷ 9 ∷ 9 ∷ 9 ∷ 9 ∷ 9 ∷ 9 ∷ 9 ∷ 9 ∷ 9 ∷ 9 ∷ 9 ∷ 9 ∷ 9 ∷ 9 ∷ 1 ∷ 2 ∷ 3 ∷ 4 ∷ 5 ∷ 6 ∷ 7 ∷ 8 ∷ 1 ∷ 2 ∷ 3 ∷ 4 ∷ 5 ∷ 6 ∷ 7 ∷ 8 ∷ 9 ∷ [])) []
+a_raw_tile_leaves_the_background : hextile bgr233 33 1 (2 ∷ 9 ∷ 1 ∷ 1 ∷ 2 ∷ 3 ∷ 4 ∷ 5 ∷ 6 ∷ 7 ∷ 8 ∷ 1 ∷ 2 ∷ 3 ∷ 4 ∷ 5
+    ∷ 6 ∷ 7 ∷ 8 ∷ 0 ∷ []) ≡ Got (grid 33 1 (9 ∷ 9 ∷ 9 ∷ 9 ∷ 9 ∷ 9 ∷ 9 ∷ 9 ∷ 9 ∷ 9 ∷ 9 ∷ 9 ∷ 9 ∷ 9 ∷ 9 ∷ 9 ∷ 1 ∷ 2 ∷ 3
+    ∷ 4 ∷ 5 ∷ 6 ∷ 7 ∷ 8 ∷ 1 ∷ 2 ∷ 3 ∷ 4 ∷ 5 ∷ 6 ∷ 7 ∷ 8 ∷ 9 ∷ [])) []
 unfolding hextile changed uniform
 a_raw_tile_leaves_the_background = refl
 

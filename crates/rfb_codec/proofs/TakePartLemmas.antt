@@ -34,17 +34,21 @@ use Rattle.rfb_codec.proofs.VerdictLemmas.{stage_waits}
 -- ---- a fault
 
 -- of data of which the bytes say that they end in it
-data_bad : (f : PixelFormat) (rect : Rect) (encoding : Encoding) (before : Grid Colour) (body : List ℕ) (fault : PaintFault) → FaultsData f before.width before.height rect encoding fault body → rect_data f before.width before.height rect encoding body ≡ Bad fault
+data_bad : (f : PixelFormat) (rect : Rect) (encoding : Encoding) (before : Grid Colour)
+    (body : List ℕ) (fault : PaintFault) → FaultsData f before.width before.height rect encoding fault body →
+    rect_data f before.width before.height rect encoding body ≡ Bad fault
 data_bad f rect encoding before body fault said =
     subst (λ (ys : List ℕ). rect_data f before.width before.height rect encoding ys ≡ Bad fault) (append-nil body)
     ((rect_data_reads f before.width before.height rect encoding).blames fault body [] said)
 
 -- bytes before the last
-front_short : (k n : ℕ) (pending bytes xs : List ℕ) → xs ≡ pending ++ take (k + 1) bytes → k < length bytes → length xs ≡ n + 1 → length (pending ++ take k bytes) ≡ n
+front_short : (k n : ℕ) (pending bytes xs : List ℕ) → xs ≡ pending ++ take (k + 1) bytes → k < length bytes →
+    length xs ≡ n + 1 → length (pending ++ take k bytes) ≡ n
 front_short k n pending bytes xs is within size =
     let a : length (take (k + 1) bytes) ≡ k + 1 = length-take-le (k + 1) bytes (omega arith) in
     let b : length (take k bytes) ≡ k = length-take-le k bytes (omega arith) in
-    let c : length pending + length (take (k + 1) bytes) ≡ n + 1 = sym (length-append pending (take (k + 1) bytes)) ∙ ap length (sym is) ∙ size in
+    let c : length pending + length (take (k + 1) bytes) ≡ n + 1 =
+    sym (length-append pending (take (k + 1) bytes)) ∙ ap length (sym is) ∙ size in
     length-append pending (take k bytes) ∙ omega (arith, a, b, c)
 
 -- ---- CopyRect
@@ -56,7 +60,8 @@ pub source_refused : (f : PixelFormat) (rect : Rect) (pending bytes xs : List �
     IsRefusedWith f rect CopyRect before body bytes (record { used = used; fault = SourceOutside }) now
 source_refused f rect pending bytes xs used k x y now before body s within is size x_is y_is off last =
     let whole : body ++ take (k + 1) bytes ≡ xs = ap (λ (ys : List ℕ). ys ++ take (k + 1) bytes) s.spelled.0 ∙ sym is in
-    let off' : IsOnScreen before.width before.height (moved_to x y rect) → ⊥ = subst (λ (g : Grid Colour). IsOnScreen g.width g.height (moved_to x y rect) → ⊥) s.shows off in
+    let off' : IsOnScreen before.width before.height (moved_to x y rect) → ⊥ =
+    subst (λ (g : Grid Colour). IsOnScreen g.width g.height (moved_to x y rect) → ⊥) s.shows off in
     let short = front_short k 3 pending bytes xs is within size in
     let shown : Shows f rect NoSource (pending ++ take k bytes) now before
     (body ++ take k bytes) = record {
@@ -92,11 +97,17 @@ source_refused f rect pending bytes xs used k x y now before body s within is si
 -- ---- RRE
 
 -- the head at its last byte
-pub head_taken : (f : PixelFormat) (rect : Rect) (pending more xs rest : List ℕ) (count part background : ℕ) (old new before : Grid Colour) (body : List ℕ) → xs ≡ pending ++ more → length xs ≡ 4 + size_of f → rest ≡ [] → count ≡ big_number 4 xs → part ≡ size_of f → background ≡ pixel_number f (take part (drop 4 xs)) → new ≡ filled rect (colour_of f background) old → Shows f rect NoHead pending old before body → StandsAt f rect (InSubrects count) rest new before (body ++ more)
-head_taken f rect pending more xs rest count part background old new before body is size none count_is part_is background_is drawn s =
+pub head_taken : (f : PixelFormat) (rect : Rect) (pending more xs rest : List ℕ) (count part background : ℕ)
+    (old new before : Grid Colour) (body : List ℕ) → xs ≡ pending ++ more → length xs ≡ 4 + size_of f →
+    rest ≡ [] → count ≡ big_number 4 xs → part ≡ size_of f → background ≡ pixel_number f (take part (drop 4 xs)) →
+    new ≡ filled rect (colour_of f background) old → Shows f rect NoHead pending old before body →
+    StandsAt f rect (InSubrects count) rest new before (body ++ more)
+head_taken f rect pending more xs rest count part background old new before body is size none count_is
+    part_is background_is drawn s =
     let whole : body ++ more ≡ xs = ap (λ (ys : List ℕ). ys ++ more) s.spelled.0 ∙ sym is in
     let number : length {A = Subrect} [] + count ≡ count = omega arith in
-    let background' : pixel_number f (drop 4 xs) ≡ background = sym (pixel_number-take f (drop 4 xs) part (omega arith)) ∙ sym background_is in (
+    let background' : pixel_number f (drop 4 xs) ≡ background =
+    sym (pixel_number-take f (drop 4 xs) part (omega arith)) ∙ sym background_is in (
       background,
       [],
       rw (number, none) (record {
@@ -115,17 +126,25 @@ head_taken f rect pending more xs rest count part background old new before body
     )
 
 -- the data with one subrectangle more
-pub subrect_taken : (f : PixelFormat) (rect : Rect) (left less : ℕ) (pending more xs rest : List ℕ) (old new before : Grid Colour) (body : List ℕ) → 0 < left → less ≡ left - 1 → xs ≡ pending ++ more → length xs ≡ size_of f + 8 → rest ≡ [] → IsOnScreen rect.w rect.h (subrect_of f xs).rect → IsGrid old → new ≡ filled (moved_into rect (subrect_of f xs).rect) (colour_of f (subrect_of f xs).pixel) old → StandsAt f rect (InSubrects left) pending old before body → StandsAt f rect (InSubrects less) rest new before (body ++ more)
-subrect_taken f rect left less pending more xs rest old new before body some less_is is size none on whole drawn (background, subs, s) =
+pub subrect_taken : (f : PixelFormat) (rect : Rect) (left less : ℕ)
+    (pending more xs rest : List ℕ) (old new before : Grid Colour) (body : List ℕ) → 0 < left → less ≡ left - 1 →
+    xs ≡ pending ++ more → length xs ≡ size_of f + 8 → rest ≡ [] → IsOnScreen rect.w rect.h (subrect_of f xs).rect →
+    IsGrid old → new ≡ filled (moved_into rect (subrect_of f xs).rect) (colour_of f (subrect_of f xs).pixel) old →
+    StandsAt f rect (InSubrects left) pending old before body →
+    StandsAt f rect (InSubrects less) rest new before (body ++ more)
+subrect_taken f rect left less pending more xs rest old new before body some less_is is size none on
+    whole drawn (background, subs, s) =
     let one = subrect_of f xs in
     let p = s.spelled in
     let long : length (subs ++ one ∷ []) ≡ length subs + 1 = length-append subs (one ∷ []) in
     let number : length (subs ++ one ∷ []) + less ≡ length subs + left = omega (arith, long, less_is) in
     let bytes_are : body ++ more ≡ p.head ++ ((p.list ++ xs) ++ []) =
     ap (λ (ys : List ℕ). ys ++ more) p.whole ∙ append_assoc p.head (p.list ++ pending) more
-    ∙ ap (λ (ys : List ℕ). p.head ++ ys) (append_assoc p.list pending more ∙ ap (λ (ys : List ℕ). p.list ++ ys) (sym is) ∙ sym (append-nil (p.list ++ xs))) in
+    ∙ ap (λ (ys : List ℕ). p.head ++ ys) (append_assoc p.list pending more ∙ ap (λ (ys : List ℕ). p.list ++ ys) (sym is)
+    ∙ sym (append-nil (p.list ++ xs))) in
     let listed = listed_from (SpellsInside f rect.w rect.h) [] (subs ++ one ∷ []) (p.list ++ xs)
-    (listed_more (λ (_ : List Subrect). SpellsInside f rect.w rect.h) [] subs one p.list xs (listed_to (SpellsInside f rect.w rect.h) [] subs p.list p.listed) (subrect_spelled f xs size, on)) in
+    (listed_more (λ (_ : List Subrect). SpellsInside f rect.w rect.h) [] subs one p.list xs
+    (listed_to (SpellsInside f rect.w rect.h) [] subs p.list p.listed) (subrect_spelled f xs size, on)) in
     let whole' : IsGrid before = whole_before _ before (subst (λ (g : Grid Colour). IsGrid g) s.shows whole) in (
       background,
       subs ++ one ∷ [],
@@ -140,12 +159,16 @@ subrect_taken f rect left less pending more xs rest old new before body some les
           short = omega arith;
           ended = λ e. refl;
         };
-        shows = drawn ∙ ap (filled (moved_into rect one.rect) (colour_of f one.pixel)) s.shows ∙ over_filled f rect background subs one before whole' on;
+        shows = drawn ∙ ap (filled (moved_into rect one.rect) (colour_of f one.pixel)) s.shows
+            ∙ over_filled f rect background subs one before whole' on;
       }),
     )
 
 -- bytes of the next one
-pub subrect_waits : (f : PixelFormat) (rect : Rect) (left : ℕ) (pending more xs : List ℕ) (now before : Grid Colour) (body : List ℕ) → 0 < left → xs ≡ pending ++ more → length xs < size_of f + 8 → StandsAt f rect (InSubrects left) pending now before body → StandsAt f rect (InSubrects left) xs now before (body ++ more)
+pub subrect_waits : (f : PixelFormat) (rect : Rect)
+    (left : ℕ) (pending more xs : List ℕ) (now before : Grid Colour) (body : List ℕ) → 0 < left → xs ≡ pending ++ more →
+    length xs < size_of f + 8 → StandsAt f rect (InSubrects left) pending now before body →
+    StandsAt f rect (InSubrects left) xs now before (body ++ more)
 subrect_waits f rect left pending more xs now before body some is short (background, subs, s) =
     let p = s.spelled in (
       background,
@@ -155,7 +178,8 @@ subrect_waits f rect left pending more xs now before body some is short (backgro
           head = p.head;
           list = p.list;
           whole = ap (λ (ys : List ℕ). ys ++ more) p.whole ∙ append_assoc p.head (p.list ++ pending) more
-              ∙ ap (λ (ys : List ℕ). p.head ++ ys) (append_assoc p.list pending more ∙ ap (λ (ys : List ℕ). p.list ++ ys) (sym is));
+              ∙ ap (λ (ys : List ℕ). p.head ++ ys)
+              (append_assoc p.list pending more ∙ ap (λ (ys : List ℕ). p.list ++ ys) (sym is));
           head_is = p.head_is;
           listed = p.listed;
           few = p.few;
@@ -176,10 +200,13 @@ unfolding subrect_waits
 subrect_refused f rect left used k pending bytes xs now before body some within is size off (background, subs, s) last =
     let p = s.spelled in
     let whole : body ++ take (k + 1) bytes ≡ p.head ++ (p.list ++ xs) =
-    ap (λ (ys : List ℕ). ys ++ take (k + 1) bytes) p.whole ∙ append_assoc p.head (p.list ++ pending) (take (k + 1) bytes)
-    ∙ ap (λ (ys : List ℕ). p.head ++ ys) (append_assoc p.list pending (take (k + 1) bytes) ∙ ap (λ (ys : List ℕ). p.list ++ ys) (sym is)) in
+    ap (λ (ys : List ℕ). ys ++ take (k + 1) bytes) p.whole
+    ∙ append_assoc p.head (p.list ++ pending) (take (k + 1) bytes)
+    ∙ ap (λ (ys : List ℕ). p.head ++ ys)
+    (append_assoc p.list pending (take (k + 1) bytes) ∙ ap (λ (ys : List ℕ). p.list ++ ys) (sym is)) in
     let short = front_short k (size_of f + 7) pending bytes xs is within (size ∙ omega arith) in
-    let waits = subrect_waits f rect left pending (take k bytes) (pending ++ take k bytes) now before body some refl (omega (arith, short)) (background, subs, s) in
+    let waits = subrect_waits f rect left pending (take k bytes) (pending ++ take k bytes) now before body some refl
+    (omega (arith, short)) (background, subs, s) in
     record {
       refused = record {
         n = k;

@@ -1,5 +1,6 @@
 -- How long data by the rules are. Where they are shorter than Raw their rule does not give the block up.
-use Rattle.std.proofs.Common.{◌≡◌, ℕ, ◌+◌, ◌*◌, ◌<◌, List, [], ◌∷◌, ◌++◌, length, Option, Some, None, refl, ap, arith, length-append}
+use Rattle.std.proofs.Common.{◌≡◌, ℕ, ◌+◌, ◌*◌, ◌<◌, List, [], ◌∷◌, ◌++◌, length, Option, Some, None, refl, ap, arith}
+use Rattle.std.proofs.Common.{length-append}
 use Rattle.std.specs.List.{flat_map}
 use Rattle.byteorder.specs.Endian.{big_bytes}
 use Rattle.rfb_pixel.specs.Format.{PixelFormat, size_of, pixel_bytes}
@@ -21,7 +22,8 @@ use Rattle.rfb_codec.proofs.RreEncodeLemmas.{length-subrects}
 
 -- ---- RRE
 
-length-rre : (f : PixelFormat) (background : ℕ) (subs : List Subrect) → length (rre_bytes f background subs) ≡ 4 + size_of f + length subs * (size_of f + 8)
+length-rre : (f : PixelFormat) (background : ℕ) (subs : List Subrect) →
+    length (rre_bytes f background subs) ≡ 4 + size_of f + length subs * (size_of f + 8)
 length-rre f background subs =
     let head = length-append (big_bytes 4 (length subs)) (pixel_bytes f background) in
     let all = length-append (big_bytes 4 (length subs) ++ pixel_bytes f background) (flat_map (subrect_bytes f) subs) in
@@ -39,7 +41,8 @@ length-places : (places : List Rect) → length (flat_map place_bytes places) �
 length-places [] = refl
 length-places (place ∷ places) = let more = length-places places in omega (arith, more)
 
-length-colored : (f : PixelFormat) (subs : List Subrect) → length (flat_map (colored_bytes f) subs) ≡ length subs * (size_of f + 2)
+length-colored : (f : PixelFormat) (subs : List Subrect) →
+    length (flat_map (colored_bytes f) subs) ≡ length subs * (size_of f + 2)
 length-colored f [] = omega arith
 length-colored f (s ∷ subs) =
     let one = length-append (pixel_bytes f s.pixel) (place_bytes s.rect) in
@@ -48,7 +51,8 @@ length-colored f (s ∷ subs) =
     let more = length-colored f subs in
     omega (arith, one, all, pixel, more)
 
-length-parts : {A : Type 0} (size : ℕ) (bytes : A → List ℕ) (parts : List A) → length (flat_map bytes parts) ≡ length parts * size → length (counted_bytes bytes parts) ≡ parts_length size parts
+length-parts : {A : Type 0} (size : ℕ) (bytes : A → List ℕ) (parts : List A) →
+    length (flat_map bytes parts) ≡ length parts * size → length (counted_bytes bytes parts) ≡ parts_length size parts
 length-parts size bytes [] e = refl
 length-parts size bytes (part ∷ parts) e = omega (arith, e)
 
@@ -94,7 +98,8 @@ not_given_up Hextile f block bytes stands less gives =
     absurd (omega (arith, long, size, is, less))
 
 -- so what an encoder appends is of a block that is not given up
-pub taken : (result : Bool) (encoding : Encoding) (f : PixelFormat) (block : Grid ℕ) (old new : List ℕ) (before after : ℕ) → before ≡ length old → after ≡ length new →
+pub taken : (result : Bool) (encoding : Encoding) (f : PixelFormat) (block : Grid ℕ) (old new : List ℕ)
+    (before after : ℕ) → before ≡ length old → after ≡ length new →
     OnTrue result (Appends (StandsIn encoding) f block old new) → OnTrue result (after < before + raw_of f block) →
     OnTrue result (GivesUp encoding f block → ⊥)
 taken true encoding f block old new before after was is appends shorter = λ gives.

@@ -1,5 +1,6 @@
 -- The steps of a tally: a slot claimed, a run counted or put aside, and the runs of those aside.
-use Rattle.std.proofs.Common.{◌≡◌, ◌≢◌, ℕ, ◌+◌, ◌-◌, ◌<◌, ◌≤◌, List, [], ◌++◌, length, get_or, take, drop, arith, refl, sym, ◌∙◌, inl, inr, ◌⊎◌}
+use Rattle.std.proofs.Common.{◌≡◌, ◌≢◌, ℕ, ◌+◌, ◌-◌, ◌<◌, ◌≤◌, List, [], ◌++◌, length, get_or, take, drop, arith, refl}
+use Rattle.std.proofs.Common.{sym, ◌∙◌, inl, inr, ◌⊎◌}
 use Rattle.std.proofs.lemmas.Bool.{cases_lt, cases_eq}
 use Rattle.std.proofs.lemmas.List.{take_all}
 use Rattle.std.proofs.lemmas.List.{take-append-le}
@@ -31,7 +32,8 @@ led_none first before = record {
 }
 
 -- one more pixel, of `n` places, is better
-led_taken : (xs xs' : List ℕ) (pixel n first before better most : ℕ) → 0 < n → places_of pixel xs' ≡ n → ((other : ℕ) → other ≢ pixel → places_of other xs' ≡ places_of other xs) →
+led_taken : (xs xs' : List ℕ) (pixel n first before better most : ℕ) → 0 < n → places_of pixel xs' ≡ n →
+    ((other : ℕ) → other ≢ pixel → places_of other xs' ≡ places_of other xs) →
     Leads n pixel most better → Led xs first before better most → Led xs' first before pixel n
 led_taken xs xs' pixel n first before better most some counted passed leads old =
     let more : most ≤ n = elim leads [ inl l ↦ omega arith | inr l ↦ omega arith ] in
@@ -63,8 +65,10 @@ led_taken xs xs' pixel n first before better most some counted passed leads old 
     }
 
 -- it is no better
-led_left : (xs xs' : List ℕ) (pixel n first before better most : ℕ) → places_of pixel xs' ≡ n → ((other : ℕ) → other ≢ pixel → places_of other xs' ≡ places_of other xs) →
-    places_of better xs ≤ places_of better xs' → n ≤ most → (n ≡ most → better ≤ pixel) → Led xs first before better most → Led xs' first before better most
+led_left : (xs xs' : List ℕ) (pixel n first before better most : ℕ) → places_of pixel xs' ≡ n →
+    ((other : ℕ) → other ≢ pixel → places_of other xs' ≡ places_of other xs) →
+    places_of better xs ≤ places_of better xs' → n ≤ most → (n ≡ most → better ≤ pixel) →
+    Led xs first before better most → Led xs' first before better most
 led_left xs xs' pixel n first before better most counted passed grown no_more tie old =
     record {
       from = elim old.from [ inl l ↦ inl l | inr l ↦ inr (l.0, omega (arith, l.1, grown)) ];
@@ -84,19 +88,25 @@ led_left xs xs' pixel n first before better most counted passed grown no_more ti
 -- the run of a pixel that the places before do not have
 record Counted (sorted : List ℕ) (start end : ℕ) : Type 0 where
   counted : places_of (get_or sorted start 0) (take end sorted) ≡ end - start
-  passed : (other : ℕ) → other ≢ get_or sorted start 0 → places_of other (take end sorted) ≡ places_of other (take start sorted)
+  passed : (other : ℕ) → other ≢ get_or sorted start 0 →
+      places_of other (take end sorted) ≡ places_of other (take start sorted)
   grown : (other : ℕ) → places_of other (take start sorted) ≤ places_of other (take end sorted)
 
-whole_run : (sorted : List ℕ) (start end : ℕ) → start < end → end ≤ length sorted → ((k : ℕ) → k < start → get_or sorted k 0 < get_or sorted start 0) → IsRun sorted start end → Counted sorted start end
+whole_run : (sorted : List ℕ) (start end : ℕ) → start < end →
+    end ≤ length sorted → ((k : ℕ) → k < start → get_or sorted k 0 < get_or sorted start 0) →
+    IsRun sorted start end → Counted sorted start end
 whole_run sorted start end some within apart run =
     let pixel = get_or sorted start 0 in
     let n = end - start in
     let whole : start + n ≡ end = omega arith in
-    let none : places_of pixel (take start sorted) ≡ 0 = none_before pixel sorted start (omega arith) (λ k below same. let less = apart k below in absurd (omega arith)) in
+    let none : places_of pixel (take start sorted) ≡ 0 = none_before pixel sorted start (omega arith)
+    (λ k below same. let less = apart k below in absurd (omega arith)) in
     let counted_to = run_counted pixel sorted start n (omega arith) (λ k from below. run k from (omega arith)) in
-    let counted : places_of pixel (take end sorted) ≡ places_of pixel (take start sorted) + n = rw whole at counted_to in
+    let counted : places_of pixel (take end sorted) ≡ places_of pixel (take start sorted) + n =
+    rw whole at counted_to in
     let passed : (other : ℕ) → other ≢ pixel → places_of other (take end sorted) ≡ places_of other (take start sorted) =
-    λ other differ. rw whole at (run_passed other sorted start n (omega arith) (λ k from below same. differ (sym same ∙ run k from (omega arith)))) in
+    λ other differ. rw whole at (run_passed other sorted start n (omega arith)
+    (λ k from below same. differ (sym same ∙ run k from (omega arith)))) in
     record {
       counted = omega (arith, counted, none);
       passed = passed;
@@ -106,21 +116,30 @@ whole_run sorted start end some within apart run =
       ];
     }
 
-pub run_taken : (sorted : List ℕ) (start end first before better most : ℕ) → start < end → end ≤ length sorted → ((k : ℕ) → k < start → get_or sorted k 0 < get_or sorted start 0) → IsRun sorted start end →
-    Leads (end - start) (get_or sorted start 0) most better → Led (take start sorted) first before better most → Led (take end sorted) first before (get_or sorted start 0) (end - start)
+pub run_taken : (sorted : List ℕ) (start end first before better most : ℕ) → start < end → end ≤ length sorted →
+    ((k : ℕ) → k < start → get_or sorted k 0 < get_or sorted start 0) → IsRun sorted start end →
+    Leads (end - start) (get_or sorted start 0) most better → Led (take start sorted) first before better most →
+    Led (take end sorted) first before (get_or sorted start 0) (end - start)
 run_taken sorted start end first before better most some within apart run leads old =
     let whole = whole_run sorted start end some within apart run in
-    led_taken (take start sorted) (take end sorted) (get_or sorted start 0) (end - start) first before better most (omega arith) whole.counted whole.passed leads old
+    led_taken (take start sorted) (take end sorted) (get_or sorted start 0) (end - start) first before better most
+    (omega arith) whole.counted whole.passed leads old
 
-pub run_left : (sorted : List ℕ) (start end first before better most : ℕ) → start < end → end ≤ length sorted → ((k : ℕ) → k < start → get_or sorted k 0 < get_or sorted start 0) → IsRun sorted start end →
-    (end - start ≤ most) × (end - start ≡ most → better ≤ get_or sorted start 0) → Led (take start sorted) first before better most → Led (take end sorted) first before better most
+pub run_left : (sorted : List ℕ) (start end first before better most : ℕ) → start < end → end ≤ length sorted →
+    ((k : ℕ) → k < start → get_or sorted k 0 < get_or sorted start 0) → IsRun sorted start end →
+    (end - start ≤ most) × (end - start ≡ most → better ≤ get_or sorted start 0) →
+    Led (take start sorted) first before better most → Led (take end sorted) first before better most
 run_left sorted start end first before better most some within apart run no_more old =
     let whole = whole_run sorted start end some within apart run in
-    led_left (take start sorted) (take end sorted) (get_or sorted start 0) (end - start) first before better most whole.counted whole.passed (whole.grown better) no_more.0 no_more.1 old
+    led_left (take start sorted) (take end sorted) (get_or sorted start 0) (end - start) first before better most
+    whole.counted whole.passed (whole.grown better) no_more.0 no_more.1 old
 
 -- the pixels before the end of a run are less than that after it
-pub run_apart : (sorted : List ℕ) (start end : ℕ) → ((i j : ℕ) → i ≤ j → j < length sorted → get_or sorted i 0 ≤ get_or sorted j 0) → start < end → end < length sorted →
-    ((k : ℕ) → k < start → get_or sorted k 0 < get_or sorted start 0) → IsRun sorted start end → get_or sorted end 0 ≢ get_or sorted start 0 → (k : ℕ) → k < end → get_or sorted k 0 < get_or sorted end 0
+pub run_apart : (sorted : List ℕ) (start end : ℕ) →
+    ((i j : ℕ) → i ≤ j → j < length sorted → get_or sorted i 0 ≤ get_or sorted j 0) →
+    start < end → end < length sorted →
+    ((k : ℕ) → k < start → get_or sorted k 0 < get_or sorted start 0) → IsRun sorted start end →
+    get_or sorted end 0 ≢ get_or sorted start 0 → (k : ℕ) → k < end → get_or sorted k 0 < get_or sorted end 0
 run_apart sorted start end rise some within apart run other k below =
     let next = rise start end (omega arith) within in
     elim (cases_lt k start) [
@@ -129,20 +148,26 @@ run_apart sorted start end rise some within apart run other k below =
     ]
 
 -- what a sort through a slice leaves
-pub sort_left : (items sorted new : List ℕ) → length new ≡ length items → sorted ≡ refill (length items) items new → sorted ≡ new
+pub sort_left : (items sorted new : List ℕ) → length new ≡ length items →
+    sorted ≡ refill (length items) items new → sorted ≡ new
 sort_left items sorted new same is =
     let fits : length items ≤ length new = omega arith in
-    let front : take (length items) (new ++ drop (length new) items) ≡ take (length items) new = take-append-le (length items) new (drop (length new) items) fits in
+    let front : take (length items) (new ++ drop (length new) items) ≡ take (length items) new =
+    take-append-le (length items) new (drop (length new) items) fits in
     let all : take (length items) new ≡ new = take_all (length items) new (omega arith) in
     is ∙ front ∙ all
 
 -- all are passed
-pub led_all : (aside sorted : List ℕ) (first before better most : ℕ) → ((p : ℕ) → places_of p sorted ≡ places_of p aside) → Led sorted first before better most → IsLed aside first before better
+pub led_all : (aside sorted : List ℕ) (first before better most : ℕ) →
+    ((p : ℕ) → places_of p sorted ≡ places_of p aside) → Led sorted first before better most →
+    IsLed aside first before better
 led_all aside sorted first before better most same led = record {
   count = most;
   from = elim led.from [ inl l ↦ inl l | inr l ↦ let here = same better in inr (l.0, omega (arith, l.1, here)) ];
   kept = led.kept;
   before = led.still;
   each = λ other. let here = same other in let was = led.each other in omega (arith, here, was.0);
-  tied = λ other some equal. let here = same other in let was = led.each other in was.1 (omega (arith, here, some)) (omega (arith, here, equal));
+  tied = λ other some equal. let here = same other in
+      let was = led.each other in
+      was.1 (omega (arith, here, some)) (omega (arith, here, equal));
 }

@@ -1,5 +1,6 @@
 -- The rule of Hextile has one choice for every block: a tile for each part of it.
-use Rattle.std.proofs.Common.{◌≡◌, ◌≢◌, ℕ, zero, suc, ◌+◌, ◌*◌, ◌/◌, ◌%◌, ◌<◌, ◌≤◌, ◌⊎◌, List, [], ◌∷◌, length, map, get_or, slice_index, None, arith, refl, sym, subst, ◌∙◌, inl, inr}
+use Rattle.std.proofs.Common.{◌≡◌, ◌≢◌, ℕ, zero, suc, ◌+◌, ◌*◌, ◌/◌, ◌%◌, ◌<◌, ◌≤◌, ◌⊎◌, List, [], ◌∷◌, length, map}
+use Rattle.std.proofs.Common.{get_or, slice_index, None, arith, refl, sym, subst, ◌∙◌, inl, inr}
 use Rattle.std.specs.List.{flat_map}
 use Rattle.std.proofs.lemmas.Bool.{cases_lt, cases_eq}
 use Rattle.std.proofs.lemmas.Nat.{div-mul-add, mod-mul-add}
@@ -11,7 +12,8 @@ use Rattle.rfb_codec.specs.Raw.{raw_length}
 use Rattle.rfb_codec.specs.Choice.{IsPixelOf}
 use Rattle.rfb_codec.specs.Tile.{Tile, RawTile, PlainTile, ColoredTile, rect_in}
 use Rattle.rfb_codec.specs.Hextile.{tile_count, tile_part}
-use Rattle.rfb_codec.specs.HextileRule.{Held, named_in, left_by, IsDrawn, IsRuleTile, HasPixelsOf, AreRuleTiles, tile_length}
+use Rattle.rfb_codec.specs.HextileRule.{Held, named_in, left_by, IsDrawn, IsRuleTile, HasPixelsOf, AreRuleTiles}
+use Rattle.rfb_codec.specs.HextileRule.{tile_length}
 use Rattle.rfb_codec.proofs.ChoiceLemmas.{Decided, first_hit, some_background, some_subs}
 use Rattle.rfb_codec.proofs.HextileRuleLemmas.{raw_where_drawn_is_long}
 use Rattle.rfb_codec.proofs.HextileTilesLemmas.{tile_some, one_tile}
@@ -32,7 +34,8 @@ get_or-made f zero i l = absurd (omega (arith, l))
 get_or-made f (suc n) zero l = refl
 get_or-made f (suc n) (suc i) l = get_or-made (λ k. f (suc k)) n i (omega (arith, l))
 
-some_pixels : (block : Grid ℕ) (tile : Rect) → (pixels : List ℕ) × (length pixels ≡ tile.h * tile.w) × HasPixelsOf block tile pixels
+some_pixels : (block : Grid ℕ) (tile : Rect) →
+    (pixels : List ℕ) × (length pixels ≡ tile.h * tile.w) × HasPixelsOf block tile pixels
 some_pixels block tile =
     let at : ℕ → ℕ = λ i. slice_index block.places ((tile.y + i / tile.w) * block.width + (tile.x + i % tile.w)) in (
       made at (tile.h * tile.w),
@@ -56,7 +59,8 @@ decide_neither a b c =
 
 module _ (w h : ℕ) (pixels : List ℕ) (held : Held) (whole : length pixels ≡ h * w) (some : 0 < length pixels) where
   -- two pixels are there, and no third
-  drawn_of_two : (p q : ℕ) → IsPixelOf pixels p → IsPixelOf pixels q → q ≢ p → ((i : ℕ) → i < length pixels → (slice_index pixels i ≡ p) ⊎ (slice_index pixels i ≡ q)) →
+  drawn_of_two : (p q : ℕ) → IsPixelOf pixels p → IsPixelOf pixels q → q ≢ p →
+      ((i : ℕ) → i < length pixels → (slice_index pixels i ≡ p) ⊎ (slice_index pixels i ≡ q)) →
       (tile : Tile) × IsDrawn w h pixels held tile
   drawn_of_two p q there there_too differ both =
       let (b, chosen) = some_background pixels some in
@@ -102,18 +106,23 @@ module _ (w h : ℕ) (pixels : List ℕ) (held : Held) (whole : length pixels �
           PlainTile (named_in held.background p) None [],
           inl (record {
             background = p;
-            all = λ i l. elim (cases_eq (slice_index pixels i) p) [ inl same ↦ same | inr other ↦ absurd (none i l other) ];
+            all = λ i l.
+                elim (cases_eq (slice_index pixels i) p) [ inl same ↦ same | inr other ↦ absurd (none i l other) ];
             tile_is = refl;
           }),
         )
         | inr second ↦
             let q = slice_index pixels second.0 in
-            elim (first_hit (λ i. (slice_index pixels i ≢ p) × (slice_index pixels i ≢ q)) (λ i. decide_neither (slice_index pixels i) p q) (length pixels)) [
+            elim (first_hit (λ i. (slice_index pixels i ≢ p) × (slice_index pixels i ≢ q))
+            (λ i. decide_neither (slice_index pixels i) p q) (length pixels)) [
               | inl none ↦
                   drawn_of_two p q (0, some, refl) (second.0, second.1, refl) second.2
                   (λ i l. elim (cases_eq (slice_index pixels i) p) [
                     | inl same ↦ inl same
-                    | inr other ↦ elim (cases_eq (slice_index pixels i) q) [ inl same ↦ inr same | inr neither ↦ absurd (none i l (other, neither)) ]
+                    | inr other ↦ elim (cases_eq (slice_index pixels i) q) [
+                      | inl same ↦ inr same
+                      | inr neither ↦ absurd (none i l (other, neither))
+                    ]
                   ])
               | inr third ↦
                   let (b, chosen) = some_background pixels some in
@@ -155,7 +164,8 @@ module _ (w h : ℕ) (pixels : List ℕ) (held : Held) (whole : length pixels �
 -- ---- all tiles
 
 module _ (f : PixelFormat) (block : Grid ℕ) where
-  tiles_from : (count n : ℕ) (held : Held) → n + count ≤ tile_count block.width block.height → (tiles : List Tile) × (length tiles ≡ count) × AreRuleTiles f block n held tiles
+  tiles_from : (count n : ℕ) (held : Held) → n + count ≤ tile_count block.width block.height →
+      (tiles : List Tile) × (length tiles ≡ count) × AreRuleTiles f block n held tiles
   tiles_from zero n held within = ([], refl, tt)
   tiles_from (suc count) n held within =
       let part = tile_part block.width block.height n in
@@ -163,18 +173,24 @@ module _ (f : PixelFormat) (block : Grid ℕ) where
       let corner = place_below part.w part.h 0 0 places.0 places.1 in
       let (pixels, size, value) = some_pixels block part in
       let (tile, is) = some_tile part.w part.h pixels held size (omega (arith, size, corner)) f in
-      let (rest, number, others) = tiles_from count (n + 1) (left_by held tile) (omega (arith, within)) in
-      (tile ∷ rest, omega (arith, number), (record { pixels = pixels; size = size; value = value; tile_is = is }, others))
+      let (rest, number, others) = tiles_from count (n + 1) (left_by held tile) (omega (arith, within)) in (
+        tile ∷ rest,
+        omega (arith, number),
+        (record { pixels = pixels; size = size; value = value; tile_is = is }, others),
+      )
 
-  pub some_tiles : (held : Held) → (tiles : List Tile) × (length tiles ≡ tile_count block.width block.height) × AreRuleTiles f block 0 held tiles
+  pub some_tiles : (held : Held) →
+      (tiles : List Tile) × (length tiles ≡ tile_count block.width block.height) × AreRuleTiles f block 0 held tiles
   some_tiles held = tiles_from (tile_count block.width block.height) 0 held (omega arith)
 
-  pub same_tiles : (n : ℕ) (held : Held) (a b : List Tile) → n + length a ≤ tile_count block.width block.height → length a ≡ length b → AreRuleTiles f block n held a → AreRuleTiles f block n held b → a ≡ b
+  pub same_tiles : (n : ℕ) (held : Held) (a b : List Tile) → n + length a ≤ tile_count block.width block.height →
+      length a ≡ length b → AreRuleTiles f block n held a → AreRuleTiles f block n held b → a ≡ b
   same_tiles n held [] [] within as_many first second = refl
   same_tiles n held [] (u ∷ b) within as_many first second = absurd (omega (arith, as_many))
   same_tiles n held (t ∷ a) [] within as_many first second = absurd (omega (arith, as_many))
   same_tiles n held (t ∷ a) (u ∷ b) within as_many (here, first) (there, second) =
       let same = one_tile f block n held t u (omega (arith, within)) here there in
       let moved = subst (λ (v : Tile). AreRuleTiles f block (n + 1) (left_by held v) a) same first in
-      let rest = same_tiles (n + 1) (left_by held u) a b (omega (arith, within)) (omega (arith, as_many)) moved second in
+      let rest =
+      same_tiles (n + 1) (left_by held u) a b (omega (arith, within)) (omega (arith, as_many)) moved second in
       λ i. same i ∷ rest i

@@ -1,5 +1,6 @@
 -- The readings of what a tile is made of: pixels, places, and counted parts.
-use Rattle.std.proofs.Common.{◌≡◌, ℕ, ◌+◌, ◌-◌, ◌/◌, ◌%◌, ◌<◌, inl, inr, List, [], Bool, true, false, length, drop, refl, sym, subst, ◌∙◌, arith, length-drop}
+use Rattle.std.proofs.Common.{◌≡◌, ℕ, ◌+◌, ◌-◌, ◌/◌, ◌%◌, ◌<◌, inl, inr, List, [], Bool, true, false, length, drop}
+use Rattle.std.proofs.Common.{refl, sym, subst, ◌∙◌, arith, length-drop}
 use Rattle.std.proofs.lemmas.Nat.{div-mul-add, mod-mul-add, div-add-mod', mod_below}
 use Rattle.rfb_pixel.specs.Format.{PixelFormat, size_of, pixel_number}
 use Rattle.rfb_picture.specs.declared.rect.Rect.{Rect}
@@ -10,7 +11,8 @@ use Rattle.rfb_wire.proofs.stream_laws.PartLaws.{done_says, done_reads, then_say
 use Rattle.rfb_wire.proofs.stream_laws.RepeatLaws.{valued_says, valued_reads, many_says, many_reads}
 use Rattle.rfb_codec.specs.declared.subrect.Subrect.{Subrect}
 use Rattle.rfb_codec.specs.declared.fault.PaintFault.{PaintFault}
-use Rattle.rfb_codec.specs.Tile.{SpellsPixel, SpellsPlace, SpellsColored, CountedIf, tile_colour, place_of, colored_of, counted}
+use Rattle.rfb_codec.specs.Tile.{SpellsPixel, SpellsPlace, SpellsColored, CountedIf, tile_colour, place_of, colored_of}
+use Rattle.rfb_codec.specs.Tile.{counted}
 
 -- nothing is refused
 abbrev pub never : PaintFault → List ℕ → Type 0
@@ -22,7 +24,8 @@ abbrev pub pixel_says : PixelFormat → Says ℕ PaintFault
 pixel_says f = record { item = SpellsPixel f; fault = never }
 
 pub pixel_reads : (f : PixelFormat) → Reads (tile_colour f) (pixel_says f)
-pixel_reads f = same_reads (tile_colour f) (valued_says (size_of f) (pixel_number f)) (pixel_says f) same (valued_reads (size_of f) (pixel_number f))
+pixel_reads f = same_reads (tile_colour f) (valued_says (size_of f) (pixel_number f)) (pixel_says f) same
+    (valued_reads (size_of f) (pixel_number f))
   where
     same : Same (valued_says (size_of f) (pixel_number f)) (pixel_says f)
     same = record {
@@ -77,14 +80,16 @@ place_reads = same_reads (valued 2 place_of) (valued_says 2 place_of) place_says
     }
 
 -- the bytes less a pixel's
-length-after_pixel : (f : PixelFormat) (bytes : List ℕ) → length bytes ≡ size_of f + 2 → length (drop (size_of f) bytes) ≡ 2
+length-after_pixel : (f : PixelFormat) (bytes : List ℕ) → length bytes ≡ size_of f + 2 →
+    length (drop (size_of f) bytes) ≡ 2
 length-after_pixel f bytes size = rw length-drop (omega (arith, size))
 
 abbrev colored_says : PixelFormat → Says Subrect PaintFault
 colored_says f = record { item = SpellsColored f; fault = never }
 
 pub colored_reads : (f : PixelFormat) → Reads (valued (size_of f + 2) (colored_of f)) (colored_says f)
-colored_reads f = same_reads (valued (size_of f + 2) (colored_of f)) (valued_says (size_of f + 2) (colored_of f)) (colored_says f) same (valued_reads (size_of f + 2) (colored_of f))
+colored_reads f = same_reads (valued (size_of f + 2) (colored_of f)) (valued_says (size_of f + 2) (colored_of f))
+    (colored_says f) same (valued_reads (size_of f + 2) (colored_of f))
   where
     is : (s : Subrect) (bytes : List ℕ) → SpellsColored f s bytes → s ≡ colored_of f bytes
     is s bytes spelled =
@@ -93,7 +98,11 @@ colored_reads f = same_reads (valued (size_of f + 2) (colored_of f)) (valued_say
 
     same : Same (valued_says (size_of f + 2) (colored_of f)) (colored_says f)
     same = record {
-      item = λ s bytes told. subst (λ (t : Subrect). SpellsColored f t bytes) (sym told.1) (record { size = told.0; pixel_is = refl; place_is = place_spelled (drop (size_of f) bytes) (length-after_pixel f bytes told.0) });
+      item = λ s bytes told. subst (λ (t : Subrect). SpellsColored f t bytes) (sym told.1) (record {
+        size = told.0;
+        pixel_is = refl;
+        place_is = place_spelled (drop (size_of f) bytes) (length-after_pixel f bytes told.0);
+      });
       fault = λ fault bytes none. none;
       item_back = λ s bytes spelled. (spelled.size, is s bytes spelled);
       fault_back = λ fault bytes none. none;
@@ -109,18 +118,34 @@ module _ {A : Type 0} where
   abbrev pub counted_says : Bool → (A → List ℕ → Type 0) → Says (List A) PaintFault
   counted_says flag R = record { item = CountedIf flag R; fault = never }
 
-  pub counted_reads : (flag : Bool) (p : Reading A PaintFault) (R : A → List ℕ → Type 0) → Reads p (calm R) → Reads (counted flag p) (counted_says flag R)
-  counted_reads false p R reads = same_reads (counted false p) (done_says []) (counted_says false R) same (done_reads [])
+  pub counted_reads : (flag : Bool) (p : Reading A PaintFault) (R : A → List ℕ → Type 0) → Reads p (calm R) →
+      Reads (counted flag p) (counted_says flag R)
+  counted_reads false p R reads =
+      same_reads (counted false p) (done_says []) (counted_says false R) same (done_reads [])
     where
       same : Same (done_says []) (counted_says false R)
-      same = record { item = λ items bytes told. told; fault = λ fault bytes none. none; item_back = λ items bytes told. told; fault_back = λ fault bytes none. none }
+      same = record {
+        item = λ items bytes told. told;
+        fault = λ fault bytes none. none;
+        item_back = λ items bytes told. told;
+        fault_back = λ fault bytes none. none;
+      }
   counted_reads true p R reads =
-      same_reads (counted true p) (then_says (valued_says 1 (u8_at 0)) (λ count. many_says count (calm R))) (counted_says true R) same
-      (then_reads (valued 1 (u8_at 0)) (λ count. many count p) (valued_says 1 (u8_at 0)) (λ count. many_says count (calm R)) (valued_reads 1 (u8_at 0)) (λ count. many_reads count p (calm R) reads))
+      same_reads (counted true p) (then_says (valued_says 1 (u8_at 0)) (λ count. many_says count (calm R)))
+      (counted_says true R) same
+      (then_reads (valued 1 (u8_at 0)) (λ count. many count p) (valued_says 1 (u8_at 0))
+      (λ count. many_says count (calm R)) (valued_reads 1 (u8_at 0)) (λ count. many_reads count p (calm R) reads))
     where
       same : Same (then_says (valued_says 1 (u8_at 0)) (λ count. many_says count (calm R))) (counted_says true R)
       same = record {
-        item = λ items bytes told. record { head = told.1; list = told.2; whole = told.3; one = told.4.0; count_is = sym told.4.1 ∙ sym told.5.0; listed = told.5.1 };
+        item = λ items bytes told. record {
+          head = told.1;
+          list = told.2;
+          whole = told.3;
+          one = told.4.0;
+          count_is = sym told.4.1 ∙ sym told.5.0;
+          listed = told.5.1;
+        };
         fault = λ fault bytes told. elim told [ inl none ↦ none | inr w ↦ w.5.6 ];
         item_back = λ items bytes s. (length items, s.head, s.list, s.whole, (s.one, sym s.count_is), (refl, s.listed));
         fault_back = λ fault bytes none. absurd none;

@@ -26,7 +26,8 @@ the_last_is_one_place = refl
 corners_of_the_first : (tile_at 17 0 0 ≡ 0) × (tile_at 17 15 15 ≡ 0)
 corners_of_the_first = (refl, refl)
 
-corners_of_the_others : (tile_at 17 16 0 ≡ 1) × (tile_at 17 16 15 ≡ 1) × (tile_at 17 0 16 ≡ 2) × (tile_at 17 15 16 ≡ 2) × (tile_at 17 16 16 ≡ 3)
+corners_of_the_others : (tile_at 17 16 0 ≡ 1) × (tile_at 17 16 15 ≡ 1) × (tile_at 17 0 16 ≡ 2)
+    × (tile_at 17 15 16 ≡ 2) × (tile_at 17 16 16 ≡ 3)
 corners_of_the_others = (refl, refl, refl, refl, refl)
 
 -- ---- what they show
@@ -47,7 +48,8 @@ four = 2 ∷ 9 ∷ (26 ∷ 10 ∷ 1 ∷ 20 ∷ 3 ∷ 1 ∷ (14 ∷ 11 ∷ 30 ∷
 last_row : List ℕ
 last_row = replicate 4 11 ++ (replicate 5 30 ++ (replicate 7 11 ++ 77 ∷ []))
 
-four_different_tiles : hextile bgr233 17 17 four ≡ Got (grid 17 17 (times 3 (row 10) ++ (times 2 (row 20) ++ (times 11 (row 10) ++ last_row)))) []
+four_different_tiles : hextile bgr233 17 17 four
+    ≡ Got (grid 17 17 (times 3 (row 10) ++ (times 2 (row 20) ++ (times 11 (row 10) ++ last_row)))) []
 unfolding hextile changed uniform four times row last_row
 four_different_tiles = refl
 

@@ -32,7 +32,8 @@ in_no_other w h n x y here =
     rw (column, row) (div-add-mod' n (across w))
 
 -- in the tile it is numbered from the tile's corner
-pub place_in_tile : (w h x y : ℕ) → x < w → y < h → (x - (tile_part w h (tile_at w x y)).x ≡ x % 16) × (y - (tile_part w h (tile_at w x y)).y ≡ y % 16)
+pub place_in_tile : (w h x y : ℕ) → x < w → y < h →
+    (x - (tile_part w h (tile_at w x y)).x ≡ x % 16) × (y - (tile_part w h (tile_at w x y)).y ≡ y % 16)
 place_in_tile w h x y p q =
     let n = tile_at w x y in
     let a = in_tile (n % across w) w x (column_of w x y p) p in
@@ -40,7 +41,8 @@ place_in_tile w h x y p q =
     (omega (arith, a), omega (arith, b))
 
 -- each tile has a place, and lies in the rectangle
-pub tile_inside : (w h n : ℕ) → n < tile_count w h → (0 < tile_width w n) × (0 < tile_height w h n) × (n % across w * 16 + tile_width w n ≤ w) × (n / across w * 16 + tile_height w h n ≤ h)
+pub tile_inside : (w h n : ℕ) → n < tile_count w h → (0 < tile_width w n) × (0 < tile_height w h n)
+    × (n % across w * 16 + tile_width w n ≤ w) × (n / across w * 16 + tile_height w h n ≤ h)
 tile_inside w h n below =
     let some : 0 < across w = some_in_row n (across h) (across w) below in
     let column = mod_below n (across w) some in
@@ -49,7 +51,8 @@ tile_inside w h n below =
     let b = side h (n / across w) row in
     (a.0, b.0, a.1, b.1)
   where
-    side : (places k : ℕ) → k < across places → (0 < min 16 (places - k * 16)) × (k * 16 + min 16 (places - k * 16) ≤ places)
+    side : (places k : ℕ) → k < across places →
+        (0 < min 16 (places - k * 16)) × (k * 16 + min 16 (places - k * 16) ≤ places)
     side places k less =
         let whole = div-add-mod' (places + 15) 16 in
         let low = mod_below (places + 15) 16 (omega arith) in

@@ -24,7 +24,8 @@ a_message_stands_between : update_stream.next between (2 ∷ 9 ∷ []) ≡ Got (
 unfolding update_stream server_message between
 a_message_stands_between = refl
 
-an_update_leads_to_its_rectangles : update_stream.past between (Message (FramebufferUpdate 3)) ≡ record { width = 2; height = 1; form = bgr233; left = 3 }
+an_update_leads_to_its_rectangles : update_stream.past between (Message (FramebufferUpdate 3))
+    ≡ record { width = 2; height = 1; form = bgr233; left = 3 }
 unfolding update_stream between
 an_update_leads_to_its_rectangles = refl
 
@@ -32,26 +33,32 @@ an_unknown_type_is_reported_at_its_byte : update_stream.next between (4 ∷ []) 
 unfolding update_stream server_message between
 an_unknown_type_is_reported_at_its_byte = refl
 
-a_rectangle_has_its_data : update_stream.next inside (0 ∷ 0 ∷ 0 ∷ 0 ∷ 0 ∷ 2 ∷ 0 ∷ 1 ∷ 0 ∷ 0 ∷ 0 ∷ 0 ∷ 7 ∷ 56 ∷ 2 ∷ []) ≡ Got (Rectangle (record { rect = record { x = 0; y = 0; w = 2; h = 1 }; encoding = Raw }) (7 ∷ 56 ∷ [])) (2 ∷ [])
+a_rectangle_has_its_data : update_stream.next inside (0 ∷ 0 ∷ 0 ∷ 0 ∷ 0 ∷ 2 ∷ 0 ∷ 1 ∷ 0 ∷ 0 ∷ 0 ∷ 0 ∷ 7 ∷ 56 ∷ 2 ∷ [])
+    ≡ Got (Rectangle (record { rect = record { x = 0; y = 0; w = 2; h = 1 }; encoding = Raw }) (7 ∷ 56 ∷ [])) (2 ∷ [])
 unfolding update_stream rect_head rect_data raw inside
 a_rectangle_has_its_data = refl
 
-the_last_rectangle_leads_back : update_stream.past inside (Rectangle (record { rect = record { x = 0; y = 0; w = 2; h = 1 }; encoding = Raw }) (7 ∷ 56 ∷ [])) ≡ between
+the_last_rectangle_leads_back : update_stream.past inside
+    (Rectangle (record { rect = record { x = 0; y = 0; w = 2; h = 1 }; encoding = Raw }) (7 ∷ 56 ∷ [])) ≡ between
 unfolding update_stream inside between
 the_last_rectangle_leads_back = refl
 
-an_unknown_encoding_is_reported_at_the_head : update_stream.next inside (0 ∷ 1 ∷ 0 ∷ 0 ∷ 0 ∷ 2 ∷ 0 ∷ 1 ∷ 255 ∷ 255 ∷ 255 ∷ 33 ∷ []) ≡ Bad (InHead (UnknownEncoding (negsuc 222)))
+an_unknown_encoding_is_reported_at_the_head : update_stream.next inside
+    (0 ∷ 1 ∷ 0 ∷ 0 ∷ 0 ∷ 2 ∷ 0 ∷ 1 ∷ 255 ∷ 255 ∷ 255 ∷ 33 ∷ []) ≡ Bad (InHead (UnknownEncoding (negsuc 222)))
 unfolding update_stream rect_head inside
 an_unknown_encoding_is_reported_at_the_head = refl
 
-a_rectangle_outside_is_reported_at_its_head : update_stream.next inside (0 ∷ 1 ∷ 0 ∷ 0 ∷ 0 ∷ 2 ∷ 0 ∷ 1 ∷ 0 ∷ 0 ∷ 0 ∷ 0 ∷ []) ≡ Bad (InHead RectOutside)
+a_rectangle_outside_is_reported_at_its_head : update_stream.next inside
+    (0 ∷ 1 ∷ 0 ∷ 0 ∷ 0 ∷ 2 ∷ 0 ∷ 1 ∷ 0 ∷ 0 ∷ 0 ∷ 0 ∷ []) ≡ Bad (InHead RectOutside)
 unfolding update_stream rect_head inside
 a_rectangle_outside_is_reported_at_its_head = refl
 
-a_fault_in_its_data_is_reported_there : update_stream.next inside (0 ∷ 0 ∷ 0 ∷ 0 ∷ 0 ∷ 2 ∷ 0 ∷ 1 ∷ 0 ∷ 0 ∷ 0 ∷ 2 ∷ 255 ∷ 255 ∷ 255 ∷ 255 ∷ 16 ∷ 32 ∷ 0 ∷ 2 ∷ 0 ∷ 0 ∷ 0 ∷ 1 ∷ 0 ∷ 1 ∷ []) ≡ Bad (InData SubrectOutside)
+a_fault_in_its_data_is_reported_there : update_stream.next inside (0 ∷ 0 ∷ 0 ∷ 0 ∷ 0 ∷ 2 ∷ 0 ∷ 1 ∷ 0 ∷ 0 ∷ 0 ∷ 2 ∷ 255
+    ∷ 255 ∷ 255 ∷ 255 ∷ 16 ∷ 32 ∷ 0 ∷ 2 ∷ 0 ∷ 0 ∷ 0 ∷ 1 ∷ 0 ∷ 1 ∷ []) ≡ Bad (InData SubrectOutside)
 unfolding update_stream rect_head rect_data rre inside
 a_fault_in_its_data_is_reported_there = refl
 
-data_that_are_not_all_there_are_waited_for : update_stream.next inside (0 ∷ 0 ∷ 0 ∷ 0 ∷ 0 ∷ 2 ∷ 0 ∷ 1 ∷ 0 ∷ 0 ∷ 0 ∷ 0 ∷ 7 ∷ []) ≡ More
+data_that_are_not_all_there_are_waited_for : update_stream.next inside
+    (0 ∷ 0 ∷ 0 ∷ 0 ∷ 0 ∷ 2 ∷ 0 ∷ 1 ∷ 0 ∷ 0 ∷ 0 ∷ 0 ∷ 7 ∷ []) ≡ More
 unfolding update_stream rect_head rect_data raw inside
 data_that_are_not_all_there_are_waited_for = refl

@@ -1,6 +1,7 @@
 -- This project's rule for senders: which background is chosen for the pixels of a block or a tile,
 -- and which subrectangles over it; and when RRE gives a block up. Pixels stand row by row.
-use Rattle.std.specs.Prelude.{◌≡◌, ◌≢◌, ℕ, ◌+◌, ◌*◌, ◌<◌, ◌≤◌, ◌||◌, ◌⊎◌, Bool, false, nat_eq, count_by, List, [], ◌∷◌, ◌++◌, length, slice_index}
+use Rattle.std.specs.Prelude.{◌≡◌, ◌≢◌, ℕ, ◌+◌, ◌*◌, ◌<◌, ◌≤◌, ◌||◌, ◌⊎◌, Bool, false, nat_eq, count_by, List, [], ◌∷◌}
+use Rattle.std.specs.Prelude.{◌++◌, length, slice_index}
 use Rattle.std.specs.List.{flat_map}
 use Rattle.byteorder.specs.Endian.{big_bytes}
 use Rattle.rfb_pixel.specs.Format.{PixelFormat, size_of, pixel_bytes}

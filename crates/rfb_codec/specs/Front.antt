@@ -2,7 +2,8 @@
 -- last byte, and the bytes of the piece after them. The pieces are the source of a CopyRect, a
 -- pixel of Raw or of a raw tile, RRE's number with its background, a subrectangle of RRE, and a
 -- tile that is not raw.
-use Rattle.std.specs.Prelude.{◌≡◌, ℕ, ◌+◌, ◌-◌, ◌*◌, ◌/◌, ◌%◌, ◌<◌, ◌≤◌, ◌&&◌, nat_lt, true, false, List, [], ◌∷◌, ◌++◌, length, if◌then◌else◌}
+use Rattle.std.specs.Prelude.{◌≡◌, ℕ, ◌+◌, ◌-◌, ◌*◌, ◌/◌, ◌%◌, ◌<◌, ◌≤◌, ◌&&◌, nat_lt, true, false, List, [], ◌∷◌, ◌++◌}
+use Rattle.std.specs.Prelude.{length, if◌then◌else◌}
 use Rattle.rfb_pixel.specs.declared.colour.Colour.{Colour}
 use Rattle.rfb_pixel.specs.Format.{PixelFormat, size_of, colour_of}
 use Rattle.rfb_picture.specs.declared.rect.Rect.{Rect}
@@ -16,7 +17,8 @@ use Rattle.rfb_codec.specs.declared.subrect.Subrect.{Subrect}
 use Rattle.rfb_codec.specs.Raw.{raw_pixel}
 use Rattle.rfb_codec.specs.Rre.{pixel_at, SpellsRreHead, SpellsInside}
 use Rattle.rfb_codec.specs.Tile.{Tile, is_raw}
-use Rattle.rfb_codec.specs.Hextile.{across, tile_count, tile_width, tile_height, tile_at, SpellsNextTile, pixel_of_tiles}
+use Rattle.rfb_codec.specs.Hextile.{across, tile_count, tile_width, tile_height, tile_at, SpellsNextTile}
+use Rattle.rfb_codec.specs.Hextile.{pixel_of_tiles}
 use Rattle.rfb_codec.specs.Hextile.{next_tile}
 use Rattle.rfb_codec.specs.RectData.{SpellsSource, moved_to}
 use Rattle.rfb_codec.specs.Painter.{over}

@@ -1,7 +1,8 @@
 -- Hextile, RFC 6143 section 7.7.4: a rectangle split into tiles, each with colours of its own or
 -- with those of tiles before it. How colours are carried past raw and coloured tiles is this
 -- project's choice.
-use Rattle.std.specs.Prelude.{◌≡◌, ℕ, ◌+◌, ◌-◌, ◌*◌, ◌/◌, ◌%◌, ◌<◌, ◌⊎◌, Bool, true, false, List, [], ◌∷◌, ◌++◌, length, take, slice_index_or, Option, None, min, if◌then◌else◌}
+use Rattle.std.specs.Prelude.{◌≡◌, ℕ, ◌+◌, ◌-◌, ◌*◌, ◌/◌, ◌%◌, ◌<◌, ◌⊎◌, Bool, true, false, List, [], ◌∷◌, ◌++◌, length}
+use Rattle.std.specs.Prelude.{take, slice_index_or, Option, None, min, if◌then◌else◌}
 use Rattle.rfb_pixel.specs.Format.{PixelFormat}
 use Rattle.rfb_picture.specs.declared.rect.Rect.{Rect}
 use Rattle.rfb_picture.specs.Grid.{Grid}
@@ -10,7 +11,8 @@ use Rattle.rfb_wire.specs.stream.Parts.{done, and_then, each}
 use Rattle.rfb_codec.specs.declared.fault.PaintFault.{PaintFault}
 use Rattle.rfb_codec.specs.declared.fault.PaintFault.TheVariants.{SubrectOutside}
 use Rattle.rfb_codec.specs.Pixels.{Shows, drawn}
-use Rattle.rfb_codec.specs.Tile.{Tile, RawTile, PlainTile, ColoredTile, background_of, foreground_of, is_missing, last_of, tile_pixel, FitsTile, SpellsTile, FaultsMask, LeavesTile, tile_after}
+use Rattle.rfb_codec.specs.Tile.{Tile, RawTile, PlainTile, ColoredTile, background_of, foreground_of, is_missing}
+use Rattle.rfb_codec.specs.Tile.{last_of, tile_pixel, FitsTile, SpellsTile, FaultsMask, LeavesTile, tile_after}
 
 -- ---- tiles of a rectangle: 16 by 16, rows of them from the top, each from the left; those at the
 -- right and at the lower edge may be smaller

@@ -3,7 +3,8 @@
 use Rattle.std.specs.Prelude.{◌≡◌, ℕ, List, [], ◌∷◌, Option, None}
 use Rattle.std.specs.Int.{bit_at}
 use Rattle.rfb_codec.specs.declared.fault.PaintFault.{PaintFault}
-use Rattle.rfb_codec.specs.declared.fault.PaintFault.TheVariants.{SubrectOutside, NoBackground, NoForeground, BothColourBits, SourceOutside}
+use Rattle.rfb_codec.specs.declared.fault.PaintFault.TheVariants.{SubrectOutside, NoBackground, NoForeground}
+use Rattle.rfb_codec.specs.declared.fault.PaintFault.TheVariants.{BothColourBits, SourceOutside}
 use Rattle.rfb_codec.specs.Tile.{Tile, background_of, foreground_of}
 
 -- the bits of a mask, numbered from the lowest

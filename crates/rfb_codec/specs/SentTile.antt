@@ -1,6 +1,7 @@
 -- The bytes that this project sends a tile of Hextile as, RFC 6143 section 7.7.4. Its mask has a bit
 -- for each thing that follows it, and no bit that nothing reads.
-use Rattle.std.specs.Prelude.{ℕ, ◌+◌, ◌-◌, ◌*◌, Bool, true, false, List, [], ◌∷◌, ◌++◌, length, Option, Some, None, bit_or, if◌then◌else◌}
+use Rattle.std.specs.Prelude.{ℕ, ◌+◌, ◌-◌, ◌*◌, Bool, true, false, List, [], ◌∷◌, ◌++◌, length, Option, Some, None}
+use Rattle.std.specs.Prelude.{bit_or, if◌then◌else◌}
 use Rattle.std.specs.List.{flat_map}
 use Rattle.rfb_pixel.specs.Format.{PixelFormat, pixel_bytes}
 use Rattle.rfb_picture.specs.declared.rect.Rect.{Rect}

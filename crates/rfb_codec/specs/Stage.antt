@@ -13,11 +13,13 @@ use Rattle.rfb_codec.specs.declared.fault.PaintFault.{PaintFault}
 use Rattle.rfb_codec.specs.declared.hextile.paint.tile_read.Seen.{Seen}
 use Rattle.rfb_codec.specs.declared.painter.stage.Place.{Place}
 use Rattle.rfb_codec.specs.declared.painter.stage.Stage.{Stage}
-use Rattle.rfb_codec.specs.declared.painter.stage.Stage.TheVariants.{BeforeSource, Copied, InPixels, BeforeHead, InSubrects, InTiles, InRawTile}
+use Rattle.rfb_codec.specs.declared.painter.stage.Stage.TheVariants.{BeforeSource, Copied, InPixels, BeforeHead}
+use Rattle.rfb_codec.specs.declared.painter.stage.Stage.TheVariants.{InSubrects, InTiles, InRawTile}
 use Rattle.rfb_codec.specs.Tile.{Tile, background_of, foreground_of, last_of}
 use Rattle.rfb_codec.specs.Hextile.{tile_count, tile_width, tile_height}
 use Rattle.rfb_codec.specs.RectData.{rect_data}
-use Rattle.rfb_codec.specs.Front.{NoSource, TheSource, SomePixels, NoHead, SomeParts, SomeTiles, SomeOfRaw, Shows, ShowsFront}
+use Rattle.rfb_codec.specs.Front.{NoSource, TheSource, SomePixels, NoHead, SomeParts, SomeTiles, SomeOfRaw, Shows}
+use Rattle.rfb_codec.specs.Front.{ShowsFront}
 
 -- how many places stand before one, row by row
 abbrev pub places_before : ℕ → Place → ℕ

@@ -9,7 +9,9 @@ use Rattle.rfb_wire.specs.RectStream.{rect_head}
 use Rattle.rfb_wire.specs.stream.Reading.{Reading, Says}
 use Rattle.rfb_wire.specs.stream.Parts.{kept, and_then, renamed}
 use Rattle.rfb_wire.specs.stream.Grammar.{Grammar}
-use Rattle.rfb_wire.specs.ServerMessage.{ServerMessage, FramebufferUpdate, SetColorMapEntries, Bell, ServerCutText, ServerFault, SpellsServerMessage, FaultsServerMessage, server_message, server_message_size}
+use Rattle.rfb_wire.specs.ServerMessage.{ServerMessage, FramebufferUpdate, SetColorMapEntries, Bell, ServerCutText}
+use Rattle.rfb_wire.specs.ServerMessage.{ServerFault, SpellsServerMessage, FaultsServerMessage, server_message}
+use Rattle.rfb_wire.specs.ServerMessage.{server_message_size}
 use Rattle.rfb_codec.specs.declared.fault.PaintFault.{PaintFault}
 use Rattle.rfb_codec.specs.RectData.{RectData, SpellsData, FaultsData, rect_data}
 

@@ -169,8 +169,8 @@ impl Painter {
         self.take_pieces(bytes, picture)
     }
 
-    // The same piece by piece. It is a call, since a byte that only joins those pending needs no room
-    // for a step.
+    // The same piece by piece. It is a call, since a byte that only joins those pending needs no
+    // room for a step.
     #[inline(never)]
     fn take_pieces(&mut self, bytes: &[u8], picture: &mut Picture<Colour>) -> Result<Painted, Flaw>
         requires { Holds picture.old self.old.rect }

@@ -1,6 +1,7 @@
 -- The background that an encoder chooses, by this project's rule.
 -- No public clause reads these words.
-use Rattle.std.specs.Prelude.{◌≡◌, ◌≢◌, ℕ, zero, suc, ◌+◌, ◌-◌, Bool, nat_le, ◌==◌, if◌then◌else◌, ◌*◌, ◌/◌, ◌%◌, ◌<◌, ◌≤◌, ◌⊎◌, slice_index, List, [], ◌∷◌, length, All}
+use Rattle.std.specs.Prelude.{◌≡◌, ◌≢◌, ℕ, zero, suc, ◌+◌, ◌-◌, Bool, nat_le, ◌==◌, if◌then◌else◌, ◌*◌, ◌/◌, ◌%◌, ◌<◌}
+use Rattle.std.specs.Prelude.{◌≤◌, ◌⊎◌, slice_index, List, [], ◌∷◌, length, All}
 use Rattle.rfb_codec.specs.declared.choice.background.Stop.{Stop}
 use Rattle.rfb_codec.specs.declared.choice.background.Stop.TheVariants.{Pixels, Room}
 use Rattle.rfb_codec.specs.Choice.{IsPixelOf, places_of}

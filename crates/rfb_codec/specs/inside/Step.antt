@@ -1,6 +1,7 @@
 -- What the parts of a painter promise: a step of it, from one stage to the next. No public clause
 -- reads these words.
-use Rattle.std.specs.Prelude.{◌≡◌, ℕ, ◌+◌, ◌*◌, ◌^◌, ◌<◌, ◌≤◌, ◌==◌, if◌then◌else◌, true, false, List, [], ◌∷◌, ◌++◌, length, take, Option, None, Result, Ok, Err}
+use Rattle.std.specs.Prelude.{◌≡◌, ℕ, ◌+◌, ◌*◌, ◌^◌, ◌<◌, ◌≤◌, ◌==◌, if◌then◌else◌, true, false, List, [], ◌∷◌, ◌++◌}
+use Rattle.std.specs.Prelude.{length, take, Option, None, Result, Ok, Err}
 use Rattle.rfb_pixel.specs.declared.colour.Colour.{Colour}
 use Rattle.rfb_pixel.specs.Format.{PixelFormat, size_of, colour_of}
 use Rattle.rfb_picture.specs.declared.rect.Rect.{Rect}
@@ -20,7 +21,8 @@ use Rattle.rfb_codec.specs.declared.painter.stage.Place.{Place}
 use Rattle.rfb_codec.specs.declared.painter.stage.Stage.{Stage}
 use Rattle.rfb_codec.specs.declared.painter.stage.Step.{Step}
 use Rattle.rfb_codec.specs.declared.painter.rectangle.Rectangle.{Rectangle}
-use Rattle.rfb_codec.specs.declared.painter.stage.Stage.TheVariants.{BeforeSource, Copied, InPixels, BeforeHead, InSubrects, InTiles, InRawTile}
+use Rattle.rfb_codec.specs.declared.painter.stage.Stage.TheVariants.{BeforeSource, Copied, InPixels, BeforeHead}
+use Rattle.rfb_codec.specs.declared.painter.stage.Stage.TheVariants.{InSubrects, InTiles, InRawTile}
 use Rattle.rfb_codec.specs.Tile.{Tile, AreInside, places_of}
 use Rattle.rfb_codec.specs.RectData.{rect_data}
 use Rattle.rfb_codec.specs.Hextile.{tile_width, tile_height, next_tile}

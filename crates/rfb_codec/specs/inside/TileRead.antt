@@ -1,6 +1,7 @@
 -- A tile of Hextile as a decoder finds it in its bytes, and the colours that it has seen.
 -- No public clause reads these words.
-use Rattle.std.specs.Prelude.{◌≡◌, ℕ, zero, suc, ◌+◌, ◌*◌, ◌≤◌, ◌<◌, nat_le, Bool, true, false, if◌then◌else◌, slice_index, List, [], ◌∷◌, length, take, drop, map, Option, Some, None, Result, Ok, Err}
+use Rattle.std.specs.Prelude.{◌≡◌, ℕ, zero, suc, ◌+◌, ◌*◌, ◌≤◌, ◌<◌, nat_le, Bool, true, false, if◌then◌else◌}
+use Rattle.std.specs.Prelude.{slice_index, List, [], ◌∷◌, length, take, drop, map, Option, Some, None, Result, Ok, Err}
 use Rattle.rfb_pixel.specs.Format.{PixelFormat, size_of}
 use Rattle.rfb_picture.specs.declared.rect.Rect.{Rect}
 use Rattle.rfb_wire.specs.RectHead.{IsOnScreen}
@@ -13,7 +14,8 @@ use Rattle.rfb_codec.specs.declared.hextile.layout.TileLayout.{TileLayout}
 use Rattle.rfb_codec.specs.declared.hextile.layout.TileLayout.TheVariants.{Raw, Plain, Colored}
 use Rattle.rfb_codec.specs.declared.hextile.paint.tile_read.TileRead.{TileRead}
 use Rattle.rfb_codec.specs.Raw.{raw_length}
-use Rattle.rfb_codec.specs.Tile.{Tile, RawTile, PlainTile, ColoredTile, background_specified, foreground_specified, any_subrects, subrects_colored, in_pixel, AreInside, places_of, place_of, colored_of}
+use Rattle.rfb_codec.specs.Tile.{Tile, RawTile, PlainTile, ColoredTile, background_specified, foreground_specified}
+use Rattle.rfb_codec.specs.Tile.{any_subrects, subrects_colored, in_pixel, AreInside, places_of, place_of, colored_of}
 use Rattle.rfb_codec.specs.Hextile.{tile_count, next_tile}
 
 -- `n` values, one after another, of `unit` bytes each

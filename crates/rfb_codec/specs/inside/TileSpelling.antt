@@ -9,7 +9,8 @@ use Rattle.rfb_codec.specs.declared.hextile.layout.TileLayout.TheVariants.{Raw, 
 use Rattle.rfb_wire.specs.RectHead.{IsOnScreen}
 use Rattle.rfb_codec.specs.Pixels.{IsPixel}
 use Rattle.rfb_codec.specs.Tile.{Tile, RawTile, PlainTile, ColoredTile, rect_in}
-use Rattle.rfb_codec.specs.SentTile.{bit_if, is_there, are_some, colour_bytes, place_bytes, colored_bytes, counted_bytes}
+use Rattle.rfb_codec.specs.SentTile.{bit_if, is_there, are_some, colour_bytes, place_bytes, colored_bytes}
+use Rattle.rfb_codec.specs.SentTile.{counted_bytes}
 
 -- the tile that is sent of these pixels, or of these subrectangles
 abbrev pub tile_of : PixelFormat → TileLayout → List ℕ → List Subrect → Tile

@@ -1,9 +1,11 @@
 //! The background that an encoder chooses, by this project's rule.
 
-ghost use Rattle.std.specs.Prelude.{◌≡◌, ◌+◌, ◌-◌, ◌<◌, ◌≤◌, ◌++◌, length, replicate, IfOk, IfErr, IfSome, IfNone};
+ghost use Rattle.std.specs.Prelude.{◌≡◌, ◌+◌, ◌-◌, ◌<◌, ◌≤◌, ◌++◌, length, replicate, IfOk, IfErr};
+ghost use Rattle.std.specs.Prelude.{IfSome, IfNone};
 ghost use Rattle.std.specs.Bool.{OnTrue, OnFalse};
 ghost use Rattle.rfb_codec.specs.Choice.{IsBackground};
-ghost use Rattle.rfb_codec.specs.inside.Background.{HasMore, IsStopped, IsLed, IsRun, EndsRun, Leads, hash_of, changes_in, is_restless};
+ghost use Rattle.rfb_codec.specs.inside.Background.{HasMore, IsStopped, IsLed, IsRun, EndsRun};
+ghost use Rattle.rfb_codec.specs.inside.Background.{Leads, hash_of, changes_in, is_restless};
 
 use crate::block::PLACES;
 use crate::hextile::tiles::TILE_PLACES;
@@ -64,8 +66,8 @@ pub(crate) fn background_of(pixels: &[u32], most: usize) -> Option<u32>
 }
 
 // Whether the pixels come to more slots of a table than `most`, and so are more than that. It may
-// answer false where they are, and does so where pixels come in runs. It costs a quarter of a tally,
-// which a block of noise would take in vain.
+// answer false where they are, and does so where pixels come in runs. It costs a quarter of a
+// tally, which a block of noise would take in vain.
 fn has_more<const SLOTS: usize>(pixels: &[u32], most: usize) -> bool
     requires some { 0 < length pixels.now }
     requires few { length pixels.now ≤ PLACES }

@@ -9,7 +9,8 @@ ghost use Rattle.rfb_wire.specs.declared.rect_head.RectHead.{RectHead};
 ghost use Rattle.rfb_wire.specs.ServerMessage.{ServerMessage};
 ghost use Rattle.rfb_codec.specs.RectData.{RectData, SpellsData, moved_to, replaced, painted};
 ghost use Rattle.rfb_codec.specs.UpdateStream.{UpdatePoint, UpdateItem, Message, Rectangle, IsBody};
-ghost use Rattle.rfb_codec.specs.Effect.{effect, effects, IsAlike, Agrees, recorded, IsRecorded, noted};
+ghost use Rattle.rfb_codec.specs.Effect.{effect, effects, IsAlike, Agrees, recorded, IsRecorded};
+ghost use Rattle.rfb_codec.specs.Effect.{noted};
 
 /// The effect of an item: of a rectangle what its data say, where they are some; of a message none.
 pub fn an_item_has_the_effect_of_its_data()

@@ -1,12 +1,14 @@
 //! Laws of pending bytes in all that a server sends: those of an item under way that stand after
 //! its last whole piece.
 
-ghost use Rattle.std.specs.Prelude.{◌≡◌, ℕ, ◌+◌, ◌*◌, ◌<◌, ◌≤◌, List, [], ◌∷◌, ◌++◌, length, true, false};
+ghost use Rattle.std.specs.Prelude.{◌≡◌, ℕ, ◌+◌, ◌*◌, ◌<◌, ◌≤◌, List, [], ◌∷◌, ◌++◌, length, true};
+ghost use Rattle.std.specs.Prelude.{false};
 ghost use Rattle.rfb_pixel.specs.Format.{PixelFormat, IsFormat, size_of};
 ghost use Rattle.rfb_pixel.specs.Reading.{AreBytes};
 ghost use Rattle.rfb_picture.specs.declared.rect.Rect.{Rect};
 ghost use Rattle.rfb_wire.specs.declared.encoding.Encoding.{Encoding};
-ghost use Rattle.rfb_wire.specs.declared.encoding.Encoding.TheVariants.{Raw, CopyRect, Rre, Hextile};
+ghost use Rattle.rfb_wire.specs.declared.encoding.Encoding.TheVariants.{Raw, CopyRect, Rre};
+ghost use Rattle.rfb_wire.specs.declared.encoding.Encoding.TheVariants.{Hextile};
 ghost use Rattle.rfb_wire.specs.declared.rect_head.RectHead.{RectHead};
 ghost use Rattle.rfb_wire.specs.stream.Reading.{More, Listed, ListedAfter};
 ghost use Rattle.rfb_wire.specs.RectHead.{SpellsRectHead, IsOnScreen};

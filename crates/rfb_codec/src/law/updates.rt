@@ -6,12 +6,15 @@ ghost use Rattle.rfb_picture.specs.Grid.{Grid, IsGrid};
 ghost use Rattle.rfb_wire.specs.declared.rect_head.RectHead.{RectHead};
 ghost use Rattle.rfb_wire.specs.stream.Reading.{More, Got, Bad};
 ghost use Rattle.rfb_wire.specs.stream.Grammar.{ReadsAll, past_all};
-ghost use Rattle.rfb_wire.specs.ServerMessage.{ServerMessage, ServerFault, FramebufferUpdate, server_message};
+ghost use Rattle.rfb_wire.specs.ServerMessage.{ServerMessage, ServerFault, FramebufferUpdate};
+ghost use Rattle.rfb_wire.specs.ServerMessage.{server_message};
 ghost use Rattle.rfb_codec.specs.declared.fault.PaintFault.{PaintFault};
 ghost use Rattle.rfb_codec.specs.RectData.{RectData, painted};
-ghost use Rattle.rfb_codec.specs.UpdateStream.{UpdatePoint, Message, Rectangle, InMessage, InData, update_stream};
+ghost use Rattle.rfb_codec.specs.UpdateStream.{UpdatePoint, Message, Rectangle, InMessage, InData};
+ghost use Rattle.rfb_codec.specs.UpdateStream.{update_stream};
 ghost use Rattle.rfb_codec.specs.Effect.{effect, effects, IsAlike, Agrees};
-ghost use Rattle.rfb_codec.specs.WholeUpdate.{SentRect, item_of, SpellsWholeUpdate, update_of, AreNoted};
+ghost use Rattle.rfb_codec.specs.WholeUpdate.{SentRect, item_of, SpellsWholeUpdate, update_of};
+ghost use Rattle.rfb_codec.specs.WholeUpdate.{AreNoted};
 ghost use Rattle.rfb_codec.specs.Painter.{data_of, painting_of, AwaitsData};
 
 /// The bytes of an update are read as its head and its rectangles, and bytes that are read so are

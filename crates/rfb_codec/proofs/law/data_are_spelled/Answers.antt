@@ -7,4 +7,6 @@ pub returns-clause-reads : goal.returns-clause-reads
 returns-clause-reads c = λ f width height rect encoding. rect_data_reads f width height rect encoding
 
 pub returns-clause-apart : goal.returns-clause-apart
-returns-clause-apart c = λ f width height rect encoding contents other front rest one two. reads_one (rect_data f width height rect encoding) (data_says f width height rect encoding) (rect_data_reads f width height rect encoding) contents other front rest one two
+returns-clause-apart c = λ f width height rect encoding contents other front rest one two.
+    reads_one (rect_data f width height rect encoding) (data_says f width height rect encoding)
+    (rect_data_reads f width height rect encoding) contents other front rest one two

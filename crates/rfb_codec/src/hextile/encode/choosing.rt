@@ -1,6 +1,7 @@
 //! How a tile is sent, by this project's rules.
 
-ghost use Rattle.std.specs.Prelude.{◌≡◌, ℕ, ◌+◌, ◌<◌, ◌≤◌, ◌*◌, length, slice_index, IfSome, IfNone, []};
+ghost use Rattle.std.specs.Prelude.{◌≡◌, ℕ, ◌+◌, ◌<◌, ◌≤◌, ◌*◌, length, slice_index, IfSome};
+ghost use Rattle.std.specs.Prelude.{IfNone, []};
 ghost use Rattle.rfb_codec.specs.Pixels.{IsPixel};
 ghost use Rattle.rfb_codec.specs.Raw.{raw_length};
 ghost use Rattle.rfb_codec.specs.Tile.{Tile};
@@ -71,9 +72,9 @@ pub fn choose(
     TileLayout::Raw
 }
 
-// The tile over its background, if it has room for the subrectangles and they are no longer than its
-// pixels. Of one pixel it is a background alone, of two the other is the foreground, and of more
-// each subrectangle has a pixel of its own.
+// The tile over its background, if it has room for the subrectangles and they are no longer than
+// its pixels. Of one pixel it is a background alone, of two the other is the foreground, and of
+// more each subrectangle has a pixel of its own.
 fn over_background(
     format: &Format,
     pixels: &[u32],

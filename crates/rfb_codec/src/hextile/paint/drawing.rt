@@ -1,10 +1,12 @@
 //! A tile, painted where it lies in a picture.
 
-ghost use Rattle.std.specs.Prelude.{◌≡◌, ℕ, ◌+◌, ◌*◌, ◌≤◌, ◌<◌, List, [], ◌∷◌, ◌++◌, length, drop, false, true};
+ghost use Rattle.std.specs.Prelude.{◌≡◌, ℕ, ◌+◌, ◌*◌, ◌≤◌, ◌<◌, List, [], ◌∷◌, ◌++◌, length, drop};
+ghost use Rattle.std.specs.Prelude.{false, true};
 ghost use Rattle.rfb_pixel.specs.Format.{size_of, colour_of};
 ghost use Rattle.rfb_codec.specs.Rre.{pixel_at};
 ghost use Rattle.rfb_codec.specs.Tile.{Tile, AreInside, places_of, tile_pixel, colored_of};
-ghost use Rattle.rfb_codec.specs.inside.TileRead.{LiesIn, tile_of_read, AreSubsInside, subs_in, sub_after, sub_size};
+ghost use Rattle.rfb_codec.specs.inside.TileRead.{LiesIn, tile_of_read, AreSubsInside, subs_in};
+ghost use Rattle.rfb_codec.specs.inside.TileRead.{sub_after, sub_size};
 ghost use Rattle.rfb_codec.specs.Stage.{Sees};
 ghost use Rattle.rfb_codec.specs.inside.Step.{IsPaintable};
 ghost use Rattle.rfb_codec.specs.Painter.{over};
@@ -99,8 +101,8 @@ fn draw_subs(
     }
 }
 
-// The same, by one loop for every format. The background is filled by a call: with that inlined too,
-// this would be too large to be inlined itself.
+// The same, by one loop for every format. The background is filled by a call: with that inlined
+// too, this would be too large to be inlined itself.
 #[inline(always)]
 fn draw_each(
     format: Format,

@@ -7,8 +7,10 @@ ghost use Rattle.rfb_wire.specs.stream.Reading.{More, Got};
 ghost use Rattle.rfb_wire.specs.stream.Parts.{optional};
 ghost use Rattle.rfb_wire.specs.RectStream.{is_on_screen};
 ghost use Rattle.rfb_wire.specs.stream.Placing.{FaultsWith};
-ghost use Rattle.rfb_codec.specs.Tile.{Tile, is_raw, subrects_colored, mask_fault, tile_colour, after_mask, are_inside, places_of, place_of, tile_after};
-ghost use Rattle.rfb_codec.specs.inside.TileRead.{LiesIn, tile_of_read, TellsTile, IsShort, IsCount, places_from};
+ghost use Rattle.rfb_codec.specs.Tile.{Tile, is_raw, subrects_colored, mask_fault, tile_colour};
+ghost use Rattle.rfb_codec.specs.Tile.{after_mask, are_inside, places_of, place_of, tile_after};
+ghost use Rattle.rfb_codec.specs.inside.TileRead.{LiesIn, tile_of_read, TellsTile, IsShort};
+ghost use Rattle.rfb_codec.specs.inside.TileRead.{IsCount, places_from};
 ghost use Rattle.rfb_codec.specs.Stage.{Sees};
 
 use super::tile_read::{Seen, TileRead};
@@ -201,8 +203,8 @@ fn fits(format: Format, width: u16, height: u16, read: TileRead, bytes: &[u8]) -
     }
 }
 
-// Whether `count` places lie in a tile, each after `skip` bytes of a pixel. It looks at all of them,
-// so that the compiler can take several at once; it is inlined, where `skip` may be known.
+// Whether `count` places lie in a tile, each after `skip` bytes of a pixel. It looks at all of
+// them, so that the compiler can take several at once; it is inlined, where `skip` may be known.
 #[inline(always)]
 fn are_places_inside(width: u16, height: u16, skip: usize, count: usize, list: &[u8]) -> bool
     requires all { count * (skip + 2) ≤ length list.now }

@@ -59,8 +59,8 @@ fn is_flawed(
     Ok(true)
 }
 
-// RRE, section 7.7.3: 4 bytes of a number, 1 of the background, 9 of a subrectangle that lies inside,
-// 9 of one that does not, and 3 more.
+// RRE, section 7.7.3: 4 bytes of a number, 1 of the background, 9 of a subrectangle that lies
+// inside, 9 of one that does not, and 3 more.
 const RRE_OUTSIDE: [u8; 26] = [
     0, 0, 0, 3, 0, // U32 number-of-subrectangles, background-pixel-value
     0x07, 0, 0, 0, 0, 0, 1, 0, 1, // at x-position 0, width 1

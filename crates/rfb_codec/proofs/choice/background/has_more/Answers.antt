@@ -11,8 +11,10 @@ returns-then-free-eq0 g c =
     let pixels = c.args.pixels.now in
     let l = c.loop-place in
     let at = c.hash-slot.result % g.row.SLOTS in
-    let e : at ≡ hash_of (get_or pixels l.place 0) % g.row.SLOTS = ap (λ (h : ℕ). h % g.row.SLOTS) c.hash-slot.ensures in
-    more_than_allowed slot pixels l.taken l.place c.args.most c.loop-place-test.true (rw e at c.if-taken-slot-eq0.true) (rw c.if-free-eq0.true at l.invariant.claimed)
+    let e : at ≡ hash_of (get_or pixels l.place 0) % g.row.SLOTS =
+    ap (λ (h : ℕ). h % g.row.SLOTS) c.hash-slot.ensures in
+    more_than_allowed slot pixels l.taken l.place c.args.most c.loop-place-test.true (rw e at c.if-taken-slot-eq0.true)
+    (rw c.if-free-eq0.true at l.invariant.claimed)
 
 pub loop-place-preserved : goal.loop-place-preserved
 loop-place-preserved g c =
@@ -20,14 +22,16 @@ loop-place-preserved g c =
     let pixels = c.args.pixels.now in
     let l = c.loop-place in
     let at = c.hash-slot.result % g.row.SLOTS in
-    let e : at ≡ hash_of (get_or pixels l.place 0) % g.row.SLOTS = ap (λ (h : ℕ). h % g.row.SLOTS) c.hash-slot.ensures in
+    let e : at ≡ hash_of (get_or pixels l.place 0) % g.row.SLOTS =
+    ap (λ (h : ℕ). h % g.row.SLOTS) c.hash-slot.ensures in
     let below : at < g.row.SLOTS = omega (arith, c.requires.slots.0) in
     let fits : at < length l.taken = omega (arith, l.invariant.sized, below) in
     elim c.if-taken-slot-eq0.branch [
       | then-taken-slot-eq0+else-free-eq0 w ↦
           rw (w.taken-is, w.free-is) (record {
             sized = length-set l.taken at 1 ∙ l.invariant.sized;
-            claimed = rw e (claimed_more slot pixels l.taken l.place l.free c.args.most 1 c.loop-place-test.true (rw e at fits) (rw e at w.if-taken-slot-eq0.true) w.if-free-eq0.false (omega arith) l.invariant.claimed);
+            claimed = rw e (claimed_more slot pixels l.taken l.place l.free c.args.most 1 c.loop-place-test.true (rw e
+                at fits) (rw e at w.if-taken-slot-eq0.true) w.if-free-eq0.false (omega arith) l.invariant.claimed);
           })
       | else-taken-slot-eq0 w ↦ rw (w.taken-is, w.free-is) l.invariant
     ]

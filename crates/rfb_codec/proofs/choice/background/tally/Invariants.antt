@@ -8,7 +8,8 @@ abbrev pub invariant-loop-start : goal.invariant-loop-start
 invariant-loop-start g l = record {
   firsts_sized : length l.firsts ≡ g.row.SLOTS;
   counts_sized : length l.counts ≡ g.row.SLOTS;
-  tallied : Tallied (λ (p : ℕ). hash_of p % g.row.SLOTS) l.pixels l.firsts l.counts l.aside.items l.start l.better l.most;
+  tallied : Tallied (λ (p : ℕ). hash_of p % g.row.SLOTS) l.pixels l.firsts l.counts
+      l.aside.items l.start l.better l.most;
   claimed : Claimed (λ (p : ℕ). hash_of p % g.row.SLOTS) l.pixels l.firsts l.free l.fn.free;
 }
 

@@ -31,10 +31,12 @@ returns-then-leads c =
     let first = slice_index pixels 0 in
     let second = slice_index pixels start in
     let within : start < length pixels = omega (arith, c.run_of-start.ensures.within, c.if-start-pixels.false) in
-    let each : (i : ℕ) → i < length pixels → (slice_index pixels i ≡ first) ⊎ (slice_index pixels i ≡ second) = c.if-has_other.ensures.none in
+    let each : (i : ℕ) → i < length pixels → (slice_index pixels i ≡ first) ⊎ (slice_index pixels i ≡ second) =
+    c.if-has_other.ensures.none in
     let seconds = c.places_of-seconds.result in
     let both : (length pixels - seconds) + seconds ≡ length pixels = omega (arith, c.places_of-seconds.ensures.few) in
-    let more = first_is_more first second (length pixels - seconds) seconds pixels (λ same. c.run_of-start.ensures.other within (sym same)) each c.places_of-seconds.ensures.value both c.if-leads.ensures.yes in
+    let more = first_is_more first second (length pixels - seconds) seconds pixels (λ same. c.run_of-start.ensures.other
+    within (sym same)) each c.places_of-seconds.ensures.value both c.if-leads.ensures.yes in
     ((0, c.requires.some, refl), (start, within, refl), each, more)
 
 pub returns-else-leads : goal.returns-else-leads
@@ -44,9 +46,11 @@ returns-else-leads c =
     let first = slice_index pixels 0 in
     let second = slice_index pixels start in
     let within : start < length pixels = omega (arith, c.run_of-start.ensures.within, c.if-start-pixels.false) in
-    let each : (i : ℕ) → i < length pixels → (slice_index pixels i ≡ first) ⊎ (slice_index pixels i ≡ second) = c.if-has_other.ensures.none in
+    let each : (i : ℕ) → i < length pixels → (slice_index pixels i ≡ first) ⊎ (slice_index pixels i ≡ second) =
+    c.if-has_other.ensures.none in
     let seconds = c.places_of-seconds.result in
     let both : (length pixels - seconds) + seconds ≡ length pixels = omega (arith, c.places_of-seconds.ensures.few) in
     let less = c.if-leads.ensures.no in
-    let more = second_is_more first second (length pixels - seconds) seconds pixels (λ same. c.run_of-start.ensures.other within (sym same)) each c.places_of-seconds.ensures.value both less.0 less.1 in
+    let more = second_is_more first second (length pixels - seconds) seconds pixels (λ same.
+    c.run_of-start.ensures.other within (sym same)) each c.places_of-seconds.ensures.value both less.0 less.1 in
     ((start, within, refl), (0, c.requires.some, refl), λ i below. swapped (each i below), more)

@@ -14,7 +14,8 @@ returns-then-not-holds c =
     let used = c.gather-used.result in
     let k = used - 1 in
     let last : used ≡ k + 1 = omega arith in
-    let is : xs ≡ pending ++ take (k + 1) bytes = c.as_slice-source.ensures.value ∙ c.gather-used.ensures.items ∙ ap (λ (n : ℕ). pending ++ take n bytes) last in
+    let is : xs ≡ pending ++ take (k + 1) bytes =
+    c.as_slice-source.ensures.value ∙ c.gather-used.ensures.items ∙ ap (λ (n : ℕ). pending ++ take n bytes) last in
     let size : length xs ≡ 4 = ap length c.as_slice-source.ensures.value ∙ omega arith in
     let x_is : u16_at 0 xs ≡ c.read_u16-x.result = sym c.read_u16-x.ensures in
     let y_is : u16_at 2 xs ≡ c.read_u16-y.result = sym (c.read_u16-y.ensures ∙ ap (big_number 2) (take_rest xs 2)) in

@@ -18,5 +18,6 @@ returns-clause-bytes c = λ f block bytes others first second.
     let other = second.stands.tiles in
     let number = first.stands.number in
     let as_many = second.stands.number in
-    let same = same_tiles f block 0 nothing_held one other (omega (arith, number)) (number ∙ sym as_many) first.rule second.rule in
+    let same = same_tiles f block 0 nothing_held one other (omega (arith, number))
+    (number ∙ sym as_many) first.rule second.rule in
     first.bytes_are ∙ ap (flat_map (sent_as f)) same ∙ sym second.bytes_are

@@ -5,7 +5,8 @@ pub returns-clause-painted : goal.returns-clause-painted
 returns-clause-painted c = λ p head contents body picture spelled. effect_painted p head contents body picture spelled
 
 pub returns-clause-nothing : goal.returns-clause-nothing
-returns-clause-nothing c = λ p head body picture none. effect_nothing p head body picture (λ contents spelled. none (contents, spelled))
+returns-clause-nothing c =
+    λ p head body picture none. effect_nothing p head body picture (λ contents spelled. none (contents, spelled))
 
 pub returns-clause-message : goal.returns-clause-message
 returns-clause-message c = λ p message picture. effect_message p message picture

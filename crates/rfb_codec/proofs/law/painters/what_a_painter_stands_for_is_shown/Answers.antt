@@ -6,7 +6,8 @@ pub returns-clause-shown : goal.returns-clause-shown
 returns-clause-shown c = λ p now before body stands. stands_shows p.form p.rect p.stage p.pending now before body stands
 
 pub returns-clause-pending : goal.returns-clause-pending
-returns-clause-pending c = λ p now before body stands. kept_is_pending p.form p.rect p.stage p.pending now before body stands
+returns-clause-pending c =
+    λ p now before body stands. kept_is_pending p.form p.rect p.stage p.pending now before body stands
 
 pub returns-clause-ended : goal.returns-clause-ended
 returns-clause-ended c = λ p now before body whole ended stands.

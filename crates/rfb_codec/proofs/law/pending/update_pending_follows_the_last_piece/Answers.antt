@@ -1,4 +1,5 @@
-use Rattle.rfb_codec.proofs.PendingLaws.{message_pending_next, short_head_pending, data_pending_next, update_pending_below, update_pending_within}
+use Rattle.rfb_codec.proofs.PendingLaws.{message_pending_next, short_head_pending, data_pending_next}
+use Rattle.rfb_codec.proofs.PendingLaws.{update_pending_below, update_pending_within}
 use Rattle.rfb_codec.proofs.law.pending.update_pending_follows_the_last_piece.Goals as goal
 
 pub returns-clause-message : goal.returns-clause-message

@@ -5,10 +5,12 @@ pub returns-clause-short : goal.returns-clause-short
 returns-clause-short c = λ p bytes some short. rect_short p bytes some short
 
 pub returns-clause-got : goal.returns-clause-got
-returns-clause-got c = λ p head front body rest contents picture awaits got. body_got p head front picture awaits body rest contents got
+returns-clause-got c =
+    λ p head front body rest contents picture awaits got. body_got p head front picture awaits body rest contents got
 
 pub returns-clause-effect : goal.returns-clause-effect
-returns-clause-effect c = λ p head front body contents picture awaits got. body_effect p head front picture awaits body contents got
+returns-clause-effect c =
+    λ p head front body contents picture awaits got. body_effect p head front picture awaits body contents got
 
 pub returns-clause-waits : goal.returns-clause-waits
 returns-clause-waits c = λ p head front body picture awaits waits. body_waits p head front picture awaits body waits

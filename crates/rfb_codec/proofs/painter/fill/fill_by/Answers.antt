@@ -19,9 +19,11 @@ loop-row-preserved g c =
     let row = c.fill_row.new.row in
     let len : length row ≡ rect.w = omega arith in
     let written = run_in_row rect.x (rect.y + n) row c.loop-row.picture c.row_mut.ensures.whole (omega arith) in
-    let each : (k : ℕ) (d : Colour) → k < rect.w → slice_index_or row k d ≡ c.args.colour = λ k d below. c.fill_row.ensures k d (omega arith) in
+    let each : (k : ℕ) (d : Colour) → k < rect.w → slice_index_or row k d ≡ c.args.colour =
+    λ k d below. c.fill_row.ensures k d (omega arith) in
     record {
-      shown = written ∙ ap (λ g. with_row rect.x (rect.y + n) row g) c.loop-row.invariant.shown ∙ over_more rect n (λ x y. c.args.colour) row c.args.picture.now c.requires.place.whole len each;
+      shown = written ∙ ap (λ g. with_row rect.x (rect.y + n) row g) c.loop-row.invariant.shown
+          ∙ over_more rect n (λ x y. c.args.colour) row c.args.picture.now c.requires.place.whole len each;
       width = c.loop-row.invariant.width;
       height = c.loop-row.invariant.height;
     }

@@ -7,7 +7,8 @@ pub pieces-init : goal.pieces-init
 pieces-init c = record {
   within = omega arith;
   begun = λ _. refl;
-  reaches = reaches_none c.args.rectangle.now c.args.stage c.args.pending.now.items c.args.picture.now c.args.bytes.now c.requires.sound;
+  reaches = reaches_none c.args.rectangle.now c.args.stage c.args.pending.now.items c.args.picture.now
+      c.args.bytes.now c.requires.sound;
 }
 
 pub pieces-preserved : goal.pieces-preserved
@@ -22,7 +23,9 @@ pieces-preserved c =
     record {
       within = omega (arith, left, within);
       begun = λ none. absurd (omega (arith, none, takes.some));
-      reaches = reaches_more c.args.rectangle.now c.args.stage c.args.pending.now.items c.args.picture.now c.pieces.now step.stage c.pieces.pending.items c.take.new.pending.items c.pieces.picture c.take.new.picture used step.used bytes slice (take_rest bytes used) c.pieces.invariant.reaches takes.reaches;
+      reaches = reaches_more c.args.rectangle.now c.args.stage c.args.pending.now.items c.args.picture.now c.pieces.now
+          step.stage c.pieces.pending.items c.take.new.pending.items c.pieces.picture c.take.new.picture used step.used
+          bytes slice (take_rest bytes used) c.pieces.invariant.reaches takes.reaches;
     }
 
 pub returns-in-Err : goal.returns-in-Err

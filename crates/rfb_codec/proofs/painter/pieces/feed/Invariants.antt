@@ -6,7 +6,8 @@ abbrev pub invariant-pieces : goal.invariant-pieces
 invariant-pieces l = record {
   within : l.used ≤ length l.bytes;
   begun : l.used ≡ 0 → l.now ≡ l.fn.stage;
-  reaches : Reaches l.rectangle l.fn.stage l.fn.pending.items l.fn.picture (take l.used l.bytes) l.now l.pending.items l.picture;
+  reaches : Reaches l.rectangle l.fn.stage l.fn.pending.items l.fn.picture (take l.used l.bytes)
+      l.now l.pending.items l.picture;
 }
 
 abbrev pub decreases-pieces : goal.decreases-pieces

@@ -26,9 +26,11 @@ lines-preserved c =
     let size_is : size ≡ unit = rw (c.from.ensures, c.size.ensures.value) refl in
     let start_is : start ≡ row * unit = rw (c.from-in-lines.ensures, size_is) refl in
     let rows : row * unit ≤ c.args.count * unit = mul-le-mul_right unit (omega arith) in
-    let front : length (take (row * unit) bytes) ≡ row * unit = length-take-le (row * unit) bytes (omega (arith, rows, c.requires.whole)) in
+    let front : length (take (row * unit) bytes) ≡ row * unit =
+    length-take-le (row * unit) bytes (omega (arith, rows, c.requires.whole)) in
     record {
-      runs = runs_join f rect (first_of_row rect.w c.args.top) (row * rect.w) rect.w (first_of_row rect.w (c.args.top + row)) ((row + 1) * rect.w)
+      runs = runs_join f rect (first_of_row rect.w c.args.top) (row * rect.w) rect.w
+          (first_of_row rect.w (c.args.top + row)) ((row + 1) * rect.w)
           (take (row * unit) bytes) (take (start + size - start) (drop start bytes)) (take ((row + 1) * unit) bytes)
           c.args.picture.now c.lines.picture c.paint_run.new.picture
           (omega (arith, front)) (omega arith) (omega arith) (next_line row unit start size bytes start_is size_is)

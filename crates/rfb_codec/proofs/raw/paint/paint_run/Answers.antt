@@ -14,8 +14,12 @@ returns-clause-value c = λ pixels before size old.
     let at = c.args.at in
     let run = c.unpack_row.new.colours in
     let len : length run ≡ c.args.count = omega arith in
-    let whole : IsGrid before = whole_before _ before (subst (λ (g : Grid Colour). IsGrid g) old c.requires.place.whole) in
-    let each : (k : ℕ) (d : Colour) → k < c.args.count → slice_index_or run k d ≡ colour_of f (pixel_number f (drop (k * size_of f) c.args.bytes.now)) = λ k d below. c.unpack_row.ensures k d (omega arith) in
+    let whole : IsGrid before =
+    whole_before _ before (subst (λ (g : Grid Colour). IsGrid g) old c.requires.place.whole) in
+    let each : (k : ℕ) (d : Colour) → k < c.args.count →
+    slice_index_or run k d ≡ colour_of f (pixel_number f (drop (k * size_of f) c.args.bytes.now)) =
+    λ k d below. c.unpack_row.ensures k d (omega arith) in
     run_in_row (rect.x + at.x) (rect.y + at.y) run c.args.picture.now c.requires.place.whole (omega arith)
     ∙ ap (λ (g : Grid Colour). with_row (rect.x + at.x) (rect.y + at.y) run g) old
-    ∙ run_over f rect at.y at.x c.args.count pixels c.args.bytes.now run before whole c.requires.columns c.requires.row len size c.requires.whole each
+    ∙ run_over f rect at.y at.x c.args.count pixels c.args.bytes.now run before whole c.requires.columns c.requires.row
+    len size c.requires.whole each

@@ -6,7 +6,8 @@ use Rattle.rfb_codec.proofs.raw.paint.rows_in.Given as goal
 
 abbrev pub invariant-loop-row : goal.invariant-loop-row
 invariant-loop-row l = record {
-  shown : l.picture ≡ over (record l.rect { h = l.row }) (λ x y. colour_of l.format (raw_pixel l.format l.rect.w l.bytes x y)) l.fn.picture;
+  shown : l.picture ≡ over (record l.rect { h = l.row })
+      (λ x y. colour_of l.format (raw_pixel l.format l.rect.w l.bytes x y)) l.fn.picture;
   width : l.picture.width ≡ l.fn.picture.width;
   height : l.picture.height ≡ l.fn.picture.height;
 }

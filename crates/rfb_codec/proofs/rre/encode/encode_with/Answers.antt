@@ -1,4 +1,5 @@
-use Rattle.std.proofs.Common.{rules, ◌≡◌, ◌∙◌, ◌<◌, ◌^◌, ◌++◌, ◌+◌, ◌*◌, ◌/◌, ◌≤◌, arith, ap, refl, append_assoc, length, length-append}
+use Rattle.std.proofs.Common.{rules, ◌≡◌, ◌∙◌, ◌<◌, ◌^◌, ◌++◌, ◌+◌, ◌*◌, ◌/◌, ◌≤◌, arith, ap, refl, append_assoc}
+use Rattle.std.proofs.Common.{length, length-append}
 use Rattle.std.proofs.lemmas.Grind.{common_steps}
 use Rattle.std.specs.List.{flat_map}
 use Rattle.rfb_pixel.specs.Format.{size_of}
@@ -18,7 +19,13 @@ pub cover-requires : goal.cover-requires
 cover-requires g c =
     let h = c.from-height.result in
     let w = c.from-width.result in
-    let whole : length c.pixels-pixels.result.now ≡ h * w = rw (c.from-width.ensures, c.width.ensures.value, c.from-height.ensures, c.height.ensures.value, c.pixels-pixels.ensures.value) c.pixels-pixels.ensures.whole in
+    let whole : length c.pixels-pixels.result.now ≡ h * w = rw (
+      c.from-width.ensures,
+      c.width.ensures.value,
+      c.from-height.ensures,
+      c.height.ensures.value,
+      c.pixels-pixels.ensures.value,
+    ) c.pixels-pixels.ensures.whole in
     let same = ap length c.pixels-pixels.ensures.value in
     let limit = limit_fits (h * w) c.size-size.result g.row.N (omega (arith, whole, same)) (omega arith) in
     search rules
@@ -31,20 +38,44 @@ returns-clause-spelled g c =
     let subs = c.cover.new.subs.items in
     let head = rre_head f (length subs) background in
     let list = flat_map (subrect_bytes f) subs in
-    let rule : AreRuleSubs block.width block.height block.places background subs = rw (c.from-width.ensures, c.width.ensures.value, c.from-height.ensures, c.height.ensures.value, c.pixels-pixels.ensures.value) at c.if-not-cover.ensures.rule in
-    let chosen : IsBackground block.places background = rw c.pixels-pixels.ensures.value at c.in-Some.ensures.background in
-    let cover : IsCover block.width block.height block.places background subs = rw (c.from-width.ensures, c.width.ensures.value, c.from-height.ensures, c.height.ensures.value, c.pixels-pixels.ensures.value) at c.if-not-cover.ensures.cover in
+    let rule : AreRuleSubs block.width block.height block.places background subs = rw (
+      c.from-width.ensures,
+      c.width.ensures.value,
+      c.from-height.ensures,
+      c.height.ensures.value,
+      c.pixels-pixels.ensures.value,
+    ) at c.if-not-cover.ensures.rule in
+    let chosen : IsBackground block.places background =
+    rw c.pixels-pixels.ensures.value at c.in-Some.ensures.background in
+    let cover : IsCover block.width block.height block.places background subs = rw (
+      c.from-width.ensures,
+      c.width.ensures.value,
+      c.from-height.ensures,
+      c.height.ensures.value,
+      c.pixels-pixels.ensures.value,
+    ) at c.if-not-cover.ensures.cover in
     let few : length subs < 2 ^ 32 = omega arith in
     let count : c.len.result ≡ length subs = c.len.ensures.value in
-    let raw : c.from-height.result * c.from-width.result * c.size-size.result ≡ raw_length f block.width block.height = rw (c.from-width.ensures, c.width.ensures.value, c.from-height.ensures, c.height.ensures.value, c.size-size.ensures.value) refl in
-    let data_of : 4 + c.size-size.result + c.len.result * (c.size-size.result + 8) ≡ 4 + size_of f + length subs * (size_of f + 8) = rw (c.size-size.ensures.value, count) refl in
+    let raw : c.from-height.result * c.from-width.result * c.size-size.result ≡ raw_length f block.width block.height =
+    rw (
+      c.from-width.ensures,
+      c.width.ensures.value,
+      c.from-height.ensures,
+      c.height.ensures.value,
+      c.size-size.ensures.value,
+    ) refl in
+    let data_of : 4 + c.size-size.result + c.len.result * (c.size-size.result + 8)
+    ≡ 4 + size_of f + length subs * (size_of f + 8) = rw (c.size-size.ensures.value, count) refl in
     let first : length head ≡ 4 + size_of f = let pixel = length-pixel_bytes f background in omega (arith, pixel) in
     let more : length list ≡ length subs * (size_of f + 8) = length-subrects f subs in (
       head ++ list,
-      c.append_subrects.ensures.items ∙ ap (λ some. c.append_head.new.out.items ++ flat_map (subrect_bytes f) some) c.as_slice.ensures.value
-          ∙ ap (λ front. front ++ list) (c.append_head.ensures.items ∙ ap (λ n. c.args.out.now.items ++ rre_head f n background) c.len-2.ensures.value)
+      c.append_subrects.ensures.items
+          ∙ ap (λ some. c.append_head.new.out.items ++ flat_map (subrect_bytes f) some) c.as_slice.ensures.value
+          ∙ ap (λ front. front ++ list) (c.append_head.ensures.items
+          ∙ ap (λ n. c.args.out.now.items ++ rre_head f n background) c.len-2.ensures.value)
           ∙ append_assoc c.args.out.now.items head list,
-      stands_rre f block background subs c.pixels-pixels.ensures.whole (omega arith) (omega arith) few c.requires.pixels chosen cover rule,
+      stands_rre f block background subs c.pixels-pixels.ensures.whole (omega arith) (omega arith) few
+          c.requires.pixels chosen cover rule,
       rw length-append (omega (arith, first, more, raw, data_of)),
     )
 
@@ -52,7 +83,14 @@ pub returns-in_default-clause-given_up : goal.returns-in_default-clause-given_up
 returns-in_default-clause-given_up g c =
     let f = c.args.format.now in
     let block = c.args.block.now in
-    let more : HasMore (raw_of f block / (size_of f + 8) + 1) block.places = rw (c.from-width.ensures, c.width.ensures.value, c.from-height.ensures, c.height.ensures.value, c.size-size.ensures.value, c.pixels-pixels.ensures.value) at c.in_default.ensures.more in
+    let more : HasMore (raw_of f block / (size_of f + 8) + 1) block.places = rw (
+      c.from-width.ensures,
+      c.width.ensures.value,
+      c.from-height.ensures,
+      c.height.ensures.value,
+      c.size-size.ensures.value,
+      c.pixels-pixels.ensures.value,
+    ) at c.in_default.ensures.more in
     many_pixels f block (raw_of f block / (size_of f + 8)) c.pixels-pixels.ensures.whole refl more
 
 pub returns-then-not-cover-clause-given_up : goal.returns-then-not-cover-clause-given_up
@@ -60,8 +98,19 @@ returns-then-not-cover-clause-given_up g c =
     let f = c.args.format.now in
     let block = c.args.block.now in
     let background = c.in-Some.background in
-    let chosen : IsBackground block.places background = rw c.pixels-pixels.ensures.value at c.in-Some.ensures.background in
-    let given : IsGivenUp block.width block.height block.places background (raw_of f block / (size_of f + 8)) c.cover.new.subs.items = rw (c.from-width.ensures, c.width.ensures.value, c.from-height.ensures, c.height.ensures.value, c.size-size.ensures.value, c.pixels-pixels.ensures.value) at c.if-not-cover.ensures.over in
+    let chosen : IsBackground block.places background =
+    rw c.pixels-pixels.ensures.value at c.in-Some.ensures.background in
+    let given : IsGivenUp block.width block.height block.places background (raw_of f block / (size_of f + 8))
+    c.cover.new.subs.items =
+    rw (
+      c.from-width.ensures,
+      c.width.ensures.value,
+      c.from-height.ensures,
+      c.height.ensures.value,
+      c.size-size.ensures.value,
+      c.pixels-pixels.ensures.value,
+    )
+    at c.if-not-cover.ensures.over in
     many_subs f block background (raw_of f block / (size_of f + 8)) c.cover.new.subs.items chosen refl given
 
 pub returns-then-raw-size-clause-given_up : goal.returns-then-raw-size-clause-given_up
@@ -70,9 +119,23 @@ returns-then-raw-size-clause-given_up g c =
     let block = c.args.block.now in
     let background = c.in-Some.background in
     let subs = c.cover.new.subs.items in
-    let chosen : IsBackground block.places background = rw c.pixels-pixels.ensures.value at c.in-Some.ensures.background in
-    let rule : AreRuleSubs block.width block.height block.places background subs = rw (c.from-width.ensures, c.width.ensures.value, c.from-height.ensures, c.height.ensures.value, c.pixels-pixels.ensures.value) at c.if-not-cover.ensures.rule in
-    let long : raw_of f block ≤ 4 + size_of f + length subs * (size_of f + 8) = rw (c.from-width.ensures, c.width.ensures.value, c.from-height.ensures, c.height.ensures.value, c.size-size.ensures.value, c.len.ensures.value) at c.if-raw-size.true in
+    let chosen : IsBackground block.places background =
+    rw c.pixels-pixels.ensures.value at c.in-Some.ensures.background in
+    let rule : AreRuleSubs block.width block.height block.places background subs = rw (
+      c.from-width.ensures,
+      c.width.ensures.value,
+      c.from-height.ensures,
+      c.height.ensures.value,
+      c.pixels-pixels.ensures.value,
+    ) at c.if-not-cover.ensures.rule in
+    let long : raw_of f block ≤ 4 + size_of f + length subs * (size_of f + 8) = rw (
+      c.from-width.ensures,
+      c.width.ensures.value,
+      c.from-height.ensures,
+      c.height.ensures.value,
+      c.size-size.ensures.value,
+      c.len.ensures.value,
+    ) at c.if-raw-size.true in
     long_data f block background subs chosen rule long
 
 pub returns-clause-shorter : goal.returns-clause-shorter

@@ -1,4 +1,5 @@
-use Rattle.std.proofs.Common.{◌≡◌, ◌∙◌, ◌+◌, ◌-◌, ◌++◌, [], ℕ, length, take, drop, refl, ap, arith, rules, length-take-le, length-drop}
+use Rattle.std.proofs.Common.{◌≡◌, ◌∙◌, ◌+◌, ◌-◌, ◌++◌, [], ℕ, length, take, drop, refl, ap, arith, rules}
+use Rattle.std.proofs.Common.{length-take-le, length-drop}
 use Rattle.std.proofs.lemmas.Bool.Decides.{nat_tests}
 use Rattle.rfb_pixel.specs.Format.{size_of}
 use Rattle.rfb_codec.specs.declared.fault.PaintFault.TheVariants.{SubrectOutside}
@@ -12,7 +13,8 @@ pub parts-init : goal.parts-init
 parts-init c = record {
   within = omega arith;
   first = λ e. refl;
-  reaches = reaches_none c.args.rectangle.now (InSubrects c.args.left) [] c.args.picture.now c.args.bytes.now (grind (arith, nat_tests));
+  reaches = reaches_none c.args.rectangle.now (InSubrects c.args.left) [] c.args.picture.now
+      c.args.bytes.now (grind (arith, nat_tests));
 }
 
 pub parts-preserved : goal.parts-preserved
@@ -26,21 +28,26 @@ parts-preserved c =
     let more = take size (drop used bytes) in
     let is : part ≡ [] ++ more = ap (λ (n : ℕ). take n (drop used bytes)) (omega arith) in
     let left : length (drop used bytes) ≡ length bytes - used = length-drop used bytes in
-    let whole : length part ≡ size_of r.format + 8 = ap length is ∙ length-take-le size (drop used bytes) (omega (arith, left)) ∙ omega (arith, c.size-length.ensures.value) in
+    let whole : length part ≡ size_of r.format + 8 = ap length is
+    ∙ length-take-le size (drop used bytes) (omega (arith, left)) ∙ omega (arith, c.size-length.ensures.value) in
     let place : IsPaintable c.parts.picture r.rect = search rules in
     let drawn = c.in-Ok.ensures in
-    let one : Reaches r (InSubrects rest) [] c.parts.picture more (InSubrects (rest - 1)) [] c.draw_subrect.new.picture = record {
+    let one : Reaches r (InSubrects rest) [] c.parts.picture more (InSubrects (rest - 1)) []
+    c.draw_subrect.new.picture = record {
       sound = grind (arith, nat_tests);
       same = refl;
       goes_on = λ before body stands.
-          subrect_taken r.format r.rect rest (rest - 1) [] more part [] c.parts.picture c.draw_subrect.new.picture before body (omega arith) refl is whole refl drawn.inside place.whole drawn.value stands;
+          subrect_taken r.format r.rect rest (rest - 1) [] more part [] c.parts.picture c.draw_subrect.new.picture
+          before body (omega arith) refl is whole refl drawn.inside place.whole drawn.value stands;
       width = drawn.width;
       height = drawn.height;
     } in
     record {
       within = omega arith;
       first = λ e. absurd (omega arith);
-      reaches = reaches_more r (InSubrects c.args.left) [] c.args.picture.now (InSubrects rest) (InSubrects (rest - 1)) [] [] c.parts.picture c.draw_subrect.new.picture used size bytes (drop used bytes) refl c.parts.invariant.reaches one;
+      reaches = reaches_more r (InSubrects c.args.left) [] c.args.picture.now (InSubrects rest) (InSubrects (rest - 1))
+          [] [] c.parts.picture c.draw_subrect.new.picture used size bytes (drop used bytes) refl
+          c.parts.invariant.reaches one;
     }
 
 pub returns-in-Err : goal.returns-in-Err
@@ -54,7 +61,8 @@ returns-in-Err c =
     let part = take (used + size - used) (drop used bytes) in
     let left : length (drop used bytes) ≡ length bytes - used = length-drop used bytes in
     let is : part ≡ [] ++ take (k + 1) (drop used bytes) = ap (λ (n : ℕ). take n (drop used bytes)) (omega arith) in
-    let whole : length part ≡ size_of r.format + 8 = ap length is ∙ length-take-le (k + 1) (drop used bytes) (omega (arith, left)) ∙ omega (arith, c.size-length.ensures.value) in
+    let whole : length part ≡ size_of r.format + 8 = ap length is
+    ∙ length-take-le (k + 1) (drop used bytes) (omega (arith, left)) ∙ omega (arith, c.size-length.ensures.value) in
     let refuses = c.in-Err.ensures in
     let one : Breaks r (InSubrects rest) [] c.parts.picture (drop used bytes)
     (record { used = size; fault = SubrectOutside }) [] c.draw_subrect.new.picture = rw refuses.kept (record {

@@ -7,7 +7,8 @@ abbrev pub invariant-parts : goal.invariant-parts
 invariant-parts l = record {
   within : l.used ≤ length l.bytes;
   first : l.used ≡ 0 → l.rest ≡ l.left;
-  reaches : Reaches l.rectangle (InSubrects l.left) [] l.fn.picture (take l.used l.bytes) (InSubrects l.rest) [] l.picture;
+  reaches : Reaches l.rectangle (InSubrects l.left) [] l.fn.picture (take l.used l.bytes)
+      (InSubrects l.rest) [] l.picture;
 }
 
 abbrev pub decreases-parts : goal.decreases-parts

@@ -25,7 +25,9 @@ returns-then-len-size c =
         sound = grind (arith, nat_tests);
         same = refl;
         goes_on = λ before body stands.
-            subrect_waits r.format r.rect c.args.left c.args.pending.now.items (take c.gather-used.result c.args.bytes.now) rest c.args.picture.now before body c.requires.left c.gather-used.ensures.items short stands;
+            subrect_waits r.format r.rect c.args.left c.args.pending.now.items
+            (take c.gather-used.result c.args.bytes.now) rest c.args.picture.now before body c.requires.left
+            c.gather-used.ensures.items short stands;
         width = refl;
         height = refl;
       };
@@ -40,8 +42,10 @@ returns-in-Err c =
     let used = c.gather-used.result in
     let k = used - 1 in
     let last : used ≡ k + 1 = omega (arith, c.size-size.ensures.value) in
-    let is : xs ≡ pending ++ take (k + 1) bytes = c.as_slice.ensures.value ∙ c.gather-used.ensures.items ∙ ap (λ (n : ℕ). pending ++ take n bytes) last in
-    let whole : length xs ≡ size_of r.format + 8 = ap length c.as_slice.ensures.value ∙ omega (arith, c.size-size.ensures.value) in
+    let is : xs ≡ pending ++ take (k + 1) bytes =
+    c.as_slice.ensures.value ∙ c.gather-used.ensures.items ∙ ap (λ (n : ℕ). pending ++ take n bytes) last in
+    let whole : length xs ≡ size_of r.format + 8 =
+    ap length c.as_slice.ensures.value ∙ omega (arith, c.size-size.ensures.value) in
     let refuses = c.in-Err.ensures in
     let breaks : Breaks r (InSubrects c.args.left) pending c.args.picture.now bytes
     (record { used = used; fault = SubrectOutside }) c.clear.new.self.items c.draw_subrect-drawn.new.picture =
@@ -62,7 +66,8 @@ returns c =
     let r = c.args.rectangle.now in
     let used = c.gather-used.result in
     let xs = c.as_slice.result.now in
-    let whole : length xs ≡ size_of r.format + 8 = ap length c.as_slice.ensures.value ∙ omega (arith, c.size-size.ensures.value) in
+    let whole : length xs ≡ size_of r.format + 8 =
+    ap length c.as_slice.ensures.value ∙ omega (arith, c.size-size.ensures.value) in
     let none : length c.clear.new.self.items ≡ 0 = ap length c.clear.ensures in
     let drawn = c.in-Ok.ensures in
     record {
@@ -72,7 +77,10 @@ returns c =
         sound = grind (arith, nat_tests);
         same = refl;
         goes_on = λ before body stands.
-            subrect_taken r.format r.rect c.args.left (c.args.left - 1) c.args.pending.now.items (take used c.args.bytes.now) xs c.clear.new.self.items c.args.picture.now c.draw_subrect-drawn.new.picture before body c.requires.left refl (c.as_slice.ensures.value ∙ c.gather-used.ensures.items) whole c.clear.ensures drawn.inside c.requires.place.whole drawn.value stands;
+            subrect_taken r.format r.rect c.args.left (c.args.left - 1) c.args.pending.now.items (take used
+            c.args.bytes.now) xs c.clear.new.self.items c.args.picture.now c.draw_subrect-drawn.new.picture before
+            body c.requires.left refl (c.as_slice.ensures.value ∙ c.gather-used.ensures.items) whole c.clear.ensures
+            drawn.inside c.requires.place.whole drawn.value stands;
         width = drawn.width;
         height = drawn.height;
       };

@@ -12,7 +12,8 @@ append_pixels-requires-clause-room c =
 pub append_places-requires-clause-room : goal.append_places-requires-clause-room
 append_places-requires-clause-room c =
     let room = rw c.in-Plain.is at c.requires.room in
-    let size = length-room_plain c.args.format.now c.in-Plain.background c.in-Plain.foreground c.args.pixels.now c.args.subs.now.items in
+    let size = length-room_plain c.args.format.now c.in-Plain.background c.in-Plain.foreground
+    c.args.pixels.now c.args.subs.now.items in
     omega (arith, room, size)
 
 pub append_colored-requires-clause-room : goal.append_colored-requires-clause-room

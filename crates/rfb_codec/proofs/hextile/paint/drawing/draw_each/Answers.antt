@@ -21,7 +21,8 @@ loop-n-init c =
       shown =
           c.fill_wide.ensures.value
           ∙ ap (λ k. filled rect k before) c.unpacked.ensures
-          ∙ ap (λ (all : List Subrect). over rect (λ x y. colour_of f (pixel_at c.args.pixels.background all x y)) before) (subs_in-none f c.args.pixels.foreground c.args.colored c.args.list.now);
+          ∙ ap (λ (all : List Subrect). over rect (λ x y. colour_of f (pixel_at c.args.pixels.background all x y))
+          before) (subs_in-none f c.args.pixels.foreground c.args.colored c.args.list.now);
       width = c.fill_wide.ensures.width;
       height = c.fill_wide.ensures.height;
     }
@@ -30,11 +31,14 @@ pub fill-requires : goal.fill-requires
 fill-requires c =
     let rect = c.args.rect in
     let is = c.sub_at-part.ensures in
-    let on : IsOnScreen rect.w rect.h c.sub_at-part.result.rect = subst (λ (s : Subrect). IsOnScreen rect.w rect.h s.rect) (sym is) (c.requires.inside.inside c.loop-n.n c.loop-n-test.true) in
-    let screen : IsOnScreen c.loop-n.picture.width c.loop-n.picture.height rect = rw (c.loop-n.invariant.width, c.loop-n.invariant.height) c.requires.place.inside in
+    let on : IsOnScreen rect.w rect.h c.sub_at-part.result.rect = subst (λ (s : Subrect). IsOnScreen rect.w rect.h
+    s.rect) (sym is) (c.requires.inside.inside c.loop-n.n c.loop-n-test.true) in
+    let screen : IsOnScreen c.loop-n.picture.width c.loop-n.picture.height rect =
+    rw (c.loop-n.invariant.width, c.loop-n.invariant.height) c.requires.place.inside in
     record {
       whole = rw c.loop-n.invariant.shown (whole-changed _ c.args.picture.now c.requires.place.whole);
-      inside = rw c.moved_by-places.ensures (moved_inside rect c.sub_at-part.result.rect c.loop-n.picture.width c.loop-n.picture.height screen on);
+      inside = rw c.moved_by-places.ensures
+          (moved_inside rect c.sub_at-part.result.rect c.loop-n.picture.width c.loop-n.picture.height screen on);
       columns = rw c.loop-n.invariant.width c.requires.place.columns;
       rows = rw c.loop-n.invariant.height c.requires.place.rows;
     }
@@ -43,7 +47,8 @@ pub colour_at-colour-requires : goal.colour_at-colour-requires
 colour_at-colour-requires c =
     let f = c.args.format in
     λ plain.
-    let is : c.sub_at-part.result ≡ sub_after f c.args.pixels.foreground false c.loop-n.n c.args.list.now = rw plain at c.sub_at-part.ensures in
+    let is : c.sub_at-part.result ≡ sub_after f c.args.pixels.foreground false c.loop-n.n c.args.list.now =
+    rw plain at c.sub_at-part.ensures in
     c.unpacked-own.ensures ∙ ap (colour_of f) (sym (ap (λ (s : Subrect). s.pixel) is))
 
 pub loop-n-preserved : goal.loop-n-preserved
@@ -55,7 +60,8 @@ loop-n-preserved c =
     let before = c.args.picture.now in
     let subs = subs_in f c.args.pixels.foreground c.args.colored n c.args.list.now in
     let is = c.sub_at-part.ensures in
-    let on : IsOnScreen rect.w rect.h s.rect = subst (λ (s : Subrect). IsOnScreen rect.w rect.h s.rect) (sym is) (c.requires.inside.inside n c.loop-n-test.true) in
+    let on : IsOnScreen rect.w rect.h s.rect = subst (λ (s : Subrect). IsOnScreen rect.w rect.h s.rect) (sym is)
+    (c.requires.inside.inside n c.loop-n-test.true) in
     record {
       shown =
           c.fill.ensures.value
@@ -63,8 +69,10 @@ loop-n-preserved c =
           ∙ ap (λ k. filled (moved rect s.rect) k c.loop-n.picture) c.colour_at-colour.ensures
           ∙ ap (λ g. filled (moved rect s.rect) (colour_of f s.pixel) g) c.loop-n.invariant.shown
           ∙ over_filled f rect c.args.pixels.background subs s before c.requires.place.whole on
-          ∙ ap (λ (t : Subrect). over rect (λ x y. colour_of f (pixel_at c.args.pixels.background (subs ++ t ∷ []) x y)) before) is
-          ∙ ap (λ (all : List Subrect). over rect (λ x y. colour_of f (pixel_at c.args.pixels.background all x y)) before) (subs_in-more f c.args.pixels.foreground c.args.colored n c.args.list.now);
+          ∙ ap (λ (t : Subrect). over rect
+          (λ x y. colour_of f (pixel_at c.args.pixels.background (subs ++ t ∷ []) x y)) before) is
+          ∙ ap (λ (all : List Subrect). over rect (λ x y. colour_of f (pixel_at c.args.pixels.background all x y))
+          before) (subs_in-more f c.args.pixels.foreground c.args.colored n c.args.list.now);
       width = c.fill.ensures.width ∙ c.loop-n.invariant.width;
       height = c.fill.ensures.height ∙ c.loop-n.invariant.height;
     }

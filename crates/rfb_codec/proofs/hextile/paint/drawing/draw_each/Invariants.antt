@@ -7,7 +7,8 @@ use Rattle.rfb_codec.proofs.hextile.paint.drawing.draw_each.Given as goal
 
 abbrev pub invariant-loop-n : goal.invariant-loop-n
 invariant-loop-n l = record {
-  shown : l.picture ≡ over l.rect (λ x y. colour_of l.format (pixel_at l.pixels.background (subs_in l.format l.pixels.foreground l.colored l.n l.list) x y)) l.fn.picture;
+  shown : l.picture ≡ over l.rect (λ x y. colour_of l.format
+      (pixel_at l.pixels.background (subs_in l.format l.pixels.foreground l.colored l.n l.list) x y)) l.fn.picture;
   width : l.picture.width ≡ l.fn.picture.width;
   height : l.picture.height ≡ l.fn.picture.height;
 }

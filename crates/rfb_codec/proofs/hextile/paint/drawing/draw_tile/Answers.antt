@@ -11,7 +11,8 @@ draw_subs-requires-clause-inside c =
     let end = rw c.in-Plain.is at c.requires.lies.end in
     let left : length (drop read.list bytes) ≡ length bytes - read.list = length-drop read.list bytes in
     let all = rw c.in-Plain.is at c.requires.inside in
-    rw (take_rest bytes read.list) (plain_inside c.args.format c.args.rect.w c.args.rect.h c.or_zero-foreground.result read.count (drop read.list bytes) (omega (arith, end, left, c.requires.lies.within)) all)
+    rw (take_rest bytes read.list) (plain_inside c.args.format c.args.rect.w c.args.rect.h c.or_zero-foreground.result
+    read.count (drop read.list bytes) (omega (arith, end, left, c.requires.lies.within)) all)
 
 pub draw_subs-requires-in-Colored-clause-inside : goal.draw_subs-requires-in-Colored-clause-inside
 draw_subs-requires-in-Colored-clause-inside c =
@@ -20,14 +21,21 @@ draw_subs-requires-in-Colored-clause-inside c =
     let end = rw c.in-Colored.is at c.requires.lies.end in
     let left : length (drop read.list bytes) ≡ length bytes - read.list = length-drop read.list bytes in
     let all = rw c.in-Colored.is at c.requires.inside in
-    rw (take_rest bytes read.list) (colored_inside c.args.format c.args.rect.w c.args.rect.h c.or_zero-foreground.result read.count (drop read.list bytes) (omega (arith, end, left, c.requires.lies.within)) all)
+    rw (take_rest bytes read.list) (colored_inside c.args.format c.args.rect.w c.args.rect.h c.or_zero-foreground.result
+    read.count (drop read.list bytes) (omega (arith, end, left, c.requires.lies.within)) all)
 
 pub returns-in-Plain-clause-value : goal.returns-in-Plain-clause-value
 returns-in-Plain-clause-value c = λ before sees.
-    drawn_plain c.args.format c.args.rect before c.args.seen c.args.read.layout c.args.read.list c.args.read.count c.args.bytes.now _ c.in-Plain.background c.in-Plain.foreground c.or_zero-background.result c.or_zero-foreground.result c.draw_subs.new.picture c.args.picture.now
-    c.in-Plain.is c.or_zero-background.ensures c.or_zero-foreground.ensures (take_rest c.args.bytes.now c.args.read.list) c.draw_subs.ensures.value sees
+    drawn_plain c.args.format c.args.rect before c.args.seen c.args.read.layout c.args.read.list
+    c.args.read.count c.args.bytes.now _ c.in-Plain.background c.in-Plain.foreground c.or_zero-background.result
+    c.or_zero-foreground.result c.draw_subs.new.picture c.args.picture.now
+    c.in-Plain.is c.or_zero-background.ensures c.or_zero-foreground.ensures
+    (take_rest c.args.bytes.now c.args.read.list) c.draw_subs.ensures.value sees
 
 pub returns-in-Colored-clause-value : goal.returns-in-Colored-clause-value
 returns-in-Colored-clause-value c = λ before sees.
-    drawn_colored c.args.format c.args.rect before c.args.seen c.args.read.layout c.args.read.list c.args.read.count c.args.bytes.now _ c.in-Colored.background c.or_zero-background.result c.or_zero-foreground.result c.draw_subs-in-Colored.new.picture c.args.picture.now
-    c.in-Colored.is c.or_zero-background.ensures (take_rest c.args.bytes.now c.args.read.list) c.draw_subs-in-Colored.ensures.value sees
+    drawn_colored c.args.format c.args.rect before c.args.seen c.args.read.layout c.args.read.list c.args.read.count
+    c.args.bytes.now _ c.in-Colored.background c.or_zero-background.result c.or_zero-foreground.result
+    c.draw_subs-in-Colored.new.picture c.args.picture.now
+    c.in-Colored.is c.or_zero-background.ensures (take_rest c.args.bytes.now c.args.read.list)
+    c.draw_subs-in-Colored.ensures.value sees

@@ -14,7 +14,9 @@ returns-then-at-places c =
         sound = grind (arith, nat_tests, c.places_of_tile-places.ensures.value);
         same = refl;
         goes_on = λ before body stands.
-            raw_goes_on r.format r.rect c.places_of_tile-places.result c.args.place.tile c.args.seen c.args.place.at c.take_pixels-used.result.1 c.args.pending.now.items (take c.take_pixels-used.result.0 c.args.bytes.now) c.take_pixels-used.new.pending.items c.args.picture.now c.take_pixels-used.new.picture before body
+            raw_goes_on r.format r.rect c.places_of_tile-places.result c.args.place.tile c.args.seen c.args.place.at
+            c.take_pixels-used.result.1 c.args.pending.now.items (take c.take_pixels-used.result.0 c.args.bytes.now)
+            c.take_pixels-used.new.pending.items c.args.picture.now c.take_pixels-used.new.picture before body
             c.places_of_tile-places.ensures.value walked.column c.if-at-places.true walked.goes_on stands;
         width = walked.width;
         height = walked.height;
@@ -32,8 +34,11 @@ returns-else-at-places c =
         sound = grind (arith, nat_tests);
         same = refl;
         goes_on = λ before body stands.
-            raw_ends r.format r.rect c.places_of_tile-places.result c.args.place.tile c.args.seen c.args.place.at c.take_pixels-used.result.1 c.args.pending.now.items (take c.take_pixels-used.result.0 c.args.bytes.now) c.take_pixels-used.new.pending.items c.args.picture.now c.take_pixels-used.new.picture before body
-            c.places_of_tile-places.ensures.value c.places_of_tile-places.ensures.column.1 c.places_of_tile-places.ensures.row.1 c.requires.place.whole c.if-at-places.false walked.goes_on stands;
+            raw_ends r.format r.rect c.places_of_tile-places.result c.args.place.tile c.args.seen c.args.place.at
+            c.take_pixels-used.result.1 c.args.pending.now.items (take c.take_pixels-used.result.0 c.args.bytes.now)
+            c.take_pixels-used.new.pending.items c.args.picture.now c.take_pixels-used.new.picture before body
+            c.places_of_tile-places.ensures.value c.places_of_tile-places.ensures.column.1
+            c.places_of_tile-places.ensures.row.1 c.requires.place.whole c.if-at-places.false walked.goes_on stands;
         width = walked.width;
         height = walked.height;
       };

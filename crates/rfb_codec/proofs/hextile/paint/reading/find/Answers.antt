@@ -10,9 +10,11 @@ returns-in_ok-count-clause-told c =
     let colored : subrects_colored c.args.mask ≡ true = bit_set 16 c.args.mask c.if-mask-ne0-2.true in
     let first = c.in_ok-background.ensures in
     let count = c.in_ok-count.ensures in
-    found_colored c.args.format c.args.width c.args.height c.args.mask c.args.bytes.now c.in_ok-background.background c.in_ok-background.at c.in_ok-count.count c.in_ok-count.list _ c.whole-then-mask-ne0-2.result
+    found_colored c.args.format c.args.width c.args.height c.args.mask c.args.bytes.now c.in_ok-background.background
+    c.in_ok-background.at c.in_ok-count.count c.in_ok-count.list _ c.whole-then-mask-ne0-2.result
     drawn colored first.0 first.3 (omega (arith, first.1, count.3)) count.0
-    (ap (λ n. c.in_ok-count.list + c.in_ok-count.count * (n + 2)) c.size-size.ensures.value) c.whole-then-mask-ne0-2.ensures
+    (ap (λ n. c.in_ok-count.list + c.in_ok-count.count * (n + 2)) c.size-size.ensures.value)
+    c.whole-then-mask-ne0-2.ensures
 
 pub returns-in_ok-count-2-clause-told : goal.returns-in_ok-count-2-clause-told
 returns-in_ok-count-2-clause-told c =
@@ -21,8 +23,11 @@ returns-in_ok-count-2-clause-told c =
     let first = c.in_ok-background.ensures in
     let second = c.in_ok-foreground.ensures in
     let count = c.in_ok-count-2.ensures in
-    found_plain c.args.format c.args.width c.args.height c.args.mask c.args.bytes.now c.in_ok-background.background c.in_ok-foreground.foreground c.in_ok-background.at c.in_ok-foreground.at c.in_ok-count-2.count c.in_ok-count-2.list _ c.whole-else-mask-ne0-2.result
-    drawn plain first.0 second.0 second.3 (omega (arith, first.1, second.1, count.3)) count.0 refl c.whole-else-mask-ne0-2.ensures
+    found_plain c.args.format c.args.width c.args.height c.args.mask c.args.bytes.now c.in_ok-background.background
+    c.in_ok-foreground.foreground c.in_ok-background.at c.in_ok-foreground.at c.in_ok-count-2.count
+    c.in_ok-count-2.list _ c.whole-else-mask-ne0-2.result
+    drawn plain first.0 second.0 second.3 (omega (arith, first.1, second.1, count.3)) count.0 refl
+    c.whole-else-mask-ne0-2.ensures
 
 pub returns-then-mask-ne0-clause-told : goal.returns-then-mask-ne0-clause-told
 returns-then-mask-ne0-clause-told c = grind (arith, common_steps)

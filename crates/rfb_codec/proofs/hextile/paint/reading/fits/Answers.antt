@@ -11,7 +11,8 @@ returns-in-Plain c =
     let h = c.args.height in
     let read = c.args.read in
     let bytes = c.args.bytes.now in
-    rw c.in-Plain.is (c.are_places_inside.ensures ∙ ap (λ (ys : List ℕ). are_inside w h (places_from 0 read.count ys)) (take_rest bytes read.list) ∙ ap (are_inside w h) (sym (places_plain read.count (drop read.list bytes))))
+    rw c.in-Plain.is (c.are_places_inside.ensures ∙ ap (λ (ys : List ℕ). are_inside w h (places_from 0 read.count ys))
+    (take_rest bytes read.list) ∙ ap (are_inside w h) (sym (places_plain read.count (drop read.list bytes))))
 
 pub returns-in-Colored : goal.returns-in-Colored
 returns-in-Colored c =

@@ -15,8 +15,12 @@ returns-then-fits-clause-told c = λ before sees.
     let tile = tile_of_read c.args.format w h read c.args.bytes.now in
     let inside : are_inside w h (places_of tile) ≡ true = sym c.fits.ensures ∙ c.if-fits.true in
     let found = c.in-Some-find.ensures.told in
-    let some : 1 ≤ length c.args.bytes.now = grind (arith, nat_tests, c.is_empty.ensures) in
-    (tile_got c.args.format w h before c.args.bytes.now (slice_index c.args.bytes.now 0) tile _ some refl (sym (c.in-None.ensures before sees)) found.0 inside, found.1, inside_true w h (places_of tile) inside)
+    let some : 1 ≤ length c.args.bytes.now = grind (arith, nat_tests, c.is_empty.ensures) in (
+      tile_got c.args.format w h before c.args.bytes.now (slice_index c.args.bytes.now 0) tile _ some refl
+          (sym (c.in-None.ensures before sees)) found.0 inside,
+      found.1,
+      inside_true w h (places_of tile) inside,
+    )
 
 pub returns-else-fits-clause-with : goal.returns-else-fits-clause-with
 returns-else-fits-clause-with c = λ before sees.

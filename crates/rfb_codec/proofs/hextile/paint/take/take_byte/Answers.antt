@@ -41,8 +41,11 @@ returns-in-Ok-Some c =
         sound = grind (arith, nat_tests);
         same = refl;
         goes_on = λ before body stands.
-            tile_goes_on f rect n c.args.seen c.draw_next-seen.result t pending (c.args.byte ∷ []) xs c.clear-in-Ok-Some.new.self.items c.args.picture.now c.draw_next-seen.new.picture before body c.requires.below is c.clear-in-Ok-Some.ensures c.draw_next-seen.ensures.value
-            (λ tiles number sees begins. last_taken f rect.w rect.h tiles pending xs c.args.byte t (drop read.used xs) begins is (told tiles number sees).0) stands;
+            tile_goes_on f rect n c.args.seen c.draw_next-seen.result t pending (c.args.byte ∷ [])
+            xs c.clear-in-Ok-Some.new.self.items c.args.picture.now c.draw_next-seen.new.picture before body
+            c.requires.below is c.clear-in-Ok-Some.ensures c.draw_next-seen.ensures.value
+            (λ tiles number sees begins. last_taken f rect.w rect.h tiles pending xs c.args.byte t (drop read.used xs)
+            begins is (told tiles number sees).0) stands;
         width = c.draw_next-seen.ensures.width;
         height = c.draw_next-seen.ensures.height;
       };
@@ -63,8 +66,10 @@ returns-in-Ok-None c =
         sound = grind (arith, nat_tests);
         same = refl;
         goes_on = λ before body stands.
-            byte_waits f rect c.args.tile c.args.seen c.args.pending.now.items rest c.args.byte c.args.picture.now before body c.requires.some c.push.ensures.items
-            (subst (λ (ys : List ℕ). TellsNext f rect c.args.tile c.args.seen ys (Ok None)) c.as_slice-bytes.ensures.value told) stands;
+            byte_waits f rect c.args.tile c.args.seen c.args.pending.now.items rest c.args.byte c.args.picture.now
+            before body c.requires.some c.push.ensures.items
+            (subst (λ (ys : List ℕ). TellsNext f rect c.args.tile c.args.seen ys (Ok None))
+            c.as_slice-bytes.ensures.value told) stands;
         width = refl;
         height = refl;
       };

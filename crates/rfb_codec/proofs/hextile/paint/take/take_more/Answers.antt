@@ -10,8 +10,10 @@ returns-then-len-least c =
     let r = c.args.rectangle.now in
     let pending = c.args.pending.now.items in
     let xs = c.gather-used.new.pending.items in
-    let least : c.least_size-least.result ≡ least_size r.format pending = rw (← c.as_slice.ensures.value) c.least_size-least.ensures.value in
-    let short : length xs < least_size r.format pending = omega (arith, least, c.gather-used.ensures.within, c.if-len-least.true, c.len.ensures.value) in
+    let least : c.least_size-least.result ≡ least_size r.format pending =
+    rw (← c.as_slice.ensures.value) c.least_size-least.ensures.value in
+    let short : length xs < least_size r.format pending =
+    omega (arith, least, c.gather-used.ensures.within, c.if-len-least.true, c.len.ensures.value) in
     let few : length xs < 1536 = omega (arith, least, short, c.least_size-least.ensures.few) in
     record {
       some = omega (arith, c.len.ensures.value);
@@ -20,7 +22,8 @@ returns-then-len-least c =
         sound = grind (arith, nat_tests);
         same = refl;
         goes_on = λ before body stands.
-            tile_waits r.format r.rect c.args.tile c.args.seen pending (take c.gather-used.result c.args.bytes.now) xs c.args.picture.now before body c.requires.pending c.gather-used.ensures.items short stands;
+            tile_waits r.format r.rect c.args.tile c.args.seen pending (take c.gather-used.result c.args.bytes.now) xs
+            c.args.picture.now before body c.requires.pending c.gather-used.ensures.items short stands;
         width = refl;
         height = refl;
       };
@@ -28,4 +31,6 @@ returns-then-len-least c =
 
 pub returns : goal.returns
 returns c =
-    first_steps c.args.rectangle.now c.args.tile c.args.seen c.args.pending.now.items c.take_byte.new.pending.items c.args.bytes.now c.args.picture.now c.take_byte.new.picture c.take_byte.result c.requires.some c.take_byte.ensures
+    first_steps c.args.rectangle.now c.args.tile c.args.seen c.args.pending.now.items
+    c.take_byte.new.pending.items c.args.bytes.now c.args.picture.now c.take_byte.new.picture c.take_byte.result
+    c.requires.some c.take_byte.ensures

@@ -45,8 +45,11 @@ returns-in-Ok-Some c =
         sound = grind (arith, nat_tests);
         same = refl;
         goes_on = λ before body stands.
-            tile_goes_on f rect n c.args.seen c.draw_next-seen.result t c.args.pending.now.items (take read.used bytes) (take read.used bytes) c.args.pending.now.items c.args.picture.now c.draw_next-seen.new.picture before body c.requires.below is none c.draw_next-seen.ensures.value
-            (λ tiles number sees begins. let here = told tiles number sees in tile_taken f rect.w rect.h tiles bytes t read.used here.1.within here.0) stands;
+            tile_goes_on f rect n c.args.seen c.draw_next-seen.result t c.args.pending.now.items (take read.used bytes)
+            (take read.used bytes) c.args.pending.now.items c.args.picture.now c.draw_next-seen.new.picture before
+            body c.requires.below is none c.draw_next-seen.ensures.value
+            (λ tiles number sees begins. let here = told tiles number sees in
+            tile_taken f rect.w rect.h tiles bytes t read.used here.1.within here.0) stands;
         width = c.draw_next-seen.ensures.width;
         height = c.draw_next-seen.ensures.height;
       };
@@ -59,16 +62,23 @@ returns-in-Ok-None c =
     let none : c.args.pending.now.items ≡ [] = no_items c.args.pending.now.items (grind (arith, nat_tests)) in
     let told = rw c.in-Ok-None.field-0-is at c.in-Ok-None.ensures.told in
     let short : length c.args.bytes.now < 1536 = rw c.in-Ok-None.field-0-is at c.in-Ok-None.ensures.short in
-    let places = some_places (tile_height r.rect.w r.rect.h c.args.tile) (tile_width r.rect.w c.args.tile) c.read_next.ensures.rows c.read_next.ensures.columns in
-    let some = front_some c.args.tile c.args.seen c.args.pending.now.items c.take_front.new.pending.items c.args.bytes.now c.take_front.result c.requires.some front.raw front.other in
+    let places = some_places (tile_height r.rect.w r.rect.h c.args.tile) (tile_width r.rect.w c.args.tile)
+    c.read_next.ensures.rows c.read_next.ensures.columns in
+    let some = front_some c.args.tile c.args.seen c.args.pending.now.items c.take_front.new.pending.items
+    c.args.bytes.now c.take_front.result c.requires.some front.raw front.other in
     record {
       some = some.0;
       used = some.1;
       reaches = record {
-        sound = front_sound r.format r.rect c.args.tile c.args.seen c.args.pending.now.items c.take_front.new.pending.items c.args.bytes.now c.take_front.result c.requires.below c.read_next.ensures.columns c.read_next.ensures.rows r.some none short front.raw front.other;
+        sound = front_sound r.format r.rect c.args.tile c.args.seen c.args.pending.now.items
+            c.take_front.new.pending.items c.args.bytes.now c.take_front.result c.requires.below
+            c.read_next.ensures.columns c.read_next.ensures.rows r.some none short front.raw front.other;
         same = some.2;
         goes_on = λ before body stands.
-            front_goes_on r.format r.rect c.args.tile c.args.seen c.args.pending.now.items c.take_front.new.pending.items c.args.bytes.now c.take_front.result c.args.picture.now before body c.requires.place.whole c.requires.below places r.some none c.requires.some front.raw front.other told stands;
+            front_goes_on r.format r.rect c.args.tile c.args.seen c.args.pending.now.items
+            c.take_front.new.pending.items c.args.bytes.now c.take_front.result c.args.picture.now
+            before body c.requires.place.whole c.requires.below places r.some none c.requires.some
+            front.raw front.other told stands;
         width = refl;
         height = refl;
       };
