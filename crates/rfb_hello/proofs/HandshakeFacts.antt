@@ -4,9 +4,14 @@ use Rattle.std.proofs.Common.{◌≡◌, ℕ, List, [], ◌∷◌, ◌++◌, tru
 use Rattle.rfb_wire.specs.stream.Reading.{More, Got, Bad}
 use Rattle.rfb_wire.specs.stream.Grammar.{ReadsAll}
 use Rattle.rfb_hello.specs.declared.version.Version.TheVariants.{V33, V37, V38}
-use Rattle.rfb_hello.specs.declared.fault.HelloFault.TheVariants.{BadVersion, VersionTooHigh, BadSecurityChoice, NoneNotOffered, Refused, BadSecurityWord, SecurityFailed, ScreenEmpty, ScreenTooLarge}
-use Rattle.rfb_hello.specs.ClientHandshake.{AwaitsVersion as AwaitsClientVersion, AwaitsChoice, ProtocolVersion as ClientVersion, SecurityType, ClientInit, client_item, client_handshake}
-use Rattle.rfb_hello.specs.ServerHandshake.{AwaitsVersion, AwaitsSecurity, AwaitsResult, AwaitsInit, ProtocolVersion, SecurityNone, SecurityTypes, SecurityResult, ServerInit, Name}
+use Rattle.rfb_hello.specs.declared.fault.HelloFault.TheVariants.{BadVersion, VersionTooHigh, BadSecurityChoice}
+use Rattle.rfb_hello.specs.declared.fault.HelloFault.TheVariants.{NoneNotOffered, Refused, BadSecurityWord}
+use Rattle.rfb_hello.specs.declared.fault.HelloFault.TheVariants.{SecurityFailed, ScreenEmpty, ScreenTooLarge}
+use Rattle.rfb_hello.specs.ClientHandshake.{AwaitsVersion as AwaitsClientVersion, AwaitsChoice}
+use Rattle.rfb_hello.specs.ClientHandshake.{ProtocolVersion as ClientVersion, SecurityType, ClientInit, client_item}
+use Rattle.rfb_hello.specs.ClientHandshake.{client_handshake}
+use Rattle.rfb_hello.specs.ServerHandshake.{AwaitsVersion, AwaitsSecurity, AwaitsResult, AwaitsInit, ProtocolVersion}
+use Rattle.rfb_hello.specs.ServerHandshake.{SecurityNone, SecurityTypes, SecurityResult, ServerInit, Name}
 use Rattle.rfb_hello.specs.ServerReading.{server_item, server_handshake}
 
 -- "RFB 003.00" and a digit
@@ -19,17 +24,20 @@ init = 0 ∷ 2 ∷ 0 ∷ 1 ∷ 32 ∷ 24 ∷ 0 ∷ 1 ∷ 0 ∷ 255 ∷ 0 ∷ 255
 
 -- ---- a client
 
-client_3_8 : ReadsAll (client_handshake V38) AwaitsClientVersion (text 56 ++ 1 ∷ 1 ∷ []) (ClientVersion V38 ∷ SecurityType ∷ ClientInit true ∷ []) []
+client_3_8 : ReadsAll (client_handshake V38) AwaitsClientVersion (text 56 ++ 1 ∷ 1 ∷ [])
+    (ClientVersion V38 ∷ SecurityType ∷ ClientInit true ∷ []) []
 client_3_8 = (1 ∷ 1 ∷ [], refl, (1 ∷ [], refl, ([], refl, refl)))
 
-client_3_3 : ReadsAll (client_handshake V38) AwaitsClientVersion (text 51 ++ 1 ∷ []) (ClientVersion V33 ∷ ClientInit true ∷ []) []
+client_3_3 : ReadsAll (client_handshake V38) AwaitsClientVersion (text 51 ++ 1 ∷ [])
+    (ClientVersion V33 ∷ ClientInit true ∷ []) []
 client_3_3 = (1 ∷ [], refl, ([], refl, refl))
 
 -- a version above the offer, one of another shape, and a choice of VNC Authentication
 too_high : client_item V33 AwaitsClientVersion (text 56) ≡ Bad VersionTooHigh
 too_high = refl
 
-no_version : client_item V38 AwaitsClientVersion (82 ∷ 70 ∷ 66 ∷ 32 ∷ 51 ∷ 46 ∷ 56 ∷ 10 ∷ 0 ∷ 0 ∷ 0 ∷ 0 ∷ []) ≡ Bad BadVersion
+no_version : client_item V38 AwaitsClientVersion (82 ∷ 70 ∷ 66 ∷ 32 ∷ 51 ∷ 46 ∷ 56 ∷ 10 ∷ 0 ∷ 0 ∷ 0 ∷ 0 ∷ [])
+    ≡ Bad BadVersion
 no_version = refl
 
 not_judged_yet : client_item V38 AwaitsClientVersion (82 ∷ 70 ∷ 66 ∷ 32 ∷ 51 ∷ 46 ∷ 56 ∷ 10 ∷ 0 ∷ 0 ∷ 0 ∷ []) ≡ More
@@ -40,18 +48,23 @@ bad_choice = refl
 
 -- ---- a server
 
-server_3_8 : ReadsAll (server_handshake V38 16777216) AwaitsVersion (text 56 ++ 1 ∷ 1 ∷ 0 ∷ 0 ∷ 0 ∷ 0 ∷ init) (ProtocolVersion V38 ∷ SecurityTypes (1 ∷ []) ∷ SecurityResult ∷ ServerInit 2 1 1 ∷ Name (116 ∷ []) ∷ []) []
-server_3_8 = (1 ∷ 1 ∷ 0 ∷ 0 ∷ 0 ∷ 0 ∷ init, refl, (0 ∷ 0 ∷ 0 ∷ 0 ∷ init, refl, (init, refl, (116 ∷ [], refl, ([], refl, refl)))))
+server_3_8 : ReadsAll (server_handshake V38 16777216) AwaitsVersion (text 56 ++ 1 ∷ 1 ∷ 0 ∷ 0 ∷ 0 ∷ 0 ∷ init)
+    (ProtocolVersion V38 ∷ SecurityTypes (1 ∷ []) ∷ SecurityResult ∷ ServerInit 2 1 1 ∷ Name (116 ∷ []) ∷ []) []
+server_3_8 =
+    (1 ∷ 1 ∷ 0 ∷ 0 ∷ 0 ∷ 0 ∷ init, refl, (0 ∷ 0 ∷ 0 ∷ 0 ∷ init, refl, (init, refl, (116 ∷ [], refl, ([], refl, refl)))))
 
 -- under 3.7 no SecurityResult comes
-server_3_7 : ReadsAll (server_handshake V37 16777216) AwaitsVersion (text 55 ++ 1 ∷ 1 ∷ init) (ProtocolVersion V37 ∷ SecurityTypes (1 ∷ []) ∷ ServerInit 2 1 1 ∷ Name (116 ∷ []) ∷ []) []
+server_3_7 : ReadsAll (server_handshake V37 16777216) AwaitsVersion (text 55 ++ 1 ∷ 1 ∷ init)
+    (ProtocolVersion V37 ∷ SecurityTypes (1 ∷ []) ∷ ServerInit 2 1 1 ∷ Name (116 ∷ []) ∷ []) []
 server_3_7 = (1 ∷ 1 ∷ init, refl, (init, refl, (116 ∷ [], refl, ([], refl, refl))))
 
-server_3_3 : ReadsAll (server_handshake V38 16777216) AwaitsVersion (text 51 ++ 0 ∷ 0 ∷ 0 ∷ 1 ∷ init) (ProtocolVersion V33 ∷ SecurityNone ∷ ServerInit 2 1 1 ∷ Name (116 ∷ []) ∷ []) []
+server_3_3 : ReadsAll (server_handshake V38 16777216) AwaitsVersion (text 51 ++ 0 ∷ 0 ∷ 0 ∷ 1 ∷ init)
+    (ProtocolVersion V33 ∷ SecurityNone ∷ ServerInit 2 1 1 ∷ Name (116 ∷ []) ∷ []) []
 server_3_3 = (0 ∷ 0 ∷ 0 ∷ 1 ∷ init, refl, (init, refl, (116 ∷ [], refl, ([], refl, refl))))
 
 -- 3.889 is taken as 3.3
-unpublished : server_item 1 AwaitsVersion (82 ∷ 70 ∷ 66 ∷ 32 ∷ 48 ∷ 48 ∷ 51 ∷ 46 ∷ 56 ∷ 56 ∷ 57 ∷ 10 ∷ []) ≡ Got (ProtocolVersion V33) []
+unpublished : server_item 1 AwaitsVersion (82 ∷ 70 ∷ 66 ∷ 32 ∷ 48 ∷ 48 ∷ 51 ∷ 46 ∷ 56 ∷ 56 ∷ 57 ∷ 10 ∷ [])
+    ≡ Got (ProtocolVersion V33) []
 unpublished = refl
 
 -- a refusal comes at the last byte of its reason

@@ -9,6 +9,8 @@ mod HandshakeFacts
 pub mod TextLemmas
 pub mod KeptTextLaws
 pub mod ViewerReadingLaws
+pub mod ViewerStepLemmas
+pub mod ViewerReasonLemmas
 pub mod ViewerHelloLemmas
 pub mod ViewerHelloLaws
 pub mod ViewerAnswerLaws

@@ -5,11 +5,17 @@ use Rattle.rfb_wire.proofs.stream_laws.PendingLaws.{counted_pending, bytes_pendi
 use Rattle.rfb_hello.specs.declared.version.Version.{Version}
 use Rattle.rfb_hello.specs.declared.version.Version.TheVariants.{V33, V37, V38}
 use Rattle.rfb_hello.specs.declared.server_hello.progress.Progress.{Progress as ServerProgress}
-use Rattle.rfb_hello.specs.declared.server_hello.progress.Progress.TheVariants.{Version as ClientVersionPart, Choice, Init as ClientInitPart, Done as ServerDone, Failed as ServerFailed}
+use Rattle.rfb_hello.specs.declared.server_hello.progress.Progress.TheVariants.{Version as ClientVersionPart, Choice}
+use Rattle.rfb_hello.specs.declared.server_hello.progress.Progress.TheVariants.{Init as ClientInitPart}
+use Rattle.rfb_hello.specs.declared.server_hello.progress.Progress.TheVariants.{Done as ServerDone}
+use Rattle.rfb_hello.specs.declared.server_hello.progress.Progress.TheVariants.{Failed as ServerFailed}
 use Rattle.rfb_hello.specs.declared.viewer_hello.progress.Cause.{Cause}
 use Rattle.rfb_hello.specs.declared.viewer_hello.progress.Cause.TheVariants.{Refused, SecurityFailed}
 use Rattle.rfb_hello.specs.declared.viewer_hello.progress.Progress.{Progress}
-use Rattle.rfb_hello.specs.declared.viewer_hello.progress.Progress.TheVariants.{Version as VersionPart, Word, Count, Types, Result as ResultPart, ReasonLength, Reason, Init, Name, Done, Failed}
+use Rattle.rfb_hello.specs.declared.viewer_hello.progress.Progress.TheVariants.{Version as VersionPart, Word, Count}
+use Rattle.rfb_hello.specs.declared.viewer_hello.progress.Progress.TheVariants.{Types, Result as ResultPart}
+use Rattle.rfb_hello.specs.declared.viewer_hello.progress.Progress.TheVariants.{ReasonLength, Reason, Init, Name, Done}
+use Rattle.rfb_hello.specs.declared.viewer_hello.progress.Progress.TheVariants.{Failed}
 use Rattle.rfb_hello.specs.ClientHandshake.{ClientPoint}
 use Rattle.rfb_hello.specs.ServerHandshake.{ServerPoint, AwaitsSecurity, AwaitsResult}
 use Rattle.rfb_hello.specs.ServerProgress.{ProgressStandsFor as ServerProgressStandsFor}
@@ -17,13 +23,15 @@ use Rattle.rfb_hello.specs.inside.ServerPiece.{part_in as server_part_in}
 use Rattle.rfb_hello.specs.ViewerEnd.{OpensReason}
 use Rattle.rfb_hello.specs.ViewerProgress.{ProgressStandsFor}
 use Rattle.rfb_hello.specs.inside.ViewerPiece.{part_in}
-use Rattle.rfb_hello.specs.Pending.{client_handshake_pending, server_handshake_pending, reason_pending, security_pending, types_pending}
+use Rattle.rfb_hello.specs.Pending.{client_handshake_pending, server_handshake_pending, reason_pending}
+use Rattle.rfb_hello.specs.Pending.{security_pending, types_pending}
 
 -- a part of a piece
 part_pending : (size : ℕ) (part : List ℕ) → length part < size → in_pieces size part ≡ length part
 part_pending size part less = counted_pending size 0 [] part (omega arith) less
 
-pub server_pending_is : (p : ServerProgress) (point : ClientPoint) (prefix : List ℕ) → ServerProgressStandsFor p point prefix → server_part_in p ≡ client_handshake_pending point prefix
+pub server_pending_is : (p : ServerProgress) (point : ClientPoint) (prefix : List ℕ) →
+    ServerProgressStandsFor p point prefix → server_part_in p ≡ client_handshake_pending point prefix
 server_pending_is (ClientVersionPart text) point prefix h = rw (h.0, h.1) (sym (part_pending 12 text.items h.2))
 server_pending_is (Choice v) point prefix h = rw (h.0, h.1) refl
 server_pending_is (ClientInitPart v) point prefix h = rw (h.0, h.1) refl
@@ -31,7 +39,8 @@ server_pending_is (ServerDone v shared) point prefix h = rw h.0 refl
 server_pending_is (ServerFailed fault) point prefix h = absurd h
 
 -- after the bytes that stand before a reason
-opened_pending : (cause : Cause) (point : ServerPoint) (intro tail : List ℕ) → OpensReason cause point intro → server_handshake_pending point (intro ++ tail) ≡ reason_pending tail
+opened_pending : (cause : Cause) (point : ServerPoint) (intro tail : List ℕ) → OpensReason cause point intro →
+    server_handshake_pending point (intro ++ tail) ≡ reason_pending tail
 opened_pending Refused (AwaitsSecurity V33) intro tail h = past_piece 4 reason_pending intro tail h.0
 opened_pending Refused (AwaitsSecurity V37) intro tail h = ap (λ (ys : List ℕ). types_pending (ys ++ tail)) h
 opened_pending Refused (AwaitsSecurity V38) intro tail h = ap (λ (ys : List ℕ). types_pending (ys ++ tail)) h
@@ -49,7 +58,8 @@ listed_pending V33 n seen not = absurd (not refl)
 listed_pending V37 n seen not = bytes_pending seen
 listed_pending V38 n seen not = bytes_pending seen
 
-pub viewer_pending_is : (limit : ℕ) (p : Progress) (point : ServerPoint) (prefix : List ℕ) → ProgressStandsFor limit p point prefix → part_in p ≡ server_handshake_pending point prefix
+pub viewer_pending_is : (limit : ℕ) (p : Progress) (point : ServerPoint) (prefix : List ℕ) →
+    ProgressStandsFor limit p point prefix → part_in p ≡ server_handshake_pending point prefix
 viewer_pending_is limit (VersionPart part) point prefix h = rw (h.0, h.1) (sym (part_pending 12 part.items h.2))
 viewer_pending_is limit (Word part) point prefix h = rw (h.0, h.1) (sym (piece_pending 4 reason_pending part.items h.2))
 viewer_pending_is limit (Count v) point prefix h = rw (h.0, h.2) (sym (count_pending v h.1))
@@ -57,11 +67,14 @@ viewer_pending_is limit (Types v list) point prefix h =
     let seen = list.types in
     let count : length seen + (list.more + 1) ≡ suc (length seen + list.more) = omega arith in
     rw (h.0, h.2, count) (sym (listed_pending v (length seen + list.more) seen h.1))
-viewer_pending_is limit (ResultPart v part) point prefix h = rw (h.0, h.1) (sym (piece_pending 4 reason_pending part.items h.2))
+viewer_pending_is limit (ResultPart v part) point prefix h =
+    rw (h.0, h.1) (sym (piece_pending 4 reason_pending part.items h.2))
 viewer_pending_is limit (ReasonLength cause part) point prefix h =
-    sym (ap (server_handshake_pending point) h.2 ∙ opened_pending cause point h.0 part.items h.1 ∙ piece_pending 4 (in_pieces 1) part.items h.3)
+    sym (ap (server_handshake_pending point) h.2 ∙ opened_pending cause point h.0 part.items h.1
+    ∙ piece_pending 4 (in_pieces 1) part.items h.3)
 viewer_pending_is limit (Reason cause n more kept) point prefix h =
-    sym (ap (server_handshake_pending point) h.4 ∙ opened_pending cause point h.0 (h.1 ++ h.2) h.3 ∙ past_piece 4 (in_pieces 1) h.1 h.2 h.5.0 ∙ bytes_pending h.2)
+    sym (ap (server_handshake_pending point) h.4 ∙ opened_pending cause point h.0 (h.1 ++ h.2) h.3
+    ∙ past_piece 4 (in_pieces 1) h.1 h.2 h.5.0 ∙ bytes_pending h.2)
 viewer_pending_is limit (Init v part) point prefix h = rw (h.0, h.1) (sym (part_pending 24 part.items h.2))
 viewer_pending_is limit (Name v width height n more kept) point prefix h = rw h.0 (sym (bytes_pending prefix))
 viewer_pending_is limit Done point prefix h = rw h.3 refl

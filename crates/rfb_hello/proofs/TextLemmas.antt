@@ -1,5 +1,6 @@
 -- Texts of which the first bytes are kept.
-use Rattle.std.proofs.Common.{◌≡◌, ℕ, ◌≤◌, ◌+◌, ◌-◌, List, [], ◌++◌, length, take, min, nat_le, Bool, true, false, refl, sym, ◌∙◌, ap, arith}
+use Rattle.std.proofs.Common.{◌≡◌, ℕ, ◌≤◌, ◌+◌, ◌-◌, List, [], ◌++◌, length, take, min, nat_le, Bool, true, false, refl}
+use Rattle.std.proofs.Common.{sym, ◌∙◌, ap, arith}
 use Rattle.std.proofs.lemmas.Bool.Decides.{nat_tests}
 use Rattle.std.proofs.lemmas.List.{take_all}
 use Rattle.rfb_hello.specs.KeptText.{no_text, kept_of}
@@ -20,10 +21,12 @@ take_min n xs = by (nat_le (length xs) n) refl
         rw some refl
 
 -- bytes after those that are kept, as many as there is room for
-pub kept_more : (room : ℕ) (old bytes : List ℕ) → length old ≤ room → old ++ take (min (length bytes) (room - length old)) bytes ≡ take room (old ++ bytes)
+pub kept_more : (room : ℕ) (old bytes : List ℕ) → length old ≤ room →
+    old ++ take (min (length bytes) (room - length old)) bytes ≡ take room (old ++ bytes)
 kept_more room old bytes within =
     let parts : room ≡ length old + (room - length old) = omega (arith, within) in
-    ap (λ (ys : List ℕ). old ++ ys) (take_min (room - length old) bytes) ∙ sym (take-append-add old bytes (room - length old)) ∙ ap (λ (k : ℕ). take k (old ++ bytes)) (sym parts)
+    ap (λ (ys : List ℕ). old ++ ys) (take_min (room - length old) bytes)
+    ∙ sym (take-append-add old bytes (room - length old)) ∙ ap (λ (k : ℕ). take k (old ++ bytes)) (sym parts)
 
 -- of a text without bytes nothing is kept
 pub kept_none : (limit : ℕ) → kept_of limit 0 [] ≡ no_text

@@ -1,6 +1,7 @@
 -- The handshake as a client's bytes have it, RFC 6143 sections 7.1 and 7.3.1 and Appendix A: its
 -- version, from version 3.7 on its choice of a security type, and ClientInit.
-use Rattle.std.specs.Prelude.{◌≡◌, ◌≢◌, ℕ, ◌≤◌, ◌<◌, ◌==◌, Bool, true, false, List, [], ◌∷◌, length, Option, Some, None, nat_le, if◌then◌else◌}
+use Rattle.std.specs.Prelude.{◌≡◌, ◌≢◌, ℕ, ◌≤◌, ◌<◌, ◌==◌, Bool, true, false, List, [], ◌∷◌, length, Option, Some, None}
+use Rattle.std.specs.Prelude.{nat_le, if◌then◌else◌}
 use Rattle.rfb_wire.specs.Fields.{u8_at, flag_at}
 use Rattle.rfb_wire.specs.stream.Reading.{Reading, Says}
 use Rattle.rfb_wire.specs.stream.Parts.{valued, checked, waiting}

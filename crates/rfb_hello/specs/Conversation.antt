@@ -8,8 +8,10 @@ use Rattle.rfb_hello.specs.declared.version.Version.TheVariants.{V33, V37, V38}
 use Rattle.rfb_hello.specs.declared.step.ServerStep.{ServerStep}
 use Rattle.rfb_hello.specs.declared.step.ViewerStep.{ViewerStep}
 use Rattle.rfb_hello.specs.Version.{lower, version_text}
-use Rattle.rfb_hello.specs.ClientHandshake.{ClientPoint, ClientItem, ProtocolVersion as ClientVersion, SecurityType, ClientInit, client_handshake}
-use Rattle.rfb_hello.specs.ServerHandshake.{ServerPoint, ServerItem, ProtocolVersion as ServerVersion, SecurityNone, SecurityTypes, SecurityResult}
+use Rattle.rfb_hello.specs.ClientHandshake.{ClientPoint, ClientItem, ProtocolVersion as ClientVersion, SecurityType}
+use Rattle.rfb_hello.specs.ClientHandshake.{ClientInit, client_handshake}
+use Rattle.rfb_hello.specs.ServerHandshake.{ServerPoint, ServerItem, ProtocolVersion as ServerVersion, SecurityNone}
+use Rattle.rfb_hello.specs.ServerHandshake.{SecurityTypes, SecurityResult}
 use Rattle.rfb_hello.specs.ServerReading.{server_handshake}
 use Rattle.rfb_hello.specs.ServerEnd.{ServerSetup, server_end, server_init_bytes, answer_bytes}
 use Rattle.rfb_hello.specs.ServerAnswers.{init_asked}

@@ -6,8 +6,10 @@ use Rattle.std.specs.Prelude.{ℕ, zero, suc, List, [], ◌∷◌}
 use Rattle.rfb_wire.specs.stream.Pending.{in_pieces, after_piece}
 use Rattle.rfb_hello.specs.declared.version.Version.{Version}
 use Rattle.rfb_hello.specs.declared.version.Version.TheVariants.{V33, V37, V38}
-use Rattle.rfb_hello.specs.ClientHandshake.{ClientPoint, AwaitsVersion as AwaitsClientVersion, AwaitsChoice, AwaitsInit as AwaitsClientInit, Begun as ClientBegun}
-use Rattle.rfb_hello.specs.ServerHandshake.{ServerPoint, AwaitsVersion, AwaitsSecurity, AwaitsResult, AwaitsInit, AwaitsName, Begun}
+use Rattle.rfb_hello.specs.ClientHandshake.{ClientPoint, AwaitsVersion as AwaitsClientVersion, AwaitsChoice}
+use Rattle.rfb_hello.specs.ClientHandshake.{AwaitsInit as AwaitsClientInit, Begun as ClientBegun}
+use Rattle.rfb_hello.specs.ServerHandshake.{ServerPoint, AwaitsVersion, AwaitsSecurity, AwaitsResult, AwaitsInit}
+use Rattle.rfb_hello.specs.ServerHandshake.{AwaitsName, Begun}
 
 -- how many bytes of a client's next item are pending
 abbrev pub client_handshake_pending : ClientPoint → List ℕ → ℕ

@@ -2,7 +2,8 @@
 use Rattle.std.specs.Prelude.{ℕ, ◌<◌, ◌^◌, List, [], ◌∷◌, length}
 use Rattle.rfb_hello.specs.declared.version.Version.{Version}
 use Rattle.rfb_hello.specs.declared.version.Version.TheVariants.{V33, V37, V38}
-use Rattle.rfb_hello.specs.ServerHandshake.{ServerItem, SecurityNone, SecurityTypes, SecurityResult, ServerInit, Name, IsAdmitted}
+use Rattle.rfb_hello.specs.ServerHandshake.{ServerItem, SecurityNone, SecurityTypes, SecurityResult, ServerInit, Name}
+use Rattle.rfb_hello.specs.ServerHandshake.{IsAdmitted}
 use Rattle.rfb_hello.specs.ServerEnd.{ServerSetup}
 
 -- to a client's version: the security type None, alone

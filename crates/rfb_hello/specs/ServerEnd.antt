@@ -11,7 +11,9 @@ use Rattle.rfb_hello.specs.declared.version.Version.TheVariants.{V33, V37, V38}
 use Rattle.rfb_hello.specs.declared.fault.HelloFault.{HelloFault}
 use Rattle.rfb_hello.specs.declared.step.ServerStep.{ServerStep}
 use Rattle.rfb_hello.specs.declared.step.ServerStep.TheVariants.{Reply, Ready}
-use Rattle.rfb_hello.specs.ClientHandshake.{ClientPoint, AwaitsVersion, AwaitsChoice, AwaitsInit, ClientItem, ProtocolVersion, SecurityType, ClientInit, past_client_item, client_handshake}
+use Rattle.rfb_hello.specs.ClientHandshake.{ClientPoint, AwaitsVersion, AwaitsChoice, AwaitsInit, ClientItem}
+use Rattle.rfb_hello.specs.ClientHandshake.{ProtocolVersion, SecurityType, ClientInit, past_client_item}
+use Rattle.rfb_hello.specs.ClientHandshake.{client_handshake}
 
 -- the version that a server offers, and the screen and the name that it tells
 pub record ServerSetup : Type 0 where

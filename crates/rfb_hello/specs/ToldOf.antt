@@ -4,8 +4,10 @@ use Rattle.std.specs.Prelude.{◌≡◌, ◌<◌, ◌⊎◌, ℕ, Bool, List}
 use Rattle.arrayvec.specs.ArrayVec.{ArrayVec}
 use Rattle.rfb_hello.specs.declared.version.Version.{Version}
 use Rattle.rfb_hello.specs.KeptText.{KeptText, no_text, kept_of}
-use Rattle.rfb_hello.specs.ClientHandshake.{ClientPoint, AwaitsInit as AwaitsClientInit, Begun as ClientBegun, ClientItem, ClientInit, past_client_item}
-use Rattle.rfb_hello.specs.ServerHandshake.{ServerPoint, AwaitsInit, AwaitsName, Begun, ServerItem, ServerInit, Name, past_server_item}
+use Rattle.rfb_hello.specs.ClientHandshake.{ClientPoint, AwaitsInit as AwaitsClientInit, Begun as ClientBegun}
+use Rattle.rfb_hello.specs.ClientHandshake.{ClientItem, ClientInit, past_client_item}
+use Rattle.rfb_hello.specs.ServerHandshake.{ServerPoint, AwaitsInit, AwaitsName, Begun, ServerItem, ServerInit, Name}
+use Rattle.rfb_hello.specs.ServerHandshake.{past_server_item}
 use Rattle.rfb_hello.specs.ServerEnd.{ServerSetup, as_reply, server_init_bytes}
 use Rattle.rfb_hello.specs.ViewerEnd.{ViewerSetup}
 

@@ -11,7 +11,10 @@ use Rattle.rfb_hello.specs.declared.viewer_hello.progress.Cause.{Cause}
 use Rattle.rfb_hello.specs.declared.viewer_hello.progress.Cause.TheVariants.{Refused, SecurityFailed}
 use Rattle.rfb_hello.specs.Version.{lower, version_text}
 use Rattle.rfb_hello.specs.KeptText.{kept_of}
-use Rattle.rfb_hello.specs.ServerHandshake.{ServerPoint, AwaitsVersion, AwaitsSecurity, AwaitsResult, AwaitsInit, AwaitsName, ServerItem, ProtocolVersion, SecurityNone, SecurityTypes, SecurityResult, ServerInit, Name, IsWord, SpellsServerInit, IsAdmitted, past_server_item}
+use Rattle.rfb_hello.specs.ServerHandshake.{ServerPoint, AwaitsVersion, AwaitsSecurity, AwaitsResult, AwaitsInit}
+use Rattle.rfb_hello.specs.ServerHandshake.{AwaitsName, ServerItem, ProtocolVersion, SecurityNone, SecurityTypes}
+use Rattle.rfb_hello.specs.ServerHandshake.{SecurityResult, ServerInit, Name, IsWord, SpellsServerInit, IsAdmitted}
+use Rattle.rfb_hello.specs.ServerHandshake.{past_server_item}
 use Rattle.rfb_hello.specs.ServerReading.{server_handshake}
 use Rattle.rfb_hello.specs.ServerEnd.{as_reply}
 

@@ -3,7 +3,8 @@
 use Rattle.std.specs.Prelude.{◌≡◌, ℕ, Bool, true, false, List, ◌++◌, Option, None, Some, length}
 use Rattle.rfb_wire.specs.stream.End.{RunsOutBy}
 use Rattle.rfb_hello.specs.declared.fault.HelloFault.{HelloFault}
-use Rattle.rfb_hello.specs.declared.fault.HelloFault.TheVariants.{Refused as RefusedFault, SecurityFailed as FailedFault}
+use Rattle.rfb_hello.specs.declared.fault.HelloFault.TheVariants.{Refused as RefusedFault}
+use Rattle.rfb_hello.specs.declared.fault.HelloFault.TheVariants.{SecurityFailed as FailedFault}
 use Rattle.rfb_hello.specs.declared.step.ViewerStep.{ViewerStep}
 use Rattle.rfb_hello.specs.declared.step.ViewerStep.TheVariants.{Reply, Screen, Ready}
 use Rattle.rfb_hello.specs.declared.viewer_hello.progress.Cause.{Cause}

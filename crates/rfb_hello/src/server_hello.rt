@@ -1,6 +1,7 @@
 //! The server's end of a handshake.
 
-ghost use Rattle.std.specs.Prelude.{◌≡◌, ◌≤◌, ◌<◌, ◌+◌, ℕ, List, [], ◌∷◌, length, take, true, false, IfOk, IfErr, Some, None, Ok};
+ghost use Rattle.std.specs.Prelude.{◌≡◌, ◌≤◌, ◌<◌, ◌+◌, ℕ, List, [], ◌∷◌, length, take, true};
+ghost use Rattle.std.specs.Prelude.{false, IfOk, IfErr, Some, None, Ok};
 ghost use Rattle.rfb_wire.specs.stream.End.{FedBy, RefusedBy, StepsBy, StaysFailed};
 ghost use Rattle.rfb_hello.specs.Version.{version_text};
 ghost use Rattle.rfb_hello.specs.ClientHandshake.{AwaitsVersion, ClientPoint};

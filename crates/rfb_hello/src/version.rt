@@ -1,7 +1,9 @@
 //! ProtocolVersion, RFC 6143 section 7.1.1.
 
-ghost use Rattle.std.specs.Prelude.{◌≡◌, ◌==◌, ◌+◌, ◌-◌, ◌*◌, ◌&&◌, length, Some, None, Ok, Err, if◌then◌else◌};
-ghost use Rattle.rfb_hello.specs.Version.{is_digit, is_version_text, minor_of, version_of, version_text};
+ghost use Rattle.std.specs.Prelude.{◌≡◌, ◌==◌, ◌+◌, ◌-◌, ◌*◌, ◌&&◌, length, Some, None, Ok, Err};
+ghost use Rattle.std.specs.Prelude.{if◌then◌else◌};
+ghost use Rattle.rfb_hello.specs.Version.{is_digit, is_version_text, minor_of, version_of};
+ghost use Rattle.rfb_hello.specs.Version.{version_text};
 
 use crate::fault::HelloFault;
 

@@ -10,7 +10,8 @@ use Rattle.rfb_hello.specs.ServerStanding.{StandsFor}
 use Rattle.rfb_hello.specs.declared.version.Version.{Version}
 use Rattle.rfb_hello.specs.declared.version.Version.TheVariants.{V33, V37, V38}
 use Rattle.rfb_hello.specs.declared.server_hello.progress.Progress.{Progress}
-use Rattle.rfb_hello.specs.declared.server_hello.progress.Progress.TheVariants.{Version as VersionPart, Choice, Init, Done, Failed}
+use Rattle.rfb_hello.specs.declared.server_hello.progress.Progress.TheVariants.{Version as VersionPart, Choice, Init}
+use Rattle.rfb_hello.specs.declared.server_hello.progress.Progress.TheVariants.{Done, Failed}
 
 -- an end takes this number of these bytes, and returns that, whatever it was made with
 abbrev pub TakesAs : ServerHello → List ℕ → ServerHello → (ℕ × Option ServerStep) → Type 0

@@ -1,7 +1,8 @@
 //! What a viewer takes of a server up to ServerInit: its version, the security types and the
 //! result.
 
-ghost use Rattle.std.specs.Prelude.{◌≡◌, ◌≤◌, ◌<◌, ℕ, [], ◌∷◌, length, take, true, IfOk, IfErr, Some, None, Ok, Bool};
+ghost use Rattle.std.specs.Prelude.{◌≡◌, ◌≤◌, ◌<◌, ℕ, [], ◌∷◌, length, take, true, IfOk, IfErr};
+ghost use Rattle.std.specs.Prelude.{Some, None, Ok, Bool};
 ghost use Rattle.arrayvec.specs.ArrayVec.{ArrayVec as Items};
 ghost use Rattle.rfb_wire.specs.stream.End.{StepsBy};
 ghost use Rattle.rfb_hello.specs.Offering.{offered_of};

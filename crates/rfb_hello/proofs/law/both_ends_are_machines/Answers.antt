@@ -1,5 +1,5 @@
 use Rattle.rfb_hello.proofs.ServerHelloLemmas.{server_machine}
-use Rattle.rfb_hello.proofs.ViewerHelloLemmas.{viewer_machine}
+use Rattle.rfb_hello.proofs.ViewerStepLemmas.{viewer_machine}
 use Rattle.rfb_hello.proofs.law.both_ends_are_machines.Goals as goal
 
 pub returns-clause-server : goal.returns-clause-server

@@ -19,7 +19,9 @@ returns-in_err-n c =
       fed = tt;
       setup = c.in_err-n.ensures.setup ∙ c.loop-used.invariant.setup;
       left = tt;
-      fault = λ setup. refused_later (server_end setup) (server_machine setup) (StandsFor setup) c.args.self.now c.loop-used.self c.loop-used.used c.args.bytes.now c.in_err-n.field-0.0 (c.loop-used.invariant.fed setup) (rw rest at (c.in_err-n.ensures.fault setup));
+      fault = λ setup. refused_later (server_end setup) (server_machine setup) (StandsFor setup) c.args.self.now
+          c.loop-used.self c.loop-used.used c.args.bytes.now c.in_err-n.field-0.0 (c.loop-used.invariant.fed setup)
+          (rw rest at (c.in_err-n.ensures.fault setup));
       fails = c.in_err-n.ensures.fails;
       failed = λ f h. absurd cc;
     })
@@ -33,7 +35,9 @@ returns-then-is_some c =
       used = omega (arith, length-drop c.loop-used.used c.args.bytes.now, within, c.loop-used.invariant.within);
       all = λ none. absurd (some_told c.in_ok-n.event (sym c.is_some.ensures ∙ c.if-is_some.true) none);
       some = λ is any. omega (arith, c.in_ok-n.ensures.used.0);
-      fed = λ setup. fed_more (server_end setup) (server_machine setup) (StandsFor setup) c.args.self.now c.loop-used.self c.take.new.self c.loop-used.used c.in_ok-n.n c.args.bytes.now c.in_ok-n.event (c.loop-used.invariant.fed setup) (rw rest at (c.in_ok-n.ensures.fed setup));
+      fed = λ setup. fed_more (server_end setup) (server_machine setup) (StandsFor setup)
+          c.args.self.now c.loop-used.self c.take.new.self c.loop-used.used c.in_ok-n.n c.args.bytes.now c.in_ok-n.event
+          (c.loop-used.invariant.fed setup) (rw rest at (c.in_ok-n.ensures.fed setup));
       setup = c.in_ok-n.ensures.setup ∙ c.loop-used.invariant.setup;
       left = omega (arith, c.in_ok-n.ensures.left, c.loop-used.invariant.left);
       fault = tt;
@@ -53,5 +57,7 @@ loop-used-preserved c =
       stays_open = λ _. c.in_ok-n.ensures.open none;
       setup = c.in_ok-n.ensures.setup ∙ c.loop-used.invariant.setup;
       left = omega (arith, c.in_ok-n.ensures.left, c.loop-used.invariant.left);
-      fed = λ setup. fed_more (server_end setup) (server_machine setup) (StandsFor setup) c.args.self.now c.loop-used.self c.take.new.self c.loop-used.used c.in_ok-n.n c.args.bytes.now None (c.loop-used.invariant.fed setup) (rw (rest, none) at (c.in_ok-n.ensures.fed setup));
+      fed = λ setup. fed_more (server_end setup) (server_machine setup) (StandsFor setup)
+          c.args.self.now c.loop-used.self c.take.new.self c.loop-used.used c.in_ok-n.n c.args.bytes.now None
+          (c.loop-used.invariant.fed setup) (rw (rest, none) at (c.in_ok-n.ensures.fed setup));
     }

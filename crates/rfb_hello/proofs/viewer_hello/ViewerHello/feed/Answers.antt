@@ -1,4 +1,5 @@
-use Rattle.std.proofs.Common.{◌≡◌, refl, ◌∙◌, ◌≤◌, sym, subst, ℕ, List, ◌-◌, length, take, drop, length-drop, ap, Option, Ok, Err, None, arith}
+use Rattle.std.proofs.Common.{◌≡◌, refl, ◌∙◌, ◌≤◌, sym, subst, ℕ, List, ◌-◌, length, take, drop, length-drop, ap}
+use Rattle.std.proofs.Common.{Option, Ok, Err, None, arith}
 use Rattle.std.proofs.lemmas.List.{take_rest}
 use Rattle.std.proofs.lemmas.Result.{err_from_is_err_and}
 use Rattle.rfb_wire.proofs.stream_laws.FeedLaws.{fed_step, fault_step, memory_step}
@@ -8,7 +9,9 @@ use Rattle.rfb_hello.specs.ViewerEnd.{viewer_end, AsksMemory}
 use Rattle.rfb_hello.specs.Offering.{KeepsOffer, TakesOffer}
 use Rattle.rfb_hello.specs.ViewerStanding.{StandsFor, KeepsReason, goes_on_after}
 use Rattle.rfb_hello.proofs.ServerHelloLemmas.{none_told, some_told}
-use Rattle.rfb_hello.proofs.ViewerHelloLemmas.{viewer_machine, viewer_starts, not_failed, step_there, kept_later}
+use Rattle.rfb_hello.proofs.ViewerStepLemmas.{viewer_machine}
+use Rattle.rfb_hello.proofs.ViewerHelloLemmas.{viewer_starts, not_failed, step_there}
+use Rattle.rfb_hello.proofs.ViewerReasonLemmas.{kept_later}
 use Rattle.rfb_hello.proofs.ViewerHelloLemmas.{offer_later, taken_later}
 use Rattle.rfb_hello.proofs.viewer_hello.ViewerHello.feed.Goals as goal
 
@@ -41,13 +44,21 @@ returns-in_err-event c =
       setup = c.take-n.ensures.setup ∙ c.loop-used.invariant.setup;
       fault = λ other setup.
           let steps = c.take-n.ensures.steps (λ e. let same : fault ≡ NoMemory = cc in other same) setup in
-          fault_step (viewer_end setup) (viewer_machine setup) (StandsFor setup) c.args.self.now c.loop-used.self c.take-n.new.self c.loop-used.used c.take-n.result.0 c.args.bytes.now fault (c.loop-used.invariant.fed setup) (step_there setup c.loop-used.self c.take-n.new.self c.take-n.result.0 _ _ _ _ rest was steps);
+          fault_step (viewer_end setup) (viewer_machine setup) (StandsFor setup) c.args.self.now c.loop-used.self
+          c.take-n.new.self c.loop-used.used c.take-n.result.0 c.args.bytes.now fault (c.loop-used.invariant.fed
+          setup) (step_there setup c.loop-used.self c.take-n.new.self c.take-n.result.0 _ _ _ _ rest was steps);
       memory = λ is setup.
           let wants = c.take-n.ensures.memory (let same : c.take-n.result.1 ≡ Err NoMemory = cc in same) setup in
-          memory_step (viewer_end setup) (viewer_machine setup) (AsksMemory setup) (StandsFor setup) c.args.self.now c.loop-used.self c.loop-used.used c.take-n.result.0 c.args.bytes.now (c.loop-used.invariant.fed setup) (rw rest at wants);
+          memory_step (viewer_end setup) (viewer_machine setup) (AsksMemory setup)
+          (StandsFor setup) c.args.self.now c.loop-used.self c.loop-used.used c.take-n.result.0 c.args.bytes.now
+          (c.loop-used.invariant.fed setup) (rw rest at wants);
       reason = λ none.
-          let kept : KeepsReason fault c.loop-used.self (take c.take-n.result.0 (take (length c.args.bytes.now - c.loop-used.used) (drop c.loop-used.used c.args.bytes.now))) c.take-n.new.self = rw was at c.take-n.ensures.reason in
-          kept_later fault c.args.self.now c.loop-used.self c.take-n.new.self c.loop-used.used c.take-n.result.0 c.args.bytes.now c.loop-used.invariant.fed (subst (λ (xs : List ℕ). KeepsReason fault c.loop-used.self (take c.take-n.result.0 xs) c.take-n.new.self) rest kept);
+          let kept : KeepsReason fault c.loop-used.self (take c.take-n.result.0
+          (take (length c.args.bytes.now - c.loop-used.used) (drop c.loop-used.used c.args.bytes.now)))
+          c.take-n.new.self = rw was at c.take-n.ensures.reason in
+          kept_later fault c.args.self.now c.loop-used.self c.take-n.new.self c.loop-used.used c.take-n.result.0
+          c.args.bytes.now c.loop-used.invariant.fed (subst (λ (xs : List ℕ). KeepsReason fault c.loop-used.self
+          (take c.take-n.result.0 xs) c.take-n.new.self) rest kept);
       offer = λ none.
           let kept : KeepsOffer fault c.loop-used.self (take c.take-n.result.0
           (take (length c.args.bytes.now - c.loop-used.used) (drop c.loop-used.used c.args.bytes.now)))
@@ -65,7 +76,8 @@ pub returns-then-is_some : goal.returns-then-is_some
 returns-then-is_some c =
     let began = c.loop-used.invariant.began in
     let rest = take_rest c.args.bytes.now c.loop-used.used in
-    let within : c.take-n.result.0 ≤ length (drop c.loop-used.used c.args.bytes.now) = rw rest at c.take-n.ensures.within in
+    let within : c.take-n.result.0 ≤ length (drop c.loop-used.used c.args.bytes.now) =
+    rw rest at c.take-n.ensures.within in
     let was : c.take-n.result.1 ≡ Ok c.in_ok-event.event = c.in_ok-event.was in
     record {
       used = omega (arith, length-drop c.loop-used.used c.args.bytes.now, within, c.loop-used.invariant.within);
@@ -75,7 +87,10 @@ returns-then-is_some c =
       setup = c.take-n.ensures.setup ∙ c.loop-used.invariant.setup;
       fed = λ setup.
           let steps = c.take-n.ensures.steps (λ e. cc) setup in
-          fed_step (viewer_end setup) (viewer_machine setup) (StandsFor setup) c.args.self.now c.loop-used.self c.take-n.new.self c.loop-used.used c.take-n.result.0 c.args.bytes.now c.in_ok-event.event (c.loop-used.invariant.fed setup) (step_there setup c.loop-used.self c.take-n.new.self c.take-n.result.0 _ _ _ _ rest was steps);
+          fed_step (viewer_end setup) (viewer_machine setup) (StandsFor setup)
+          c.args.self.now c.loop-used.self c.take-n.new.self c.loop-used.used
+          c.take-n.result.0 c.args.bytes.now c.in_ok-event.event (c.loop-used.invariant.fed setup)
+          (step_there setup c.loop-used.self c.take-n.new.self c.take-n.result.0 _ _ _ _ rest was steps);
       fault = tt;
       memory = tt;
       reason = tt;
@@ -94,9 +109,11 @@ returns-then-is_some c =
 pub loop-used-preserved : goal.loop-used-preserved
 loop-used-preserved c =
     let rest = take_rest c.args.bytes.now c.loop-used.used in
-    let within : c.take-n.result.0 ≤ length (drop c.loop-used.used c.args.bytes.now) = rw rest at c.take-n.ensures.within in
+    let within : c.take-n.result.0 ≤ length (drop c.loop-used.used c.args.bytes.now) =
+    rw rest at c.take-n.ensures.within in
     let was : c.take-n.result.1 ≡ Ok c.in_ok-event.event = c.in_ok-event.was in
-    let none : c.in_ok-event.event ≡ None = none_told c.in_ok-event.event (sym c.is_some.ensures ∙ c.if-is_some.false) in
+    let none : c.in_ok-event.event ≡ None =
+    none_told c.in_ok-event.event (sym c.is_some.ensures ∙ c.if-is_some.false) in
     let goes = rw was at c.take-n.ensures.goes in
     record {
       within = omega (arith, length-drop c.loop-used.used c.args.bytes.now, within, c.loop-used.invariant.within);
@@ -107,5 +124,8 @@ loop-used-preserved c =
       offer = (rw none at (rw was at c.take-n.ensures.offered)) ∙ c.loop-used.invariant.offer;
       fed = λ setup.
           let steps = c.take-n.ensures.steps (λ e. cc) setup in
-          fed_step (viewer_end setup) (viewer_machine setup) (StandsFor setup) c.args.self.now c.loop-used.self c.take-n.new.self c.loop-used.used c.take-n.result.0 c.args.bytes.now None (c.loop-used.invariant.fed setup) (step_there setup c.loop-used.self c.take-n.new.self c.take-n.result.0 _ _ _ _ rest (was ∙ ap (λ (e : Option ViewerStep). Ok e) none) steps);
+          fed_step (viewer_end setup) (viewer_machine setup) (StandsFor setup) c.args.self.now
+          c.loop-used.self c.take-n.new.self c.loop-used.used c.take-n.result.0 c.args.bytes.now None
+          (c.loop-used.invariant.fed setup) (step_there setup c.loop-used.self c.take-n.new.self c.take-n.result.0 _
+          _ _ _ rest (was ∙ ap (λ (e : Option ViewerStep). Ok e) none) steps);
     }

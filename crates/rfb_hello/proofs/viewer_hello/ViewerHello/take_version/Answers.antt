@@ -4,7 +4,8 @@ use Rattle.rfb_hello.specs.declared.version.Version.{Version}
 use Rattle.rfb_hello.specs.Version.{is_version_text, version_of, version_text, lower}
 use Rattle.rfb_hello.specs.inside.ViewerPiece.{progress_after_version}
 use Rattle.rfb_hello.proofs.ServerHelloLemmas.{version_read}
-use Rattle.rfb_hello.proofs.ViewerHelloLemmas.{becomes, version_told, version_keeps}
+use Rattle.rfb_hello.proofs.ViewerStepLemmas.{becomes}
+use Rattle.rfb_hello.proofs.ViewerHelloLemmas.{version_told, version_keeps}
 use Rattle.rfb_hello.proofs.viewer_hello.ViewerHello.take_version.Goals as goal
 
 pub returns : goal.returns
@@ -17,10 +18,14 @@ returns c = record {
       let whole = c.in-Some.whole.items in
       let gathered = rw c.in-Some.is at c.gather-used.ensures.whole in
       let same : c.as_slice.result.now ≡ whole = c.as_slice.ensures.value in
-      let told = version_read (length whole == 12) (is_version_text whole) (version_of whole) c.in-Ok.version (rw (c.in-Ok.is, same) at c.try_from.ensures) in
-      let version : c.lower-version.result ≡ lower old.limit (version_of whole) = c.lower-version.ensures ∙ ap (λ (v : Version). lower old.limit v) told.1 in
-      let bytes : c.reply_of.result.items ≡ version_text (lower old.limit (version_of whole)) = ap (λ (r : ArrayVec ℕ). r.items) c.reply_of.ensures ∙ c.text.ensures ∙ ap version_text version in
-      becomes setup old unit unit _ _ _ refl (c.after_version.ensures ∙ ap progress_after_version version) (version_told setup old c.in-Version.part c.reply_of.result unit whole c.in-Version.is gathered.0 gathered.1 told.0 bytes);
+      let told = version_read (length whole == 12) (is_version_text whole) (version_of whole) c.in-Ok.version
+      (rw (c.in-Ok.is, same) at c.try_from.ensures) in
+      let version : c.lower-version.result ≡ lower old.limit (version_of whole) =
+      c.lower-version.ensures ∙ ap (λ (v : Version). lower old.limit v) told.1 in
+      let bytes : c.reply_of.result.items ≡ version_text (lower old.limit (version_of whole)) =
+      ap (λ (r : ArrayVec ℕ). r.items) c.reply_of.ensures ∙ c.text.ensures ∙ ap version_text version in
+      becomes setup old unit unit _ _ _ refl (c.after_version.ensures ∙ ap progress_after_version version) (version_told
+      setup old c.in-Version.part c.reply_of.result unit whole c.in-Version.is gathered.0 gathered.1 told.0 bytes);
   memory = search rules;
   goes = search rules;
   going = search rules;

@@ -2,7 +2,9 @@ use Rattle.std.proofs.Common.{rules, ◌≡◌, ◌∙◌, ap, sym, take, Ok, No
 use Rattle.rfb_wire.specs.Fields.{u32_at}
 use Rattle.rfb_hello.specs.declared.offered.Offered.TheVariants.{Chosen}
 use Rattle.rfb_hello.specs.declared.viewer_hello.ViewerHello.{ViewerHello}
-use Rattle.rfb_hello.proofs.ViewerHelloLemmas.{becomes, word_of_none, word_offered, word_kept}
+use Rattle.rfb_hello.proofs.ViewerStepLemmas.{becomes}
+use Rattle.rfb_hello.proofs.ViewerReasonLemmas.{word_of_none}
+use Rattle.rfb_hello.proofs.ViewerHelloLemmas.{word_offered, word_kept}
 use Rattle.rfb_hello.proofs.viewer_hello.ViewerHello.take_word.Goals as goal
 
 pub returns-then-word-eq0 : goal.returns-then-word-eq0
@@ -16,7 +18,8 @@ returns-then-word-eq0 c = record {
       let gathered = rw c.in-Some.is at c.gather-used.ensures.whole in
       let word : c.read_u32-word.result ≡ u32_at 0 whole = c.read_u32-word.ensures ∙
       ap (u32_at 0) c.as_slice.ensures.value in
-      becomes setup old unit unit (Ok None) _ _ refl c.before_reason.ensures (word_of_none setup old c.in-Word.part unit whole c.in-Word.is gathered.0 (gathered.1, sym word ∙ search rules));
+      becomes setup old unit unit (Ok None) _ _ refl c.before_reason.ensures (word_of_none setup old c.in-Word.part unit
+      whole c.in-Word.is gathered.0 (gathered.1, sym word ∙ search rules));
   memory = search rules;
   goes = search rules;
   going = search rules;
