@@ -1,5 +1,7 @@
 -- The least rectangle that holds others, and the rectangle that a server's bytes are at.
-use Rattle.std.proofs.Common.{◌≡◌, ℕ, zero, suc, ◌+◌, ◌-◌, ◌<◌, ◌≤◌, ◌&&◌, nat_lt, min, max, Bool, true, false, List, [], ◌++◌, length, Option, Some, None, ◌⊎◌, inl, inr, refl, sym, subst, ◌∙◌, ap, arith, append_assoc}
+use Rattle.std.proofs.Common.{◌≡◌, ℕ, zero, suc, ◌+◌, ◌-◌, ◌<◌, ◌≤◌, ◌&&◌, nat_lt, min, max, Bool, true, false, List}
+use Rattle.std.proofs.Common.{[], ◌++◌, length, Option, Some, None, ◌⊎◌, inl, inr, refl, sym, subst, ◌∙◌, ap, arith}
+use Rattle.std.proofs.Common.{append_assoc}
 use Rattle.std.proofs.lemmas.Bool.Decides.{nat_tests}
 use Rattle.std.proofs.Math.Nat.{min-le_left, min-le_right, le-max_left, le-max_right}
 use Rattle.rfb_pixel.specs.declared.colour.Colour.{Colour}
@@ -22,9 +24,11 @@ use Rattle.rfb_codec.proofs.UpdateWaitLaws.{at_rect}
 use Rattle.rfb_viewer.specs.declared.viewer.Viewer.{Viewer}
 use Rattle.rfb_viewer.specs.declared.viewer.damage.Edges.{Edges}
 use Rattle.rfb_viewer.specs.declared.viewer.progress.Progress.{Progress}
-use Rattle.rfb_viewer.specs.declared.viewer.progress.Progress.TheVariants.{Handshake, Head, RectHead, Data, Colours, CutText, Failed}
+use Rattle.rfb_viewer.specs.declared.viewer.progress.Progress.TheVariants.{Handshake, Head, RectHead, Data, Colours}
+use Rattle.rfb_viewer.specs.declared.viewer.progress.Progress.TheVariants.{CutText, Failed}
 use Rattle.rfb_viewer.specs.declared.fault.ViewerFault.{ViewerFault}
-use Rattle.rfb_viewer.specs.Damage.{edges_of, rect_between, outermost, joined, joined_if, rect_of_damage, holds, under_way, head_rect, begun_next, begun, item_damage}
+use Rattle.rfb_viewer.specs.Damage.{edges_of, rect_between, outermost, joined, joined_if, rect_of_damage, holds}
+use Rattle.rfb_viewer.specs.Damage.{under_way, head_rect, begun_next, begun, item_damage}
 use Rattle.rfb_viewer.specs.inside.Damaging.{ended_with}
 use Rattle.rfb_viewer.specs.ServerBytes.{ServerAt}
 use Rattle.rfb_viewer.specs.Viewer.{Viewing}
@@ -49,14 +53,16 @@ between_others a b c w x low high =
 pub inside : (r : Rect) (x y : ℕ) → r.x ≤ x → x < r.x + r.w → r.y ≤ y → y < r.y + r.h → contains r x y ≡ true
 inside r x y left right top lower = grind (arith, nat_tests)
 
-edges_inside : (a : Edges) (r : Rect) (x y : ℕ) → contains (rect_between a) x y ≡ true → contains (rect_between (outermost a (edges_of r))) x y ≡ true
+edges_inside : (a : Edges) (r : Rect) (x y : ℕ) → contains (rect_between a) x y ≡ true →
+    contains (rect_between (outermost a (edges_of r))) x y ≡ true
 edges_inside a r x y e =
     let h = contains_true (rect_between a) x y e in
     let column = between a.left a.right r.x (r.x + r.w) x h.0 h.1 in
     let row = between a.top a.lower r.y (r.y + r.h) y h.2 h.3 in
     inside (rect_between (outermost a (edges_of r))) x y column.0 column.1 row.0 row.1
 
-rect_inside : (a : Edges) (r : Rect) (x y : ℕ) → contains r x y ≡ true → contains (rect_between (outermost a (edges_of r))) x y ≡ true
+rect_inside : (a : Edges) (r : Rect) (x y : ℕ) → contains r x y ≡ true →
+    contains (rect_between (outermost a (edges_of r))) x y ≡ true
 rect_inside a r x y e =
     let h = contains_true r x y e in
     let column = between_others a.left a.right r.x r.w x h.0 h.1 in
@@ -75,11 +81,16 @@ alone r =
     rw (wide, high) refl
 
 -- where a rectangle is joined the damage holds what it held, and the rectangle
-pub joined_holds : (d : Option Edges) (r : Rect) (x y : ℕ) → holds (rect_of_damage (joined d r)) x y ≡ false → (holds (rect_of_damage d) x y ≡ false) × (contains r x y ≡ false)
+pub joined_holds : (d : Option Edges) (r : Rect) (x y : ℕ) → holds (rect_of_damage (joined d r)) x y ≡ false →
+    (holds (rect_of_damage d) x y ≡ false) × (contains r x y ≡ false)
 joined_holds d r x y out = by d (nat_lt 0 r.w && nat_lt 0 r.h) refl (contains r x y) refl out
   where
-    by : (d : Option Edges) (some : Bool) → (nat_lt 0 r.w && nat_lt 0 r.h) ≡ some → (b : Bool) → contains r x y ≡ b → holds (rect_of_damage (joined d r)) x y ≡ false → (holds (rect_of_damage d) x y ≡ false) × (contains r x y ≡ false)
-    by None true is b e out = let out' = rw is at out in (refl, subst (λ (k : Rect). contains k x y ≡ false) (alone r) out')
+    by : (d : Option Edges) (some : Bool) → (nat_lt 0 r.w && nat_lt 0 r.h) ≡ some →
+        (b : Bool) → contains r x y ≡ b → holds (rect_of_damage (joined d r)) x y ≡ false →
+        (holds (rect_of_damage d) x y ≡ false) × (contains r x y ≡ false)
+    by None true is b e out =
+        let out' = rw is at out in
+        (refl, subst (λ (k : Rect). contains k x y ≡ false) (alone r) out')
     by (Some a) true is b e out =
         let out' = rw is at out in
         (not_inside _ _ out' (edges_inside a r x y), not_inside _ _ out' (rect_inside a r x y))
@@ -91,14 +102,17 @@ joined_holds d r x y out = by d (nat_lt 0 r.w && nat_lt 0 r.h) refl (contains r 
         let some : (nat_lt 0 r.w && nat_lt 0 r.h) ≡ true = grind (arith, nat_tests) in
         absurd cc
 
-pub joined_if_holds : (d : Option Edges) (r : Option Rect) (x y : ℕ) → holds (rect_of_damage (joined_if d r)) x y ≡ false → (holds (rect_of_damage d) x y ≡ false) × (holds r x y ≡ false)
+pub joined_if_holds : (d : Option Edges) (r : Option Rect) (x y : ℕ) →
+    holds (rect_of_damage (joined_if d r)) x y ≡ false → (holds (rect_of_damage d) x y ≡ false) × (holds r x y ≡ false)
 joined_if_holds d None x y out = (out, refl)
 joined_if_holds d (Some r) x y out = joined_holds d r x y out
 
 -- and it holds no more
-pub not_joined : (d : Option Edges) (b c : Option Rect) (x y : ℕ) → (b ≡ None) ⊎ (c ≡ b) → holds (rect_of_damage d) x y ≡ false → holds (rect_of_damage (joined_if d c)) x y ≡ false → holds (rect_of_damage (joined_if d b)) x y ≡ false
+pub not_joined : (d : Option Edges) (b c : Option Rect) (x y : ℕ) → (b ≡ None) ⊎ (c ≡ b) → holds (rect_of_damage d) x y
+    ≡ false → holds (rect_of_damage (joined_if d c)) x y ≡ false → holds (rect_of_damage (joined_if d b)) x y ≡ false
 not_joined d b c x y (inl none) out more = rw none out
-not_joined d b c x y (inr same) out more = subst (λ (k : Option Rect). holds (rect_of_damage (joined_if d k)) x y ≡ false) same more
+not_joined d b c x y (inr same) out more =
+    subst (λ (k : Option Rect). holds (rect_of_damage (joined_if d k)) x y ≡ false) same more
 
 pub ended_same : (b : Option Rect) (d : Option Edges) → ended_with b b d ≡ d
 ended_same None d = refl
@@ -110,7 +124,8 @@ ended_none (Some r) d = refl
 
 -- ---- the rectangle that bytes are at
 
-pub some_begun : (q : UpdatePoint) (left : ℕ) (bytes : List ℕ) → 0 < left → begun_next q left bytes ≡ head_rect (rect_head q.width q.height bytes)
+pub some_begun : (q : UpdatePoint) (left : ℕ) (bytes : List ℕ) → 0 < left →
+    begun_next q left bytes ≡ head_rect (rect_head q.width q.height bytes)
 some_begun q zero bytes some = absurd (omega (arith, some))
 some_begun q (suc left) bytes some = refl
 
@@ -133,71 +148,101 @@ fresh_begun (Second q) = by q.left
     by (suc left) = ap head_rect (head_short q.width q.height [] (omega arith))
 
 -- after a head it is that head's
-pub head_begun : (q : UpdatePoint) (head : HeadOfRect) (front body : List ℕ) (picture : Grid Colour) → AwaitsData q head front picture → begun (Second q) (front ++ body) ≡ Some head.rect
+pub head_begun : (q : UpdatePoint) (head : HeadOfRect) (front body : List ℕ) (picture : Grid Colour) →
+    AwaitsData q head front picture → begun (Second q) (front ++ body) ≡ Some head.rect
 head_begun q head front body picture awaits =
     some_begun q q.left (front ++ body) awaits.some_left
     ∙ ap head_rect ((rect_head_reads q.width q.height).only head front body (awaits.head_is, awaits.on_screen))
 
 -- more bytes leave a head that was read
-head_stays : (width height : ℕ) (bytes more : List ℕ) (n : Next HeadOfRect WireFault) → rect_head width height bytes ≡ n → (n ≡ More) ⊎ (head_rect (rect_head width height (bytes ++ more)) ≡ head_rect n)
+head_stays : (width height : ℕ) (bytes more : List ℕ) (n : Next HeadOfRect WireFault) →
+    rect_head width height bytes ≡ n → (n ≡ More) ⊎ (head_rect (rect_head width height (bytes ++ more)) ≡ head_rect n)
 head_stays width height bytes more More e = inl refl
 head_stays width height bytes more (Got head rest) e =
     let r = (rect_head_reads width height).found bytes head rest e in
-    let whole : bytes ++ more ≡ r.0 ++ (rest ++ more) = ap (λ (ys : List ℕ). ys ++ more) r.1 ∙ append_assoc r.0 rest more in
-    inr (ap (λ (ys : List ℕ). head_rect (rect_head width height ys)) whole ∙ ap head_rect ((rect_head_reads width height).only head r.0 (rest ++ more) r.2))
+    let whole : bytes ++ more ≡ r.0 ++ (rest ++ more) =
+    ap (λ (ys : List ℕ). ys ++ more) r.1 ∙ append_assoc r.0 rest more in
+    inr (ap (λ (ys : List ℕ). head_rect (rect_head width height ys)) whole
+    ∙ ap head_rect ((rect_head_reads width height).only head r.0 (rest ++ more) r.2))
 head_stays width height bytes more (Bad fault) e =
     let r = (rect_head_reads width height).blamed bytes fault e in
-    let whole : bytes ++ more ≡ r.0 ++ (r.1 ++ more) = ap (λ (ys : List ℕ). ys ++ more) r.2 ∙ append_assoc r.0 r.1 more in
-    inr (ap (λ (ys : List ℕ). head_rect (rect_head width height ys)) whole ∙ ap head_rect ((rect_head_reads width height).blames fault r.0 (r.1 ++ more) r.3))
+    let whole : bytes ++ more ≡ r.0 ++ (r.1 ++ more) =
+    ap (λ (ys : List ℕ). ys ++ more) r.2 ∙ append_assoc r.0 r.1 more in
+    inr (ap (λ (ys : List ℕ). head_rect (rect_head width height ys)) whole
+    ∙ ap head_rect ((rect_head_reads width height).blames fault r.0 (r.1 ++ more) r.3))
 
-pub begun_stays : (at : ServerAt) (bytes more : List ℕ) → (begun at bytes ≡ None) ⊎ (begun at (bytes ++ more) ≡ begun at bytes)
+pub begun_stays : (at : ServerAt) (bytes more : List ℕ) →
+    (begun at bytes ≡ None) ⊎ (begun at (bytes ++ more) ≡ begun at bytes)
 begun_stays (First point) bytes more = inl refl
 begun_stays (Second q) bytes more = by q.left
   where
-    read : (n : Next HeadOfRect WireFault) → rect_head q.width q.height bytes ≡ n → (head_rect (rect_head q.width q.height bytes) ≡ None) ⊎ (head_rect (rect_head q.width q.height (bytes ++ more)) ≡ head_rect (rect_head q.width q.height bytes))
+    read : (n : Next HeadOfRect WireFault) → rect_head q.width q.height bytes ≡ n →
+        (head_rect (rect_head q.width q.height bytes) ≡ None) ⊎ (head_rect (rect_head q.width q.height (bytes ++ more))
+        ≡ head_rect (rect_head q.width q.height bytes))
     read More e = inl (ap head_rect e)
-    read (Got head rest) e = elim (head_stays q.width q.height bytes more (Got head rest) e) [ inl none ↦ absurd cc | inr same ↦ inr (same ∙ sym (ap head_rect e)) ]
-    read (Bad fault) e = elim (head_stays q.width q.height bytes more (Bad fault) e) [ inl none ↦ absurd cc | inr same ↦ inr (same ∙ sym (ap head_rect e)) ]
+    read (Got head rest) e = elim (head_stays q.width q.height bytes more (Got head rest) e) [
+      | inl none ↦ absurd cc
+      | inr same ↦ inr (same ∙ sym (ap head_rect e))
+    ]
+    read (Bad fault) e = elim (head_stays q.width q.height bytes more (Bad fault) e) [
+      | inl none ↦ absurd cc
+      | inr same ↦ inr (same ∙ sym (ap head_rect e))
+    ]
 
     by : (left : ℕ) → (begun_next q left bytes ≡ None) ⊎ (begun_next q left (bytes ++ more) ≡ begun_next q left bytes)
     by zero = inl refl
     by (suc left) = read (rect_head q.width q.height bytes) refl
 
 -- where the bytes are decided it is, whatever follows
-pub begun_decided : (q : UpdatePoint) (bytes more : List ℕ) → (update_stream.next q bytes ≡ More → ⊥) → begun (Second q) (bytes ++ more) ≡ begun (Second q) bytes
+pub begun_decided : (q : UpdatePoint) (bytes more : List ℕ) → (update_stream.next q bytes ≡ More → ⊥) →
+    begun (Second q) (bytes ++ more) ≡ begun (Second q) bytes
 begun_decided q bytes more decided = by q.left refl
   where
-    read : 0 < q.left → (n : Next HeadOfRect WireFault) → rect_head q.width q.height bytes ≡ n → head_rect (rect_head q.width q.height (bytes ++ more)) ≡ head_rect (rect_head q.width q.height bytes)
+    read : 0 < q.left → (n : Next HeadOfRect WireFault) → rect_head q.width q.height bytes ≡ n →
+        head_rect (rect_head q.width q.height (bytes ++ more)) ≡ head_rect (rect_head q.width q.height bytes)
     read some More e = absurd (decided (at_rect q bytes some ∙ (rw e refl)))
-    read some (Got head rest) e = elim (head_stays q.width q.height bytes more (Got head rest) e) [ inl none ↦ absurd cc | inr same ↦ same ∙ sym (ap head_rect e) ]
-    read some (Bad fault) e = elim (head_stays q.width q.height bytes more (Bad fault) e) [ inl none ↦ absurd cc | inr same ↦ same ∙ sym (ap head_rect e) ]
+    read some (Got head rest) e = elim (head_stays q.width q.height bytes more (Got head rest) e) [
+      | inl none ↦ absurd cc
+      | inr same ↦ same ∙ sym (ap head_rect e)
+    ]
+    read some (Bad fault) e = elim (head_stays q.width q.height bytes more (Bad fault) e) [
+      | inl none ↦ absurd cc
+      | inr same ↦ same ∙ sym (ap head_rect e)
+    ]
 
     by : (left : ℕ) → q.left ≡ left → begun_next q left (bytes ++ more) ≡ begun_next q left bytes
     by zero is = refl
     by (suc left) is = read (omega (arith, is)) (rect_head q.width q.height bytes) refl
 
 -- an item adds the rectangle that its bytes began
-pub item_begun : (q : UpdatePoint) (item : UpdateItem) (bytes rest : List ℕ) (d : Option Edges) → update_stream.next q bytes ≡ Got item rest → joined_if d (begun (Second q) bytes) ≡ item_damage item d
+pub item_begun : (q : UpdatePoint) (item : UpdateItem) (bytes rest : List ℕ) (d : Option Edges) →
+    update_stream.next q bytes ≡ Got item rest → joined_if d (begun (Second q) bytes) ≡ item_damage item d
 item_begun q item bytes rest d e =
     let r = (update_spelled.reads q).found bytes item rest e in
     by q.left item r.0 r.2 r.1
   where
-    by : (left : ℕ) (item : UpdateItem) (front : List ℕ) → SpellsNext q left item front → bytes ≡ front ++ rest → joined_if d (begun_next q left bytes) ≡ item_damage item d
+    by : (left : ℕ) (item : UpdateItem) (front : List ℕ) → SpellsNext q left item front → bytes ≡ front ++ rest →
+        joined_if d (begun_next q left bytes) ≡ item_damage item d
     by zero (Message message) front spelled is = refl
     by zero (Rectangle head body) front spelled is = absurd spelled
     by (suc left) (Message message) front spelled is = absurd spelled
     by (suc left) (Rectangle head body) front spelled is =
-        let whole : bytes ≡ spelled.front ++ (body ++ rest) = is ∙ ap (λ (ys : List ℕ). ys ++ rest) spelled.whole ∙ append_assoc spelled.front body rest in
-        let got : rect_head q.width q.height bytes ≡ Got head (body ++ rest) = ap (rect_head q.width q.height) whole ∙ (rect_head_reads q.width q.height).only head spelled.front (body ++ rest) (spelled.head_is, spelled.on_screen) in
+        let whole : bytes ≡ spelled.front ++ (body ++ rest) =
+        is ∙ ap (λ (ys : List ℕ). ys ++ rest) spelled.whole ∙ append_assoc spelled.front body rest in
+        let got : rect_head q.width q.height bytes ≡ Got head (body ++ rest) =
+        ap (rect_head q.width q.height) whole ∙ (rect_head_reads q.width q.height).only head spelled.front
+        (body ++ rest) (spelled.head_is, spelled.on_screen) in
         ap (λ (n : Next HeadOfRect WireFault). joined_if d (head_rect n)) got
 
 -- ---- what a viewer is at
 
-pub same_rect : (painter : UnderWay) (q : UpdatePoint) (head : HeadOfRect) → painting painter ≡ painting_of q head → painter.rect ≡ head.rect
+pub same_rect : (painter : UnderWay) (q : UpdatePoint) (head : HeadOfRect) →
+    painting painter ≡ painting_of q head → painter.rect ≡ head.rect
 same_rect painter q head is = ap (λ (p : Painting). p.rect) is
 
 -- a viewer is at the rectangle that its bytes have begun
-pub under_begun : (viewing : Viewing) (v : Viewer) (p : Progress) (at : ServerAt) (g : Option (Grid Colour)) (prefix : List ℕ) → ProgressStandsFor viewing v p at g prefix → under_way p ≡ begun at prefix
+pub under_begun : (viewing : Viewing) (v : Viewer) (p : Progress) (at : ServerAt) (g : Option (Grid Colour))
+    (prefix : List ℕ) → ProgressStandsFor viewing v p at g prefix → under_way p ≡ begun at prefix
 under_begun viewing v Handshake (First point) g prefix h = refl
 under_begun viewing v Handshake (Second q) g prefix h = absurd h
 under_begun viewing v (Head bytes) (First point) g prefix h = refl
@@ -210,7 +255,8 @@ under_begun viewing v (RectHead more head) (Second q) g prefix h =
 under_begun viewing v (Data more painter) (First point) g prefix h = absurd h
 under_begun viewing v (Data more painter) (Second q) g prefix h =
     let p = h.1 in
-    sym (ap (begun (Second q)) p.prefix_is ∙ head_begun q p.head p.front p.body h.0.screen p.awaits ∙ ap (λ (r : Rect). Some r) (sym (same_rect painter q p.head p.painting_is)))
+    sym (ap (begun (Second q)) p.prefix_is ∙ head_begun q p.head p.front p.body h.0.screen p.awaits
+    ∙ ap (λ (r : Rect). Some r) (sym (same_rect painter q p.head p.painting_is)))
 under_begun viewing v (Colours more) (First point) g prefix h = refl
 under_begun viewing v (Colours more) (Second q) g prefix h = sym (none_begun q prefix h.0.left_is)
 under_begun viewing v (CutText n more kept) (First point) g prefix h = refl

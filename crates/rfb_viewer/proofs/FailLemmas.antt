@@ -1,86 +1,87 @@
 -- What a viewer keeps that fails.
-use Rattle.std.proofs.Common.{◌≡◌, ◌≢◌, ℕ, true, List, [], ◌∷◌, ◌++◌, Option, Some, None, Err, length, take, drop, refl, sym, subst, ◌∙◌, ap, arith, append-nil, append_assoc, take-append-drop, inl, inr}
+use Rattle.std.proofs.Common.{◌≡◌, ℕ, List, [], ◌∷◌, ◌++◌, Option, Some, None, Err, length, take, drop, refl, sym}
+use Rattle.std.proofs.Common.{subst, ◌∙◌, ap, arith, append-nil, append_assoc, take-append-drop, inl, inr}
 use Rattle.arrayvec.specs.ArrayVec.{ArrayVec}
 use Rattle.rfb_pixel.specs.declared.colour.Colour.{Colour}
 use Rattle.rfb_picture.specs.Grid.{Grid}
 use Rattle.rfb_wire.specs.declared.rect_head.RectHead.{RectHead as HeadOfRect}
 use Rattle.rfb_wire.specs.declared.server_head.ServerHead.{ServerHead}
-use Rattle.rfb_wire.specs.declared.server_head.ServerHead.TheVariants.{Update, ColourMap, Bell as BellHead, CutText as CutTextHead}
+use Rattle.rfb_wire.specs.declared.server_head.ServerHead.TheVariants.{Update, ColourMap, Bell as BellHead}
+use Rattle.rfb_wire.specs.declared.server_head.ServerHead.TheVariants.{CutText as CutTextHead}
 use Rattle.rfb_wire.specs.ServerHead.{SpellsServerHead}
 use Rattle.rfb_wire.specs.declared.fault.WireFault.{WireFault}
-use Rattle.rfb_wire.specs.declared.fault.WireFault.TheVariants.{UnknownMessage as WireMessage, UnknownEncoding as WireEncoding, RectOutside as WireOutside}
+use Rattle.rfb_wire.specs.declared.fault.WireFault.TheVariants.{UnknownMessage as WireMessage}
+use Rattle.rfb_wire.specs.declared.fault.WireFault.TheVariants.{UnknownEncoding as WireEncoding}
+use Rattle.rfb_wire.specs.declared.fault.WireFault.TheVariants.{RectOutside as WireOutside}
 use Rattle.rfb_wire.specs.stream.Reading.{Next, More, Got, Bad}
-use Rattle.rfb_wire.specs.stream.Sequel.{First}
-use Rattle.rfb_wire.specs.stream.End.{FedBy, RunsOutBy, RefusedBy, Steps, StepsBy, acts}
-use Rattle.rfb_wire.specs.stream.Grammar.{ReadsAll}
+use Rattle.rfb_wire.specs.stream.End.{FedBy, RunsOutBy, Steps, StepsBy}
 use Rattle.rfb_wire.proofs.stream_laws.FeedLaws.{runs_out_later}
 use Rattle.rfb_codec.specs.declared.fault.PaintFault.{PaintFault}
-use Rattle.rfb_codec.specs.declared.fault.PaintFault.TheVariants.{SubrectOutside, NoBackground, NoForeground, BothColourBits, SourceOutside}
+use Rattle.rfb_codec.specs.declared.fault.PaintFault.TheVariants.{SubrectOutside, NoBackground, NoForeground}
+use Rattle.rfb_codec.specs.declared.fault.PaintFault.TheVariants.{BothColourBits, SourceOutside}
 use Rattle.rfb_codec.specs.Painter.{Painting}
 use Rattle.rfb_codec.specs.Stage.{IsRefused}
 use Rattle.rfb_codec.specs.UnderWay.{UnderWay, painting, Refuses}
-use Rattle.rfb_hello.specs.declared.fault.HelloFault.{HelloFault}
-use Rattle.rfb_hello.specs.declared.fault.HelloFault.TheVariants.{BadVersion, VersionTooHigh, BadSecurityChoice, NoneNotOffered, Refused as HelloRefused, BadSecurityWord, SecurityFailed as HelloFailed, ScreenEmpty, ScreenTooLarge, NoMemory as HelloMemory}
 use Rattle.rfb_hello.specs.declared.viewer_hello.ViewerHello.{ViewerHello}
 use Rattle.rfb_hello.specs.declared.viewer_hello.progress.Cause.{Cause}
-use Rattle.rfb_hello.specs.declared.viewer_hello.progress.Cause.TheVariants.{Refused as RefusedCause, SecurityFailed as FailedCause}
-use Rattle.rfb_hello.specs.KeptText.{KeptText, no_text}
-use Rattle.rfb_hello.specs.ServerHandshake.{ServerPoint, ServerItem, AwaitsInit, ServerInit}
-use Rattle.rfb_hello.specs.declared.version.Version.{Version}
-use Rattle.rfb_hello.specs.declared.step.ViewerStep.{ViewerStep}
-use Rattle.rfb_hello.specs.declared.step.ViewerStep.TheVariants.{Reply as StepReply}
-use Rattle.rfb_hello.specs.declared.viewer_hello.progress.Progress.{Progress as HelloProgress}
-use Rattle.rfb_hello.specs.declared.viewer_hello.progress.Progress.TheVariants.{Version as VersionPart, Word, Count, Types, Result as ResultPart, ReasonLength, Reason, Init, Name, Done, Failed as FailedPart}
-use Rattle.rfb_hello.specs.ServerReading.{server_handshake}
-use Rattle.rfb_hello.specs.ViewerEnd.{ViewerSetup, viewer_end, AsksMemory as HelloAsks, viewer_tells as handshake_tells}
+use Rattle.rfb_hello.specs.declared.viewer_hello.progress.Cause.TheVariants.{Refused as RefusedCause}
+use Rattle.rfb_hello.specs.declared.viewer_hello.progress.Cause.TheVariants.{SecurityFailed as FailedCause}
+use Rattle.rfb_hello.specs.KeptText.{KeptText}
 use Rattle.rfb_hello.specs.declared.offered.Offered.{Offered}
-use Rattle.rfb_hello.specs.Offering.{offered_of as offered_in}
-use Rattle.rfb_hello.specs.Offering.{IsOfferedAt as IsOfferedIn, IsOfferOn as IsOfferIn, LeadsToOffer as HelloOffers}
-use Rattle.rfb_hello.specs.Offering.{KeepsOffer as HelloKeepsOffer, TakesOffer as HelloTakesOffer}
-use Rattle.rfb_hello.specs.ViewerStanding.{StandsFor as HelloStandsFor, IsReasonKept, KeepsReason as HelloKeeps, LeadsToReason as HelloLeads, reason_of as reason_in, is_open, fault_of as hello_fault}
-use Rattle.rfb_hello.specs.ViewerProgress.{is_open as goes_on, fault_in as hello_fault_in}
+use Rattle.rfb_hello.specs.ViewerStanding.{reason_of as reason_in}
 use Rattle.rfb_viewer.specs.declared.fault.ViewerFault.{ViewerFault}
 use Rattle.rfb_viewer.specs.declared.fault.ViewerFault.TheVariants.{NoMemory, Refused, SecurityFailed}
 use Rattle.rfb_viewer.specs.declared.fault.ViewerFault.TheVariants.{NoneNotOffered as NoneAmongTypes}
 use Rattle.rfb_viewer.specs.declared.fault.ViewerFault.TheVariants.{BadSecurityWord as BadWord}
 use Rattle.rfb_viewer.specs.declared.viewer.Viewer.{Viewer}
-use Rattle.rfb_viewer.specs.declared.viewer.progress.Progress.TheVariants.{Handshake, Head, RectHead, Data}
-use Rattle.rfb_viewer.specs.Fault.{fault_of_hello, fault_of_wire, fault_of_paint}
-use Rattle.rfb_viewer.specs.ServerBytes.{ServerAt, FromServer, server_bytes}
+use Rattle.rfb_viewer.specs.declared.viewer.progress.Progress.TheVariants.{Head, RectHead, Data}
+use Rattle.rfb_viewer.specs.Fault.{fault_of_wire, fault_of_paint}
+use Rattle.rfb_viewer.specs.ServerBytes.{ServerAt, FromServer}
 use Rattle.rfb_viewer.specs.Viewer.{Viewing, ViewerState, viewer, AsksMemory}
 use Rattle.rfb_viewer.specs.inside.Damaging.{EndsHere, EndsIn}
 use Rattle.rfb_viewer.specs.inside.Steps.{AsksAfter}
-use Rattle.rfb_viewer.specs.Progress.{IsHeadBegun, IsScreenAt}
+use Rattle.rfb_viewer.specs.Progress.{IsHeadBegun}
 use Rattle.rfb_viewer.specs.Standing.{StandsFor, offered_of, picture_of}
 use Rattle.rfb_viewer.specs.Told.{ViewerTold, Reply as Answer}
 use Rattle.rfb_viewer.specs.Offering.{LeadsToOffer, IsOfferedAt, KeepsOffer, IsOfferOn, TakesOffer}
-use Rattle.rfb_viewer.specs.Failing.{LeadsTo, LeadsToReason, IsReasonAt, KeepsNone, KeepsReason, ShowsLast, EndsAt}
-use Rattle.rfb_viewer.specs.Failing.{KeepsPicture}
+use Rattle.rfb_viewer.specs.Failing.{LeadsToReason, IsReasonAt, KeepsNone, KeepsReason, ShowsLast, EndsAt, KeepsPicture}
 use Rattle.rfb_viewer.proofs.ViewerLaws.{viewer_machine}
 use Rattle.rfb_viewer.proofs.MessageLemmas.{here, at_head, head_asks}
 use Rattle.rfb_viewer.proofs.RectLemmas.{IsOpened, opened_at, at_rect_head, at_data, painted_now, joined}
-use Rattle.rfb_viewer.proofs.GreetLemmas.{at_hello, none_quiet, greet_bad, greet_starves, screen_asks}
-use Rattle.rfb_viewer.proofs.LendLemmas.{unreasoned_at, hello_unreasoned}
+use Rattle.rfb_viewer.proofs.LendLemmas.{unreasoned_at}
 
 -- ---- a slice of which a part was taken before
 
-pub ends_later : (fault : ViewerFault) (old mid new : Viewer) (i : ℕ) (bytes : List ℕ) → ((viewing : Viewing) → FedBy (viewer viewing) (StandsFor viewing) old (take i bytes) None mid) → EndsIn fault mid (drop i bytes) new → KeepsPicture fault old bytes new
+pub ends_later : (fault : ViewerFault) (old mid new : Viewer) (i : ℕ) (bytes : List ℕ) →
+    ((viewing : Viewing) → FedBy (viewer viewing) (StandsFor viewing) old (take i bytes) None mid) →
+    EndsIn fault mid (drop i bytes) new → KeepsPicture fault old bytes new
 ends_later fault old mid new i bytes fed ends = λ viewing.
-    runs_out_later (viewer viewing) (viewer_machine viewing) (λ s front. EndsAt viewing fault (picture_of new) s front) (StandsFor viewing) old mid i bytes (fed viewing)
+    runs_out_later (viewer viewing) (viewer_machine viewing) (λ s front. EndsAt viewing fault (picture_of new) s front)
+    (StandsFor viewing) old mid i bytes (fed viewing)
     (λ s prefix stands.
     let r = ends viewing s prefix stands in
     record { items = []; front = r.0; later = r.1; reads = r.2; quiet = refl; asked = r.3 })
 
-none_later : (old mid new : Viewer) (i : ℕ) (bytes : List ℕ) → ((viewing : Viewing) → FedBy (viewer viewing) (StandsFor viewing) old (take i bytes) None mid) → KeepsNone mid new → KeepsNone old new
-none_later old mid new i bytes fed kept = λ viewing s prefix stands. let f = fed viewing s prefix stands in kept viewing f.0 f.1 f.2
+none_later : (old mid new : Viewer) (i : ℕ) (bytes : List ℕ) →
+    ((viewing : Viewing) → FedBy (viewer viewing) (StandsFor viewing) old (take i bytes) None mid) →
+    KeepsNone mid new → KeepsNone old new
+none_later old mid new i bytes fed kept = λ viewing s prefix stands. let f = fed viewing s prefix stands in
+    kept viewing f.0 f.1 f.2
 
-reason_later : (cause : Cause) (n : ℕ) (kept : KeptText) (old mid : Viewer) (i : ℕ) (bytes : List ℕ) → ((viewing : Viewing) → FedBy (viewer viewing) (StandsFor viewing) old (take i bytes) None mid) → LeadsToReason cause n kept mid (drop i bytes) → LeadsToReason cause n kept old bytes
+reason_later : (cause : Cause) (n : ℕ) (kept : KeptText) (old mid : Viewer) (i : ℕ) (bytes : List ℕ) →
+    ((viewing : Viewing) → FedBy (viewer viewing) (StandsFor viewing) old (take i bytes) None mid) →
+    LeadsToReason cause n kept mid (drop i bytes) → LeadsToReason cause n kept old bytes
 reason_later cause n kept old mid i bytes fed leads = λ viewing.
-    runs_out_later (viewer viewing) (viewer_machine viewing) (λ s front. IsReasonAt viewing.hello.text_limit cause n kept s.point front) (StandsFor viewing) old mid i bytes (fed viewing) (leads viewing)
+    runs_out_later (viewer viewing) (viewer_machine viewing) (λ s front. IsReasonAt viewing.hello.text_limit cause n
+    kept s.point front) (StandsFor viewing) old mid i bytes (fed viewing) (leads viewing)
 
-pub kept_later : (fault : ViewerFault) (old mid new : Viewer) (i : ℕ) (bytes : List ℕ) → ((viewing : Viewing) → FedBy (viewer viewing) (StandsFor viewing) old (take i bytes) None mid) → KeepsReason fault mid (drop i bytes) new → KeepsReason fault old bytes new
-kept_later (Refused n) old mid new i bytes fed kept = reason_later RefusedCause n (reason_in new.hello) old mid i bytes fed kept
-kept_later (SecurityFailed n) old mid new i bytes fed kept = reason_later FailedCause n (reason_in new.hello) old mid i bytes fed kept
+pub kept_later : (fault : ViewerFault) (old mid new : Viewer) (i : ℕ) (bytes : List ℕ) →
+    ((viewing : Viewing) → FedBy (viewer viewing) (StandsFor viewing) old (take i bytes) None mid) →
+    KeepsReason fault mid (drop i bytes) new → KeepsReason fault old bytes new
+kept_later (Refused n) old mid new i bytes fed kept =
+    reason_later RefusedCause n (reason_in new.hello) old mid i bytes fed kept
+kept_later (SecurityFailed n) old mid new i bytes fed kept =
+    reason_later FailedCause n (reason_in new.hello) old mid i bytes fed kept
 kept_later fault old mid new i bytes fed kept = none_later old mid new i bytes fed kept
 
 offer_leads_later : (offered : Offered) (old mid : Viewer) (i : ℕ) (bytes : List ℕ) →
@@ -110,19 +111,24 @@ taken_later told old mid new i bytes fed same kept = kept ∙ same
 
 -- ---- no reason
 
-pub none_at : (old : Viewer) (hello : ViewerHello) → hello ≡ old.hello → (viewing : Viewing) (s : ViewerState) (prefix : List ℕ) → StandsFor viewing old s prefix → (reason_in hello).bytes ≡ []
+pub none_at : (old : Viewer) (hello : ViewerHello) →
+    hello ≡ old.hello → (viewing : Viewing) (s : ViewerState) (prefix : List ℕ) → StandsFor viewing old s prefix →
+    (reason_in hello).bytes ≡ []
 none_at old hello same viewing s prefix stands =
-    ap (λ (h : ViewerHello). (reason_in h).bytes) same ∙ ap (λ (k : KeptText). k.bytes) (unreasoned_at viewing old old.progress s.point s.picture prefix stands.progress_is)
+    ap (λ (h : ViewerHello). (reason_in h).bytes) same ∙ ap (λ (k : KeptText). k.bytes)
+    (unreasoned_at viewing old old.progress s.point s.picture prefix stands.progress_is)
 
 none_kept : (old new : Viewer) → new.hello ≡ old.hello → KeepsNone old new
 none_kept old new same = none_at old new.hello same
 
-pub wire_keeps : (fault : WireFault) (old new : Viewer) (bytes : List ℕ) → new.hello ≡ old.hello → KeepsReason (fault_of_wire fault) old bytes new
+pub wire_keeps : (fault : WireFault) (old new : Viewer) (bytes : List ℕ) → new.hello ≡ old.hello →
+    KeepsReason (fault_of_wire fault) old bytes new
 wire_keeps (WireMessage kind) old new bytes same = none_kept old new same
 wire_keeps (WireEncoding number) old new bytes same = none_kept old new same
 wire_keeps WireOutside old new bytes same = none_kept old new same
 
-pub paint_keeps : (fault : PaintFault) (old new : Viewer) (bytes : List ℕ) → new.hello ≡ old.hello → KeepsReason (fault_of_paint fault) old bytes new
+pub paint_keeps : (fault : PaintFault) (old new : Viewer) (bytes : List ℕ) → new.hello ≡ old.hello →
+    KeepsReason (fault_of_paint fault) old bytes new
 paint_keeps SubrectOutside old new bytes same = none_kept old new same
 paint_keeps NoBackground old new bytes same = none_kept old new same
 paint_keeps NoForeground old new bytes same = none_kept old new same
@@ -160,13 +166,17 @@ paint_other SourceOutside e = cc
 
 module _ (viewing : Viewing) (old after : Viewer) where
   -- a step that is refused has met a fault
-  step_bad : (s : ViewerState) (bytes : List ℕ) (next : Next FromServer ViewerFault) (fault : ViewerFault) → Steps (viewer viewing) (StandsFor viewing) after s bytes next (Err fault) → next ≡ Bad fault
+  step_bad : (s : ViewerState) (bytes : List ℕ) (next : Next FromServer ViewerFault) (fault : ViewerFault) →
+      Steps (viewer viewing) (StandsFor viewing) after s bytes next (Err fault) → next ≡ Bad fault
   step_bad s bytes More fault h = absurd h
   step_bad s bytes (Got item rest) fault h = absurd h
   step_bad s bytes (Bad other) fault h = ap (λ f. Bad f) (sym h)
 
   -- it ends at the bytes of a step
-  step_ends : (unit later bytes : List ℕ) (fault : ViewerFault) (stored : Option (Grid Colour)) → bytes ≡ unit ++ later → (fault ≡ NoMemory → ⊥) → StepsBy (viewer viewing) (StandsFor viewing) old unit (Err fault) after → ((s : ViewerState) (prefix : List ℕ) → StandsFor viewing old s prefix → ShowsLast s.point s.picture (prefix ++ unit) stored) → EndsHere viewing fault stored old bytes
+  step_ends : (unit later bytes : List ℕ) (fault : ViewerFault) (stored : Option (Grid Colour)) → bytes ≡ unit
+      ++ later → (fault ≡ NoMemory → ⊥) → StepsBy (viewer viewing) (StandsFor viewing) old unit (Err fault) after →
+      ((s : ViewerState) (prefix : List ℕ) → StandsFor viewing old s prefix →
+      ShowsLast s.point s.picture (prefix ++ unit) stored) → EndsHere viewing fault stored old bytes
   step_ends unit later bytes fault stored cut other steps shows s prefix stands = (
     prefix ++ unit,
     later,
@@ -178,46 +188,105 @@ module _ (viewing : Viewing) (old after : Viewer) where
     },
   )
 
-  pub head_ends : (part : ArrayVec ℕ) (n : ℕ) (bytes : List ℕ) (fault : WireFault) → old.progress ≡ Head part → StepsBy (viewer viewing) (StandsFor viewing) old (take n bytes) (Err (fault_of_wire fault)) after → EndsHere viewing (fault_of_wire fault) old.picture old bytes
+  pub head_ends : (part : ArrayVec ℕ) (n : ℕ) (bytes : List ℕ) (fault : WireFault) → old.progress ≡ Head part →
+      StepsBy (viewer viewing) (StandsFor viewing) old (take n bytes) (Err (fault_of_wire fault)) after →
+      EndsHere viewing (fault_of_wire fault) old.picture old bytes
   head_ends part n bytes fault was steps =
-      step_ends (take n bytes) (drop n bytes) bytes (fault_of_wire fault) old.picture (sym (take-append-drop n bytes)) (wire_other fault) steps (λ s prefix stands.
+      step_ends (take n bytes) (drop n bytes) bytes (fault_of_wire fault) old.picture (sym (take-append-drop n bytes))
+      (wire_other fault) steps (λ s prefix stands.
       let h = at_head viewing old part s.point s.picture prefix (here viewing old (Head part) s prefix was stands) in
       let left = h.2.left_is in
-      subst (λ (a : ServerAt). ShowsLast a s.picture (prefix ++ take n bytes) old.picture) (sym h.1) (inl (λ some. absurd (omega (arith, some, left)), h.3)))
+      subst (λ (a : ServerAt). ShowsLast a s.picture (prefix ++ take n bytes) old.picture) (sym h.1)
+      (inl (λ some. absurd (omega (arith, some, left)), h.3)))
 
-  pub rect_head_ends : (more : ℕ) (part : ArrayVec ℕ) (n : ℕ) (bytes whole : List ℕ) (fault : WireFault) (stored : Option (Grid Colour)) → stored ≡ old.picture → old.progress ≡ RectHead more part → whole ≡ part.items ++ take n bytes → length whole ≡ 12 → StepsBy (viewer viewing) (StandsFor viewing) old (take n bytes) (Err (fault_of_wire fault)) after → EndsHere viewing (fault_of_wire fault) stored old bytes
+  pub rect_head_ends : (more : ℕ) (part : ArrayVec ℕ) (n : ℕ)
+      (bytes whole : List ℕ) (fault : WireFault) (stored : Option (Grid Colour)) → stored ≡ old.picture →
+      old.progress ≡ RectHead more part → whole ≡ part.items ++ take n bytes → length whole ≡ 12 →
+      StepsBy (viewer viewing) (StandsFor viewing) old (take n bytes) (Err (fault_of_wire fault)) after →
+      EndsHere viewing (fault_of_wire fault) stored old bytes
   rect_head_ends more part n bytes whole fault stored same was is size steps =
-      step_ends (take n bytes) (drop n bytes) bytes (fault_of_wire fault) stored (sym (take-append-drop n bytes)) (wire_other fault) steps (λ s prefix stands.
-      let h = at_rect_head viewing old more part s.point s.picture prefix (here viewing old (RectHead more part) s prefix was stands) in
+      step_ends (take n bytes) (drop n bytes) bytes (fault_of_wire fault) stored (sym (take-append-drop n bytes))
+      (wire_other fault) steps (λ s prefix stands.
+      let h = at_rect_head viewing old more part s.point s.picture prefix
+      (here viewing old (RectHead more part) s prefix was stands) in
       let all : prefix ++ take n bytes ≡ whole = ap (λ (ys : List ℕ). ys ++ take n bytes) h.4 ∙ sym is in
       let twelve : length (prefix ++ take n bytes) ≡ 12 = ap length all ∙ size in
-      subst (λ (a : ServerAt). ShowsLast a s.picture (prefix ++ take n bytes) stored) (sym h.1) (inl (λ some. omega (arith, twelve), same ∙ h.3)))
+      subst (λ (a : ServerAt). ShowsLast a s.picture (prefix ++ take n bytes) stored) (sym h.1)
+      (inl (λ some. omega (arith, twelve), same ∙ h.3)))
 
   -- a painter's fault
-  refused_as : (painter : UnderWay) (k : Painting) (before : Grid Colour) (body unit : List ℕ) (fault : PaintFault) (now : Grid Colour) → painting painter ≡ k → IsRefused painter.form painter.rect (painting painter).encoding before body unit fault now → IsRefused k.form k.rect k.encoding before body unit fault now
-  refused_as painter k before body unit fault now is refused = subst (λ (j : Painting). IsRefused j.form j.rect j.encoding before body unit fault now) is refused
+  refused_as : (painter : UnderWay) (k : Painting) (before : Grid Colour) (body unit : List ℕ)
+      (fault : PaintFault) (now : Grid Colour) → painting painter ≡ k →
+      IsRefused painter.form painter.rect (painting painter).encoding before body unit fault now →
+      IsRefused k.form k.rect k.encoding before body unit fault now
+  refused_as painter k before body unit fault now is refused =
+      subst (λ (j : Painting). IsRefused j.form j.rect j.encoding before body unit fault now) is refused
 
-  pub opened_ends : (more : ℕ) (part : ArrayVec ℕ) (unit whole rest : List ℕ) (head : HeadOfRect) (picture now : Grid Colour) (painter : UnderWay) (fault : PaintFault) (bytes : List ℕ) → bytes ≡ unit ++ rest → IsOpened viewing old after more part unit whole head picture painter → Refuses painter picture rest now fault → StepsBy (viewer viewing) (StandsFor viewing) old (unit ++ rest) (Err (fault_of_paint fault)) after → EndsHere viewing (fault_of_paint fault) (Some now) old bytes
+  pub opened_ends : (more : ℕ) (part : ArrayVec ℕ) (unit whole rest : List ℕ) (head : HeadOfRect)
+      (picture now : Grid Colour) (painter : UnderWay) (fault : PaintFault) (bytes : List ℕ) → bytes ≡ unit ++ rest →
+      IsOpened viewing old after more part unit whole head picture painter → Refuses painter picture rest now fault →
+      StepsBy (viewer viewing) (StandsFor viewing) old (unit ++ rest) (Err (fault_of_paint fault)) after →
+      EndsHere viewing (fault_of_paint fault) (Some now) old bytes
   opened_ends more part unit whole rest head picture now painter fault bytes cut opened refuses steps =
-      step_ends (unit ++ rest) [] bytes (fault_of_paint fault) (Some now) (cut ∙ sym (append-nil (unit ++ rest))) (paint_other fault) steps (λ s prefix stands.
+      step_ends (unit ++ rest) [] bytes (fault_of_paint fault) (Some now) (cut ∙ sym (append-nil (unit ++ rest)))
+      (paint_other fault) steps (λ s prefix stands.
       let o = opened_at viewing old after s prefix more part unit whole head picture painter opened stands in
-      let refused = refused_as painter _ o.ready.screen [] rest fault now o.painting_is ((refuses o.ready.screen [] o.fresh).1) in
+      let refused =
+      refused_as painter _ o.ready.screen [] rest fault now o.painting_is ((refuses o.ready.screen [] o.fresh).1) in
       subst (λ (a : ServerAt). ShowsLast a s.picture (prefix ++ (unit ++ rest)) (Some now)) (sym o.at)
-      (inr (o.ready.screen, now, o.ready.picture_is, refl, record { head = head; front = whole; body = []; unit = rest; bytes_are = o.all rest; awaits = o.awaits; fault = fault; refused = refused })))
+      (inr (
+        o.ready.screen,
+        now,
+        o.ready.picture_is,
+        refl,
+        record {
+          head = head;
+          front = whole;
+          body = [];
+          unit = rest;
+          bytes_are = o.all rest;
+          awaits = o.awaits;
+          fault = fault;
+          refused = refused;
+        },
+      )))
 
-  pub paint_ends : (more : ℕ) (painter : UnderWay) (picture now : Grid Colour) (bytes : List ℕ) (fault : PaintFault) → old.progress ≡ Data more painter → old.picture ≡ Some picture → Refuses painter picture bytes now fault → StepsBy (viewer viewing) (StandsFor viewing) old bytes (Err (fault_of_paint fault)) after → EndsHere viewing (fault_of_paint fault) (Some now) old bytes
+  pub paint_ends : (more : ℕ) (painter : UnderWay) (picture now : Grid Colour) (bytes : List ℕ) (fault : PaintFault) →
+      old.progress ≡ Data more painter → old.picture ≡ Some picture → Refuses painter picture bytes now fault →
+      StepsBy (viewer viewing) (StandsFor viewing) old bytes (Err (fault_of_paint fault)) after →
+      EndsHere viewing (fault_of_paint fault) (Some now) old bytes
   paint_ends more painter picture now bytes fault was shown refuses steps =
-      step_ends bytes [] bytes (fault_of_paint fault) (Some now) (sym (append-nil bytes)) (paint_other fault) steps (λ s prefix stands.
-      let h = at_data viewing old more painter s.point s.picture prefix (here viewing old (Data more painter) s prefix was stands) in
+      step_ends bytes [] bytes (fault_of_paint fault) (Some now) (sym (append-nil bytes))
+      (paint_other fault) steps (λ s prefix stands.
+      let h = at_data viewing old more painter s.point s.picture prefix
+      (here viewing old (Data more painter) s prefix was stands) in
       let p = h.3 in
       let stood = painted_now viewing old after painter h.0 h.2.screen picture prefix shown p in
-      let refused = refused_as painter _ h.2.screen p.body bytes fault now p.painting_is ((refuses h.2.screen p.body stood).1) in
+      let refused =
+      refused_as painter _ h.2.screen p.body bytes fault now p.painting_is ((refuses h.2.screen p.body stood).1) in
       subst (λ (a : ServerAt). ShowsLast a s.picture (prefix ++ bytes) (Some now)) (sym h.1)
-      (inr (h.2.screen, now, h.2.picture_is, refl, record { head = p.head; front = p.front; body = p.body; unit = bytes; bytes_are = joined viewing old after prefix p.front p.body bytes p.prefix_is; awaits = p.awaits; fault = fault; refused = refused })))
+      (inr (
+        h.2.screen,
+        now,
+        h.2.picture_is,
+        refl,
+        record {
+          head = p.head;
+          front = p.front;
+          body = p.body;
+          unit = bytes;
+          bytes_are = joined viewing old after prefix p.front p.body bytes p.prefix_is;
+          awaits = p.awaits;
+          fault = fault;
+          refused = refused;
+        },
+      )))
 
 -- ---- want of memory after a head
 
-pub asked_ends : (viewing : Viewing) (old : Viewer) (part : ArrayVec ℕ) (bytes : List ℕ) → old.progress ≡ Head part → ((s : ViewerState) (prefix : List ℕ) → StandsFor viewing old s prefix → (front later : List ℕ) × (prefix ++ bytes ≡ front ++ later) × AsksMemory viewing s front) → EndsHere viewing NoMemory old.picture old bytes
+pub asked_ends : (viewing : Viewing) (old : Viewer) (part : ArrayVec ℕ) (bytes : List ℕ) → old.progress ≡ Head part →
+    ((s : ViewerState) (prefix : List ℕ) → StandsFor viewing old s prefix → (front later : List ℕ)
+    × (prefix ++ bytes ≡ front ++ later) × AsksMemory viewing s front) → EndsHere viewing NoMemory old.picture old bytes
 asked_ends viewing old part bytes was asks s prefix stands =
     let r = asks s prefix stands in
     let h = at_head viewing old part s.point s.picture prefix (here viewing old (Head part) s prefix was stands) in
@@ -228,12 +297,16 @@ asked_ends viewing old part bytes was asks s prefix stands =
       record {
         bad = λ other. absurd (other refl);
         asks = λ _. r.3;
-        shows = subst (λ (a : ServerAt). ShowsLast a s.picture r.0 old.picture) (sym h.1) (inl (λ some. absurd (omega (arith, some, left)), h.3));
+        shows = subst (λ (a : ServerAt). ShowsLast a s.picture r.0 old.picture) (sym h.1)
+            (inl (λ some. absurd (omega (arith, some, left)), h.3));
       },
     )
 
 -- and after the head of a text
-pub head_memory : (viewing : Viewing) (old : Viewer) (part : ArrayVec ℕ) (byte : ℕ) (bytes : List ℕ) (head : ServerHead) → old.progress ≡ Head part → take 1 bytes ≡ byte ∷ [] → ((begun : IsHeadBegun part.items) → SpellsServerHead head (part.items ++ byte ∷ [])) → AsksAfter head → EndsHere viewing NoMemory old.picture old bytes
+pub head_memory : (viewing : Viewing) (old : Viewer) (part : ArrayVec ℕ)
+    (byte : ℕ) (bytes : List ℕ) (head : ServerHead) → old.progress ≡ Head part → take 1 bytes ≡ byte ∷ [] →
+    ((begun : IsHeadBegun part.items) → SpellsServerHead head (part.items ++ byte ∷ [])) → AsksAfter head →
+    EndsHere viewing NoMemory old.picture old bytes
 head_memory viewing old part byte bytes (CutTextHead n) was one spelled asked =
     asked_ends viewing old part bytes was (λ s prefix stands.
     let r = head_asks viewing old old part byte bytes (CutTextHead n) was one spelled asked s prefix stands in
@@ -241,149 +314,3 @@ head_memory viewing old part byte bytes (CutTextHead n) was one spelled asked =
 head_memory viewing old part byte bytes (Update count) was one spelled asked = absurd asked
 head_memory viewing old part byte bytes (ColourMap first count) was one spelled asked = absurd asked
 head_memory viewing old part byte bytes BellHead was one spelled asked = absurd asked
-
--- ---- the handshake
-
-module _ (viewing : Viewing) (old : Viewer) where
-  -- bytes that lead its end somewhere lead the viewer there
-  hello_leads : (Asked : ServerPoint → List ℕ → Type 0) (bytes : List ℕ) → old.progress ≡ Handshake → RunsOutBy (viewer_end viewing.hello) Asked (HelloStandsFor viewing.hello) old.hello bytes → (s : ViewerState) (prefix : List ℕ) → StandsFor viewing old s prefix → (front later : List ℕ) × (point : ServerPoint) × (prefix ++ bytes ≡ front ++ later) × (s.point ≡ First point) × Asked point front
-  hello_leads Asked bytes was out s prefix stands =
-      let h = at_hello viewing old s.point s.picture prefix (here viewing old Handshake s prefix was stands) in
-      let r = out h.0 prefix h.2 in
-      let none = none_quiet viewing.hello h.0 (prefix ++ bytes) (r.front ++ r.later) r.items r.reads r.quiet in
-      let reads : prefix ++ bytes ≡ r.front ++ r.later = subst (λ (items : List ServerItem). ReadsAll (server_handshake viewing.hello.limit viewing.hello.max_places) h.0 (prefix ++ bytes) items (r.front ++ r.later)) none r.reads in
-      let asked : Asked h.0 r.front = subst (λ (items : List ServerItem). Asked (acts (viewer_end viewing.hello) h.0 items) r.front) none r.asked in
-      (r.front, r.later, h.0, reads, h.1, asked)
-
-  -- what is stored there is the picture
-  first_shown : (s : ViewerState) (prefix bytes : List ℕ) → old.progress ≡ Handshake → StandsFor viewing old s prefix → ShowsLast s.point s.picture bytes old.picture
-  first_shown s prefix bytes was stands =
-      let h = at_hello viewing old s.point s.picture prefix (here viewing old Handshake s prefix was stands) in
-      subst (λ (a : ServerAt). ShowsLast a s.picture bytes old.picture) (sym h.1) h.5
-
-  bad_ends : (bytes : List ℕ) (fault : HelloFault) → (fault_of_hello fault ≡ NoMemory → ⊥) → old.progress ≡ Handshake → RefusedBy (viewer_end viewing.hello) (HelloStandsFor viewing.hello) old.hello bytes fault → EndsHere viewing (fault_of_hello fault) old.picture old bytes
-  bad_ends bytes fault other was refused s prefix stands =
-      let r = greet_bad viewing old bytes fault was refused s prefix stands in (
-        prefix ++ bytes,
-        [],
-        sym (append-nil (prefix ++ bytes)),
-        record {
-          bad = λ _. ap (λ (ys : List ℕ). (server_bytes viewing.form viewing.hello).next s.point ys) r.reads ∙ r.bad;
-          asks = λ is. absurd (other is);
-          shows = first_shown s prefix (prefix ++ bytes) was stands;
-        },
-      )
-
-  memory_ends : (bytes : List ℕ) → old.progress ≡ Handshake → ((s : ViewerState) (prefix : List ℕ) → StandsFor viewing old s prefix → (front later : List ℕ) × (prefix ++ bytes ≡ front ++ later) × AsksMemory viewing s front) → EndsHere viewing NoMemory old.picture old bytes
-  memory_ends bytes was asks s prefix stands =
-      let r = asks s prefix stands in
-      (r.0, r.1, r.2, record { bad = λ other. absurd (other refl); asks = λ _. r.3; shows = first_shown s prefix r.0 was stands })
-
-  pub greet_ends : (bytes : List ℕ) (fault : HelloFault) → old.progress ≡ Handshake → (fault ≢ HelloMemory → RefusedBy (viewer_end viewing.hello) (HelloStandsFor viewing.hello) old.hello bytes fault) → (fault ≡ HelloMemory → RunsOutBy (viewer_end viewing.hello) (HelloAsks viewing.hello) (HelloStandsFor viewing.hello) old.hello bytes) → EndsHere viewing (fault_of_hello fault) old.picture old bytes
-  greet_ends bytes BadVersion was bad out = bad_ends bytes BadVersion (λ e. cc) was (bad (λ e. cc))
-  greet_ends bytes VersionTooHigh was bad out = bad_ends bytes VersionTooHigh (λ e. cc) was (bad (λ e. cc))
-  greet_ends bytes BadSecurityChoice was bad out = bad_ends bytes BadSecurityChoice (λ e. cc) was (bad (λ e. cc))
-  greet_ends bytes NoneNotOffered was bad out = bad_ends bytes NoneNotOffered (λ e. cc) was (bad (λ e. cc))
-  greet_ends bytes (HelloRefused n) was bad out = bad_ends bytes (HelloRefused n) (λ e. cc) was (bad (λ e. cc))
-  greet_ends bytes BadSecurityWord was bad out = bad_ends bytes BadSecurityWord (λ e. cc) was (bad (λ e. cc))
-  greet_ends bytes (HelloFailed n) was bad out = bad_ends bytes (HelloFailed n) (λ e. cc) was (bad (λ e. cc))
-  greet_ends bytes ScreenEmpty was bad out = bad_ends bytes ScreenEmpty (λ e. cc) was (bad (λ e. cc))
-  greet_ends bytes ScreenTooLarge was bad out = bad_ends bytes ScreenTooLarge (λ e. cc) was (bad (λ e. cc))
-  greet_ends bytes HelloMemory was bad out =
-      memory_ends bytes was (λ s prefix stands. let r = greet_starves viewing old bytes was (out refl) s prefix stands in (r.front, r.later, r.reads, r.asked))
-
-  -- no memory for a screen, where there was none
-  pub screen_ends : (bytes : List ℕ) (n : ℕ) (after : ViewerHello) (d : ViewerStep) → old.progress ≡ Handshake → old.picture ≡ None → FedBy (viewer_end viewing.hello) (HelloStandsFor viewing.hello) old.hello (take n bytes) (Some d) after → ((p : ServerPoint) (i : ServerItem) → handshake_tells viewing.hello p i ≡ Some d → IsScreenAt p None → (version : Version) × (width height name_length : ℕ) × (p ≡ AwaitsInit version) × (i ≡ ServerInit width height name_length)) → EndsHere viewing NoMemory old.picture old bytes
-  screen_ends bytes n after d was missing fed is =
-      memory_ends bytes was (λ s prefix stands. let r = screen_asks viewing old bytes n after d was missing fed is s prefix stands in (r.front, r.later, r.reads, r.asked))
-
--- ---- the reason of a handshake
-
-reason_leads : (old : Viewer) (cause : Cause) (n : ℕ) (kept : KeptText) (bytes : List ℕ) → old.progress ≡ Handshake → HelloLeads cause n kept old.hello bytes → LeadsToReason cause n kept old bytes
-reason_leads old cause n kept bytes was leads = λ viewing s prefix stands.
-    let r = hello_leads viewing old (IsReasonKept viewing.hello.text_limit cause n kept) bytes was (leads viewing.hello) s prefix stands in
-    record { items = []; front = r.0; later = r.1; reads = r.3; quiet = refl; asked = subst (λ (a : ServerAt). IsReasonAt viewing.hello.text_limit cause n kept a r.0) (sym r.4) r.5 }
-
-no_reason : (old new : Viewer) → reason_in new.hello ≡ no_text → KeepsNone old new
-no_reason old new none = λ viewing s prefix stands. ap (λ (k : KeptText). k.bytes) none
-
-pub greet_keeps : (fault : HelloFault) (old new : Viewer) (bytes : List ℕ) → old.progress ≡ Handshake → HelloKeeps fault old.hello bytes new.hello → KeepsReason (fault_of_hello fault) old bytes new
-greet_keeps BadVersion old new bytes was kept = no_reason old new kept
-greet_keeps VersionTooHigh old new bytes was kept = no_reason old new kept
-greet_keeps BadSecurityChoice old new bytes was kept = no_reason old new kept
-greet_keeps NoneNotOffered old new bytes was kept = no_reason old new kept
-greet_keeps (HelloRefused n) old new bytes was kept = reason_leads old RefusedCause n (reason_in new.hello) bytes was kept
-greet_keeps BadSecurityWord old new bytes was kept = no_reason old new kept
-greet_keeps (HelloFailed n) old new bytes was kept = reason_leads old FailedCause n (reason_in new.hello) bytes was kept
-greet_keeps ScreenEmpty old new bytes was kept = no_reason old new kept
-greet_keeps ScreenTooLarge old new bytes was kept = no_reason old new kept
-greet_keeps HelloMemory old new bytes was kept = no_reason old new kept
-
--- ---- the types of a handshake
-
-offer_leads : (old : Viewer) (offered : Offered) (bytes : List ℕ) → old.progress ≡ Handshake →
-    HelloOffers offered old.hello bytes → LeadsToOffer offered old bytes
-offer_leads old offered bytes was leads = λ viewing s prefix stands.
-    let r = hello_leads viewing old (IsOfferedIn offered) bytes was (leads viewing.hello) s prefix stands in
-    record {
-      items = [];
-      front = r.0;
-      later = r.1;
-      reads = r.3;
-      quiet = refl;
-      asked =
-          subst (λ (a : ServerAt). IsOfferedAt offered a r.0) (sym r.4) r.5;
-    }
-
-pub greet_offers : (fault : HelloFault) (old new : Viewer) (bytes : List ℕ) → old.progress ≡ Handshake →
-    HelloKeepsOffer fault old.hello bytes new.hello → KeepsOffer (fault_of_hello fault) old bytes new
-greet_offers BadVersion old new bytes was kept = kept
-greet_offers VersionTooHigh old new bytes was kept = kept
-greet_offers BadSecurityChoice old new bytes was kept = kept
-greet_offers NoneNotOffered old new bytes was kept = offer_leads old (offered_of new) bytes was kept
-greet_offers (HelloRefused n) old new bytes was kept = kept
-greet_offers BadSecurityWord old new bytes was kept = offer_leads old (offered_of new) bytes was kept
-greet_offers (HelloFailed n) old new bytes was kept = kept
-greet_offers ScreenEmpty old new bytes was kept = kept
-greet_offers ScreenTooLarge old new bytes was kept = kept
-greet_offers HelloMemory old new bytes was kept = kept
-
--- the answer of its end is the viewer's
-pub answer_offers : (old : Viewer) (after : ViewerHello) (bytes : List ℕ) (reply : ArrayVec ℕ) →
-    old.progress ≡ Handshake → HelloTakesOffer (Some (StepReply reply)) old.hello bytes after →
-    LeadsTo (λ viewing s front. IsOfferOn (offered_of old) (offered_in after) s.point front) old bytes
-answer_offers old after bytes reply was leads = λ viewing s prefix stands.
-    let r = hello_leads viewing old (IsOfferIn (offered_of old) (offered_in after)) bytes was
-    (leads viewing.hello) s prefix stands in
-    record {
-      items = [];
-      front = r.0;
-      later = r.1;
-      reads = r.3;
-      quiet = refl;
-      asked = subst (λ (a : ServerAt). IsOfferOn (offered_of old) (offered_in after) a r.0) (sym r.4) r.5;
-    }
-
--- an end that goes on has no reason
-pub fed_keeps : (old : Viewer) (after : ViewerHello) (bytes : List ℕ) (event : Option ViewerStep) → old.progress ≡ Handshake → ((setup : ViewerSetup) → FedBy (viewer_end setup) (HelloStandsFor setup) old.hello bytes event after) → (viewing : Viewing) (s : ViewerState) (prefix : List ℕ) → StandsFor viewing old s prefix → (reason_in after).bytes ≡ []
-fed_keeps old after bytes event was fed viewing s prefix stands =
-    let h = at_hello viewing old s.point s.picture prefix (here viewing old Handshake s prefix was stands) in
-    let f = fed viewing.hello h.0 prefix h.2 in
-    ap (λ (k : KeptText). k.bytes) (hello_unreasoned viewing.hello.text_limit after.progress f.0 f.1 f.2.progress_is)
-
--- an end that goes on has not failed
-pub open_going : (hello : ViewerHello) → is_open hello ≡ true → hello_fault hello ≡ None
-open_going hello e = by hello.progress e
-  where
-    by : (p : HelloProgress) → goes_on p ≡ true → hello_fault_in p ≡ None
-    by (VersionPart part) e = refl
-    by (Word part) e = refl
-    by (Count version) e = refl
-    by (Types version list) e = refl
-    by (ResultPart version part) e = refl
-    by (ReasonLength cause part) e = refl
-    by (Reason cause n more kept) e = refl
-    by (Init version part) e = refl
-    by (Name version width height n more kept) e = refl
-    by Done e = absurd cc
-    by (FailedPart fault kept) e = absurd cc

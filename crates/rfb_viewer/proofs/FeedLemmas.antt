@@ -17,7 +17,8 @@ use Rattle.rfb_hello.proofs.ViewerHelloLaws.{viewer_starts}
 use Rattle.rfb_viewer.specs.declared.fault.ViewerFault.{ViewerFault}
 use Rattle.rfb_viewer.specs.declared.viewer.Viewer.{Viewer}
 use Rattle.rfb_viewer.specs.declared.viewer.progress.Progress.{Progress}
-use Rattle.rfb_viewer.specs.declared.viewer.progress.Progress.TheVariants.{Handshake, Head, RectHead, Data, Colours, CutText, Failed}
+use Rattle.rfb_viewer.specs.declared.viewer.progress.Progress.TheVariants.{Handshake, Head, RectHead, Data, Colours}
+use Rattle.rfb_viewer.specs.declared.viewer.progress.Progress.TheVariants.{CutText, Failed}
 use Rattle.rfb_viewer.specs.Fault.{fault_of_hello, fault_of_update}
 use Rattle.rfb_viewer.specs.ServerBytes.{ServerAt, server_bytes}
 use Rattle.rfb_viewer.specs.Viewer.{Viewing, ViewerState, viewer}
@@ -30,15 +31,19 @@ pub second_waits : (viewing : Viewing) (q : UpdatePoint) (prefix : List ℕ) →
     (server_bytes viewing.form viewing.hello).next (Second q) prefix ≡ More
 second_waits viewing q prefix e = ap (λ (n : Next UpdateItem UpdateFault). named (λ j. Second j) fault_of_update n) e
 
-waits_at : (viewing : Viewing) (v : Viewer) (p : Progress) (at : ServerAt) (g : Option (Grid Colour)) (prefix : List ℕ) → ProgressStandsFor viewing v p at g prefix → (server_bytes viewing.form viewing.hello).next at prefix ≡ More
+waits_at : (viewing : Viewing) (v : Viewer) (p : Progress) (at : ServerAt) (g : Option (Grid Colour)) (prefix : List
+    ℕ) → ProgressStandsFor viewing v p at g prefix → (server_bytes viewing.form viewing.hello).next at prefix ≡ More
 waits_at viewing v Handshake (First point) g prefix h =
     let f = viewer_starts viewing.hello v.hello point prefix h.0 in
     let t = none_taken viewing.hello point f.0 prefix [] f.1 f.3 in
-    let waits : (server_handshake viewing.hello.limit viewing.hello.max_places).next point prefix ≡ More = subst (λ (ys : List ℕ). (server_handshake viewing.hello.limit viewing.hello.max_places).next point ys ≡ More) (append-nil prefix) t.2 in
+    let waits : (server_handshake viewing.hello.limit viewing.hello.max_places).next point prefix ≡ More =
+    subst (λ (ys : List ℕ). (server_handshake viewing.hello.limit viewing.hello.max_places).next point ys ≡ More)
+    (append-nil prefix) t.2 in
     ap (λ (n : Next ServerItem HelloFault). named (λ i. First i) fault_of_hello n) waits
 waits_at viewing v Handshake (Second q) g prefix h = absurd h
 waits_at viewing v (Head bytes) (First point) g prefix h = absurd h
-waits_at viewing v (Head bytes) (Second q) g prefix h = rw h.2 (second_waits viewing q bytes.items (message_waits q bytes.items h.0.left_is (begun_waits bytes.items h.3)))
+waits_at viewing v (Head bytes) (Second q) g prefix h =
+    rw h.2 (second_waits viewing q bytes.items (message_waits q bytes.items h.0.left_is (begun_waits bytes.items h.3)))
 waits_at viewing v (RectHead more head) (First point) g prefix h = absurd h
 waits_at viewing v (RectHead more head) (Second q) g prefix h =
     let left = h.0.left_is in
@@ -49,15 +54,18 @@ waits_at viewing v (Colours more) (First point) g prefix h = absurd h
 waits_at viewing v (Colours more) (Second q) g prefix h =
     let b = h.2 in
     let missing = b.missing in
-    rw b.prefix_is (second_waits viewing q (b.head ++ b.colours) (message_waits q (b.head ++ b.colours) h.0.left_is (colours_wait b.first b.count b.head b.colours b.head_is (omega (arith, missing)))))
+    rw b.prefix_is (second_waits viewing q (b.head ++ b.colours) (message_waits q (b.head ++ b.colours) h.0.left_is
+    (colours_wait b.first b.count b.head b.colours b.head_is (omega (arith, missing)))))
 waits_at viewing v (CutText n more kept) (First point) g prefix h = absurd h
 waits_at viewing v (CutText n more kept) (Second q) g prefix h =
     let b = h.2 in
     let missing = b.missing in
-    rw b.prefix_is (second_waits viewing q (b.head ++ b.text) (message_waits q (b.head ++ b.text) h.0.left_is (server_text_waits n b.head b.text b.head_is (omega (arith, missing)))))
+    rw b.prefix_is (second_waits viewing q (b.head ++ b.text) (message_waits q (b.head ++ b.text) h.0.left_is
+    (server_text_waits n b.head b.text b.head_is (omega (arith, missing)))))
 waits_at viewing v (Failed fault) at g prefix h = absurd h
 
-pub stands_waits : (viewing : Viewing) (v : Viewer) (s : ViewerState) (prefix : List ℕ) → StandsFor viewing v s prefix → (server_bytes viewing.form viewing.hello).next s.point prefix ≡ More
+pub stands_waits : (viewing : Viewing) (v : Viewer) (s : ViewerState) (prefix : List ℕ) → StandsFor viewing v s prefix →
+    (server_bytes viewing.form viewing.hello).next s.point prefix ≡ More
 stands_waits viewing v s prefix stands = waits_at viewing v v.progress s.point s.picture prefix stands.progress_is
 
 -- a call that is fed no bytes

@@ -1,13 +1,14 @@
--- What the handshake's end takes and refuses, a viewer does: each call of that is by bytes of one step.
-use Rattle.std.proofs.Common.{◌≡◌, ℕ, zero, suc, ◌<◌, inl, inr, true, false, List, [], ◌∷◌, ◌++◌, Option, Some, None, Ok, take, drop, if◌then◌else◌, refl, sym, subst, ◌∙◌, ap, arith, append-nil, append_assoc, take-append-drop}
+-- What the handshake's end takes, a viewer does: each call of that is by bytes of one step.
+use Rattle.std.proofs.Common.{◌≡◌, ℕ, zero, suc, ◌<◌, inl, inr, true, false, List, [], ◌∷◌, ◌++◌, Option, Some, None}
+use Rattle.std.proofs.Common.{Ok, if◌then◌else◌, refl, sym, subst, ◌∙◌, ap, arith}
 use Rattle.arrayvec.specs.ArrayVec.{ArrayVec}
 use Rattle.rfb_pixel.specs.declared.colour.Colour.{Colour}
 use Rattle.rfb_pixel.specs.Format.{PixelFormat}
 use Rattle.rfb_picture.specs.Grid.{Grid, uniform}
-use Rattle.rfb_wire.specs.stream.Reading.{Next, More, Got, Bad}
+use Rattle.rfb_wire.specs.stream.Reading.{Next, More, Got}
 use Rattle.rfb_wire.specs.stream.Parts.{named}
 use Rattle.rfb_wire.specs.stream.Sequel.{First, Second, turn, past_in}
-use Rattle.rfb_wire.specs.stream.End.{acts, EndsWith, Takes, FedBy, RefusedBy, RunsOutBy, Steps, StepsBy}
+use Rattle.rfb_wire.specs.stream.End.{acts, EndsWith, Takes, FedBy, Steps, StepsBy}
 use Rattle.rfb_wire.specs.stream.Grammar.{ReadsAll}
 use Rattle.rfb_wire.specs.stream.Both.{event_as}
 use Rattle.rfb_wire.specs.declared.encoding.Encoding.{Encoding}
@@ -16,23 +17,26 @@ use Rattle.rfb_codec.specs.UpdateStream.{UpdatePoint}
 use Rattle.rfb_hello.specs.declared.version.Version.{Version}
 use Rattle.rfb_hello.specs.declared.version.Version.TheVariants.{V33, V37, V38}
 use Rattle.rfb_hello.specs.declared.fault.HelloFault.{HelloFault}
-use Rattle.rfb_hello.specs.declared.fault.HelloFault.TheVariants.{BadVersion, VersionTooHigh, BadSecurityChoice, NoneNotOffered, Refused, BadSecurityWord, SecurityFailed, ScreenEmpty, ScreenTooLarge, NoMemory as HelloMemory}
 use Rattle.rfb_hello.specs.declared.step.ViewerStep.{ViewerStep}
 use Rattle.rfb_hello.specs.declared.step.ViewerStep.TheVariants.{Reply, Screen, Ready}
 use Rattle.rfb_hello.specs.declared.viewer_hello.ViewerHello.{ViewerHello}
 use Rattle.rfb_hello.specs.declared.viewer_hello.progress.Progress.{Progress as HelloProgress}
-use Rattle.rfb_hello.specs.declared.viewer_hello.progress.Progress.TheVariants.{Version as VersionPart, Word, Count, Types, Result as ResultPart, ReasonLength, Reason, Init, Name as NamePart, Done, Failed as HelloFailed}
+use Rattle.rfb_hello.specs.declared.viewer_hello.progress.Progress.TheVariants.{Version as VersionPart, Word, Count}
+use Rattle.rfb_hello.specs.declared.viewer_hello.progress.Progress.TheVariants.{Types, Result as ResultPart}
+use Rattle.rfb_hello.specs.declared.viewer_hello.progress.Progress.TheVariants.{ReasonLength, Reason, Init}
+use Rattle.rfb_hello.specs.declared.viewer_hello.progress.Progress.TheVariants.{Name as NamePart, Done}
+use Rattle.rfb_hello.specs.declared.viewer_hello.progress.Progress.TheVariants.{Failed as HelloFailed}
 use Rattle.rfb_hello.specs.KeptText.{KeptText, no_text}
-use Rattle.rfb_hello.specs.ServerHandshake.{ServerPoint, AwaitsVersion, AwaitsSecurity, AwaitsResult, AwaitsInit, AwaitsName, Begun, ServerItem, ProtocolVersion, SecurityNone, SecurityTypes, SecurityResult, ServerInit, Name, SpellsServerItem, past_server_item}
+use Rattle.rfb_hello.specs.ServerHandshake.{ServerPoint, AwaitsVersion, AwaitsSecurity, AwaitsResult, AwaitsInit}
+use Rattle.rfb_hello.specs.ServerHandshake.{AwaitsName, Begun, ServerItem, ProtocolVersion, SecurityNone, SecurityTypes}
+use Rattle.rfb_hello.specs.ServerHandshake.{SecurityResult, ServerInit, Name, SpellsServerItem, past_server_item}
 use Rattle.rfb_hello.specs.ServerReading.{server_handshake}
-use Rattle.rfb_hello.specs.ViewerEnd.{ViewerSetup, viewer_tells as handshake_tells, viewer_end, AsksMemory as HelloAsks}
+use Rattle.rfb_hello.specs.ViewerEnd.{ViewerSetup, viewer_tells as handshake_tells, viewer_end}
 use Rattle.rfb_hello.specs.ViewerProgress.{ProgressStandsFor as HelloProgressStandsFor, reason_in}
 use Rattle.rfb_hello.specs.ViewerStanding.{StandsFor as HelloStandsFor, setup_of, is_open, reason_of}
 use Rattle.rfb_hello.proofs.ServerStreamLaws.{server_handshake_spelled}
 use Rattle.rfb_hello.proofs.ToldOfLaws.{screen_at, viewer_ready_at}
 use Rattle.rfb_viewer.specs.declared.fault.ViewerFault.{ViewerFault}
-use Rattle.rfb_viewer.specs.declared.fault.ViewerFault.TheVariants.{NoMemory}
-use Rattle.rfb_viewer.specs.inside.Sound.{is_sound}
 use Rattle.rfb_viewer.specs.declared.viewer.Viewer.{Viewer}
 use Rattle.rfb_viewer.specs.declared.viewer.progress.Progress.{Progress}
 use Rattle.rfb_viewer.specs.declared.viewer.progress.Progress.TheVariants.{Handshake}
@@ -40,7 +44,8 @@ use Rattle.rfb_viewer.specs.Fault.{fault_of_hello}
 use Rattle.rfb_viewer.specs.ServerBytes.{ServerAt, FromServer, to_updates, first_between, server_two, server_bytes}
 use Rattle.rfb_viewer.specs.Messages.{ready_bytes}
 use Rattle.rfb_viewer.specs.Told.{ViewerTold, Reply as ReplyTold, Ready as ReadyTold, step_told}
-use Rattle.rfb_viewer.specs.Viewer.{Viewing, ViewerState, viewer, shows, told_at, picture_after, screen_after, ends_update, black, AsksInHandshake, AsksAt, AsksMemory}
+use Rattle.rfb_viewer.specs.Viewer.{Viewing, ViewerState, viewer, shows, told_at, picture_after, screen_after}
+use Rattle.rfb_viewer.specs.Viewer.{ends_update, black}
 use Rattle.rfb_viewer.specs.Progress.{ProgressStandsFor, Stores, IsScreenAt}
 use Rattle.rfb_viewer.specs.Standing.{StandsFor, is_outstanding}
 use Rattle.rfb_viewer.specs.inside.Steps.{at_message, screen_or}
@@ -48,7 +53,8 @@ use Rattle.rfb_viewer.proofs.MessageLemmas.{here}
 
 -- ---- each step of a handshake has an event
 
-told_always : (setup : ViewerSetup) (p : ServerPoint) (i : ServerItem) (bytes : List ℕ) → SpellsServerItem setup.max_places p i bytes → handshake_tells setup p i ≡ None → ⊥
+told_always : (setup : ViewerSetup) (p : ServerPoint) (i : ServerItem) (bytes : List ℕ) →
+    SpellsServerItem setup.max_places p i bytes → handshake_tells setup p i ≡ None → ⊥
 told_always setup AwaitsVersion (ProtocolVersion version) bytes s e = cc
 told_always setup (AwaitsSecurity V33) SecurityNone bytes s e = cc
 told_always setup (AwaitsSecurity V37) (SecurityTypes types) bytes s e = cc
@@ -58,36 +64,62 @@ told_always setup (AwaitsInit version) (ServerInit width height name_length) byt
 told_always setup (AwaitsName version width height name_length) (Name text) bytes s e = cc
 told_always setup p i bytes s e = s
 
-got_told : (setup : ViewerSetup) (p : ServerPoint) (i : ServerItem) (bytes rest : List ℕ) → (server_handshake setup.limit setup.max_places).next p bytes ≡ Got i rest → handshake_tells setup p i ≡ None → ⊥
+got_told : (setup : ViewerSetup) (p : ServerPoint) (i : ServerItem) (bytes rest : List ℕ) →
+    (server_handshake setup.limit setup.max_places).next p bytes ≡ Got i rest → handshake_tells setup p i ≡ None → ⊥
 got_told setup p i bytes rest e none =
     let found = ((server_handshake_spelled setup.limit setup.max_places).reads p).found bytes i rest e in
     told_always setup p i found.0 found.2 none
 
 -- so a call without an event took no step, and one with an event took one
-pub none_taken : (setup : ViewerSetup) (p v : ServerPoint) (prefix bytes rest : List ℕ) → Takes (viewer_end setup) p prefix bytes None v rest → (v ≡ p) × (rest ≡ prefix ++ bytes) × ((server_handshake setup.limit setup.max_places).next p (prefix ++ bytes) ≡ More)
+pub none_taken : (setup : ViewerSetup) (p v : ServerPoint) (prefix bytes rest : List ℕ) →
+    Takes (viewer_end setup) p prefix bytes None v rest → (v ≡ p) × (rest ≡ prefix ++ bytes)
+    × ((server_handshake setup.limit setup.max_places).next p (prefix ++ bytes) ≡ More)
 none_taken setup p v prefix bytes rest takes = by takes.items takes.reads takes.state takes.ends
   where
-    by : (items : List ServerItem) → ReadsAll (server_handshake setup.limit setup.max_places) p (prefix ++ bytes) items rest → v ≡ acts (viewer_end setup) p items → EndsWith (viewer_end setup) p items None → (v ≡ p) × (rest ≡ prefix ++ bytes) × ((server_handshake setup.limit setup.max_places).next p (prefix ++ bytes) ≡ More)
-    by [] reads state ends =
-        (state, sym reads, subst (λ (ys : List ℕ). (server_handshake setup.limit setup.max_places).next p ys ≡ More) (sym reads) (subst (λ (w : ServerPoint). (server_handshake setup.limit setup.max_places).next w rest ≡ More) state takes.partial))
+    by : (items : List ServerItem) →
+        ReadsAll (server_handshake setup.limit setup.max_places) p (prefix ++ bytes) items rest →
+        v ≡ acts (viewer_end setup) p items → EndsWith (viewer_end setup) p items None → (v ≡ p)
+        × (rest ≡ prefix ++ bytes) × ((server_handshake setup.limit setup.max_places).next p (prefix ++ bytes) ≡ More)
+    by [] reads state ends = (
+      state,
+      sym reads,
+      subst (λ (ys : List ℕ). (server_handshake setup.limit setup.max_places).next p ys ≡ More) (sym reads)
+          (subst (λ (w : ServerPoint). (server_handshake setup.limit setup.max_places).next w rest ≡ More)
+          state takes.partial),
+    )
     by (i ∷ []) reads state ends = absurd (got_told setup p i (prefix ++ bytes) reads.0 reads.1 ends)
     by (i ∷ j ∷ items) reads state ends = absurd (got_told setup p i (prefix ++ bytes) reads.0 reads.1 ends.0)
 
-pub some_taken : (setup : ViewerSetup) (p v : ServerPoint) (prefix bytes rest : List ℕ) (d : ViewerStep) → Takes (viewer_end setup) p prefix bytes (Some d) v rest → (i : ServerItem) × ((server_handshake setup.limit setup.max_places).next p (prefix ++ bytes) ≡ Got i []) × (handshake_tells setup p i ≡ Some d) × (v ≡ past_server_item setup.limit p i) × (rest ≡ [])
+pub some_taken : (setup : ViewerSetup) (p v : ServerPoint) (prefix bytes rest : List ℕ) (d : ViewerStep) →
+    Takes (viewer_end setup) p prefix bytes (Some d) v rest →
+    (i : ServerItem) × ((server_handshake setup.limit setup.max_places).next p (prefix ++ bytes) ≡ Got i [])
+    × (handshake_tells setup p i ≡ Some d) × (v ≡ past_server_item setup.limit p i) × (rest ≡ [])
 some_taken setup p v prefix bytes rest d takes = by takes.items takes.reads takes.state takes.ends
   where
-    by : (items : List ServerItem) → ReadsAll (server_handshake setup.limit setup.max_places) p (prefix ++ bytes) items rest → v ≡ acts (viewer_end setup) p items → EndsWith (viewer_end setup) p items (Some d) → (i : ServerItem) × ((server_handshake setup.limit setup.max_places).next p (prefix ++ bytes) ≡ Got i []) × (handshake_tells setup p i ≡ Some d) × (v ≡ past_server_item setup.limit p i) × (rest ≡ [])
+    by : (items : List ServerItem) →
+        ReadsAll (server_handshake setup.limit setup.max_places) p (prefix ++ bytes) items rest →
+        v ≡ acts (viewer_end setup) p items → EndsWith (viewer_end setup) p items (Some d) →
+        (i : ServerItem) × ((server_handshake setup.limit setup.max_places).next p (prefix ++ bytes) ≡ Got i [])
+        × (handshake_tells setup p i ≡ Some d) × (v ≡ past_server_item setup.limit p i) × (rest ≡ [])
     by [] reads state ends = absurd (no ends)
       where
         no : Some d ≡ None → ⊥
         no e = cc
     by (i ∷ []) reads state ends =
-        let none : reads.0 ≡ [] = reads.2 ∙ takes.whole in
-        (i, subst (λ (ys : List ℕ). (server_handshake setup.limit setup.max_places).next p (prefix ++ bytes) ≡ Got i ys) none reads.1, ends, state, takes.whole)
+        let none : reads.0 ≡ [] = reads.2 ∙ takes.whole in (
+          i,
+          subst (λ (ys : List ℕ). (server_handshake setup.limit setup.max_places).next p (prefix ++ bytes)
+              ≡ Got i ys) none reads.1,
+          ends,
+          state,
+          takes.whole,
+        )
     by (i ∷ j ∷ items) reads state ends = absurd (got_told setup p i (prefix ++ bytes) reads.0 reads.1 ends.0)
 
 -- items without an event are none
-pub none_quiet : (setup : ViewerSetup) (p : ServerPoint) (bytes rest : List ℕ) (items : List ServerItem) → ReadsAll (server_handshake setup.limit setup.max_places) p bytes items rest → EndsWith (viewer_end setup) p items None → items ≡ []
+pub none_quiet : (setup : ViewerSetup) (p : ServerPoint) (bytes rest : List ℕ) (items : List ServerItem) →
+    ReadsAll (server_handshake setup.limit setup.max_places) p bytes items rest →
+    EndsWith (viewer_end setup) p items None → items ≡ []
 none_quiet setup p bytes rest [] reads ends = refl
 none_quiet setup p bytes rest (i ∷ []) reads ends = absurd (got_told setup p i bytes reads.0 reads.1 ends)
 none_quiet setup p bytes rest (i ∷ j ∷ items) reads ends = absurd (got_told setup p i bytes reads.0 reads.1 ends.0)
@@ -95,7 +127,9 @@ none_quiet setup p bytes rest (i ∷ j ∷ items) reads ends = absurd (got_told 
 -- ---- points
 
 -- an answer leads on in the handshake, and makes no screen
-reply_keeps : (setup : ViewerSetup) (form : PixelFormat) (p : ServerPoint) (i : ServerItem) (g : Option (Grid Colour)) (r : ArrayVec ℕ) → handshake_tells setup p i ≡ Some (Reply r) → (to_updates form p i ≡ None) × (screen_after i g ≡ g) × (IsScreenAt p g → IsScreenAt (past_server_item setup.limit p i) g)
+reply_keeps : (setup : ViewerSetup) (form : PixelFormat) (p : ServerPoint) (i : ServerItem) (g : Option (Grid Colour))
+    (r : ArrayVec ℕ) → handshake_tells setup p i ≡ Some (Reply r) → (to_updates form p i ≡ None)
+    × (screen_after i g ≡ g) × (IsScreenAt p g → IsScreenAt (past_server_item setup.limit p i) g)
 reply_keeps setup form AwaitsVersion (ProtocolVersion version) g r e = (refl, refl, λ h. h)
 reply_keeps setup form (AwaitsSecurity V33) SecurityNone g r e = (refl, refl, λ h. h)
 reply_keeps setup form (AwaitsSecurity V37) SecurityNone g r e = (refl, refl, λ h. h)
@@ -110,7 +144,8 @@ reply_keeps setup form (AwaitsName version width height name_length) (Name text)
 reply_keeps setup form p i g r e = absurd cc
 
 -- an end that stands for a point keeps no reason
-none_kept : (limit : ℕ) (progress : HelloProgress) (p : ServerPoint) (prefix : List ℕ) → HelloProgressStandsFor limit progress p prefix → reason_in progress ≡ no_text
+none_kept : (limit : ℕ) (progress : HelloProgress) (p : ServerPoint) (prefix : List ℕ) →
+    HelloProgressStandsFor limit progress p prefix → reason_in progress ≡ no_text
 none_kept limit (VersionPart part) p prefix h = refl
 none_kept limit (Word part) p prefix h = refl
 none_kept limit (Count version) p prefix h = refl
@@ -123,13 +158,16 @@ none_kept limit (NamePart version width height n more kept) p prefix h = refl
 none_kept limit Done p prefix h = refl
 none_kept limit (HelloFailed fault kept) p prefix h = absurd h
 
-pub at_hello : (viewing : Viewing) (v : Viewer) (at : ServerAt) (g : Option (Grid Colour)) (prefix : List ℕ) → ProgressStandsFor viewing v Handshake at g prefix → (p : ServerPoint) × (at ≡ First p) × HelloStandsFor viewing.hello v.hello p prefix × (is_open v.hello ≡ true) × (v.format ≡ viewing.form) × Stores v g × IsScreenAt p g
+pub at_hello : (viewing : Viewing) (v : Viewer) (at : ServerAt) (g : Option (Grid Colour)) (prefix : List ℕ) →
+    ProgressStandsFor viewing v Handshake at g prefix → (p : ServerPoint) × (at ≡ First p) × HelloStandsFor
+    viewing.hello v.hello p prefix × (is_open v.hello ≡ true) × (v.format ≡ viewing.form) × Stores v g × IsScreenAt p g
 at_hello viewing v (First p) g prefix h = (p, refl, h.0, h.1, h.2, h.3, h.4)
 at_hello viewing v (Second q) g prefix h = absurd h
 
 -- ---- a viewer that is made of another in the handshake
 
-pub record IsGreeted (old new : Viewer) (after : ViewerHello) (progress : Progress) (picture : Option (Grid Colour)) : Type 0 where
+pub record IsGreeted (old new : Viewer) (after : ViewerHello) (progress : Progress)
+    (picture : Option (Grid Colour)) : Type 0 where
   pub hello : new.hello ≡ after
   pub setup : setup_of after ≡ setup_of old.hello
   pub form : new.format ≡ old.format
@@ -140,88 +178,144 @@ pub record IsGreeted (old new : Viewer) (after : ViewerHello) (progress : Progre
   pub picture_is : new.picture ≡ picture
 
 module _ (viewing : Viewing) (old new : Viewer) (after : ViewerHello) where
-  greeted_stands : (p : Progress) (g : Option (Grid Colour)) (s t : ViewerState) (prefix rest : List ℕ) → IsGreeted old new after p g → StandsFor viewing old s prefix → t.outstanding ≡ s.outstanding → ProgressStandsFor viewing new p t.point t.picture rest → StandsFor viewing new t rest
+  greeted_stands : (p : Progress) (g : Option (Grid Colour)) (s t : ViewerState) (prefix rest : List ℕ) →
+      IsGreeted old new after p g → StandsFor viewing old s prefix → t.outstanding ≡ s.outstanding →
+      ProgressStandsFor viewing new p t.point t.picture rest → StandsFor viewing new t rest
   greeted_stands p g s t prefix rest made stands out progress = record {
     setup_is = ap setup_of made.hello ∙ (made.setup ∙ stands.setup_is);
     limit_is = made.limit ∙ stands.limit_is;
     encodings_are = ap (λ e. e.items) made.encodings ∙ stands.encodings_are;
     outstanding_is = out ∙ (stands.outstanding_is ∙ ap is_outstanding (sym made.request));
-    progress_is = subst (λ (q : Progress). ProgressStandsFor viewing new q t.point t.picture rest) (sym made.progress_is) progress;
+    progress_is = subst (λ (q : Progress). ProgressStandsFor viewing new q t.point t.picture rest)
+        (sym made.progress_is) progress;
   }
 
-  next_is : (s : ViewerState) (p : ServerPoint) (bytes : List ℕ) (n : Next ServerItem HelloFault) → s.point ≡ First p → (server_handshake viewing.hello.limit viewing.hello.max_places).next p bytes ≡ n → (server_bytes viewing.form viewing.hello).next s.point bytes ≡ named (λ i. First i) fault_of_hello n
-  next_is s p bytes n at e = ap (λ (a : ServerAt). (server_bytes viewing.form viewing.hello).next a bytes) at ∙ ap (named (λ i. First i) fault_of_hello) e
+  next_is : (s : ViewerState) (p : ServerPoint) (bytes : List ℕ) (n : Next ServerItem HelloFault) →
+      s.point ≡ First p → (server_handshake viewing.hello.limit viewing.hello.max_places).next p bytes ≡ n →
+      (server_bytes viewing.form viewing.hello).next s.point bytes ≡ named (λ i. First i) fault_of_hello n
+  next_is s p bytes n at e = ap (λ (a : ServerAt). (server_bytes viewing.form viewing.hello).next a bytes)
+      at ∙ ap (named (λ i. First i) fault_of_hello) e
 
   -- more of a step has come
-  pub greet_more : (bytes : List ℕ) → old.progress ≡ Handshake → FedBy (viewer_end viewing.hello) (HelloStandsFor viewing.hello) old.hello bytes None after → is_open after ≡ true → IsGreeted old new after Handshake old.picture → StepsBy (viewer viewing) (StandsFor viewing) old bytes (Ok None) new
+  pub greet_more : (bytes : List ℕ) → old.progress ≡ Handshake →
+      FedBy (viewer_end viewing.hello) (HelloStandsFor viewing.hello) old.hello bytes None after →
+      is_open after ≡ true → IsGreeted old new after Handshake old.picture →
+      StepsBy (viewer viewing) (StandsFor viewing) old bytes (Ok None) new
   greet_more bytes was fed goes made s prefix stands =
       let h = at_hello viewing old s.point s.picture prefix (here viewing old Handshake s prefix was stands) in
       let f = fed h.0 prefix h.2 in
       let t = none_taken viewing.hello h.0 f.0 prefix bytes f.1 f.3 in
-      let stands' : HelloStandsFor viewing.hello after h.0 (prefix ++ bytes) = subst (λ (w : ServerPoint). HelloStandsFor viewing.hello after w (prefix ++ bytes)) t.0 (subst (λ (ys : List ℕ). HelloStandsFor viewing.hello after f.0 ys) t.1 f.2) in
-      let hello : HelloStandsFor viewing.hello new.hello h.0 (prefix ++ bytes) = subst (λ (v : ViewerHello). HelloStandsFor viewing.hello v h.0 (prefix ++ bytes)) (sym made.hello) stands' in
-      let now : StandsFor viewing new s (prefix ++ bytes) = greeted_stands Handshake old.picture s s prefix (prefix ++ bytes) made stands refl
-      (subst (λ (a : ServerAt). ProgressStandsFor viewing new Handshake a s.picture (prefix ++ bytes)) (sym h.1) (hello, ap is_open made.hello ∙ goes, made.form ∙ h.4, made.picture_is ∙ h.5, h.6)) in
-      subst (λ (n : Next FromServer ViewerFault). Steps (viewer viewing) (StandsFor viewing) new s (prefix ++ bytes) n (Ok None)) (sym (next_is s h.0 (prefix ++ bytes) More h.1 t.2)) (refl, now)
+      let stands' : HelloStandsFor viewing.hello after h.0 (prefix ++ bytes) =
+      subst (λ (w : ServerPoint). HelloStandsFor viewing.hello after w (prefix ++ bytes)) t.0
+      (subst (λ (ys : List ℕ). HelloStandsFor viewing.hello after f.0 ys) t.1 f.2) in
+      let hello : HelloStandsFor viewing.hello new.hello h.0 (prefix ++ bytes) =
+      subst (λ (v : ViewerHello). HelloStandsFor viewing.hello v h.0 (prefix ++ bytes)) (sym made.hello) stands' in
+      let now : StandsFor viewing new s (prefix ++ bytes) =
+      greeted_stands Handshake old.picture s s prefix (prefix ++ bytes) made stands refl
+      (subst (λ (a : ServerAt). ProgressStandsFor viewing new Handshake a s.picture (prefix ++ bytes)) (sym h.1)
+      (hello, ap is_open made.hello ∙ goes, made.form ∙ h.4, made.picture_is ∙ h.5, h.6)) in
+      subst (λ (n : Next FromServer ViewerFault). Steps (viewer viewing) (StandsFor viewing) new s (prefix ++ bytes) n
+      (Ok None)) (sym (next_is s h.0 (prefix ++ bytes) More h.1 t.2)) (refl, now)
 
   -- a step has come
-  greet_got : (bytes : List ℕ) (d : ViewerStep) (event : Option ViewerTold) → old.progress ≡ Handshake → FedBy (viewer_end viewing.hello) (HelloStandsFor viewing.hello) old.hello bytes (Some d) after →
-      ((s : ViewerState) (prefix : List ℕ) (p : ServerPoint) (i : ServerItem) → StandsFor viewing old s prefix → s.point ≡ First p → viewing.form ≡ old.format → Stores old s.picture → IsScreenAt p s.picture → handshake_tells viewing.hello p i ≡ Some d → HelloStandsFor viewing.hello after (past_server_item viewing.hello.limit p i) [] → (step_told (ready_bytes viewing.form viewing.encodings) d ≡ event) × StandsFor viewing new (shows viewing s (First i)) []) →
+  greet_got : (bytes : List ℕ) (d : ViewerStep) (event : Option ViewerTold) → old.progress ≡ Handshake →
+      FedBy (viewer_end viewing.hello) (HelloStandsFor viewing.hello) old.hello bytes (Some d) after →
+      ((s : ViewerState) (prefix : List ℕ) (p : ServerPoint) (i : ServerItem) →
+      StandsFor viewing old s prefix → s.point ≡ First p → viewing.form ≡ old.format → Stores old s.picture →
+      IsScreenAt p s.picture → handshake_tells viewing.hello p i ≡ Some d →
+      HelloStandsFor viewing.hello after (past_server_item viewing.hello.limit p i) [] →
+      (step_told (ready_bytes viewing.form viewing.encodings) d ≡ event)
+      × StandsFor viewing new (shows viewing s (First i)) []) →
       StepsBy (viewer viewing) (StandsFor viewing) old bytes (Ok event) new
   greet_got bytes d event was fed step s prefix stands =
       let h = at_hello viewing old s.point s.picture prefix (here viewing old Handshake s prefix was stands) in
       let f = fed h.0 prefix h.2 in
       let t = some_taken viewing.hello h.0 f.0 prefix bytes f.1 d f.3 in
-      let after_is : HelloStandsFor viewing.hello after (past_server_item viewing.hello.limit h.0 t.0) [] = subst (λ (w : ServerPoint). HelloStandsFor viewing.hello after w []) t.3 (subst (λ (ys : List ℕ). HelloStandsFor viewing.hello after f.0 ys) t.4 f.2) in
+      let after_is : HelloStandsFor viewing.hello after (past_server_item viewing.hello.limit h.0 t.0) [] =
+      subst (λ (w : ServerPoint). HelloStandsFor viewing.hello after w []) t.3
+      (subst (λ (ys : List ℕ). HelloStandsFor viewing.hello after f.0 ys) t.4 f.2) in
       let made = step s prefix h.0 t.0 stands h.1 (sym h.4) h.5 h.6 t.2 after_is in
-      let told : told_at viewing s.point (First t.0) ≡ event = ap (λ (a : ServerAt). told_at viewing a (First t.0)) h.1 ∙ (ap (event_as (step_told (ready_bytes viewing.form viewing.encodings))) t.2 ∙ made.0) in
-      subst (λ (n : Next FromServer ViewerFault). Steps (viewer viewing) (StandsFor viewing) new s (prefix ++ bytes) n (Ok event)) (sym (next_is s h.0 (prefix ++ bytes) (Got t.0 []) h.1 t.1)) (refl, told, made.1)
+      let told : told_at viewing s.point (First t.0) ≡ event = ap (λ (a : ServerAt). told_at viewing a (First t.0)) h.1
+      ∙ (ap (event_as (step_told (ready_bytes viewing.form viewing.encodings))) t.2 ∙ made.0) in
+      subst (λ (n : Next FromServer ViewerFault). Steps (viewer viewing) (StandsFor viewing) new s (prefix ++ bytes) n
+      (Ok event)) (sym (next_is s h.0 (prefix ++ bytes) (Got t.0 []) h.1 t.1)) (refl, told, made.1)
 
   -- the state after a step, by its parts
-  stands_later : (s : ViewerState) (prefix : List ℕ) (p : ServerPoint) (i : ServerItem) (to : ServerAt) (g : Option (Grid Colour)) (progress : Progress) (k : Option (Grid Colour)) → StandsFor viewing old s prefix → s.point ≡ First p → turn (to_updates viewing.form p i) (past_server_item viewing.hello.limit p i) ≡ to → screen_after i s.picture ≡ g → IsGreeted old new after progress k → ProgressStandsFor viewing new progress to g [] → StandsFor viewing new (shows viewing s (First i)) []
+  stands_later : (s : ViewerState) (prefix : List ℕ) (p : ServerPoint) (i : ServerItem) (to : ServerAt)
+      (g : Option (Grid Colour)) (progress : Progress) (k : Option (Grid Colour)) → StandsFor viewing old s prefix →
+      s.point ≡ First p → turn (to_updates viewing.form p i) (past_server_item viewing.hello.limit p i) ≡ to →
+      screen_after i s.picture ≡ g → IsGreeted old new after progress k →
+      ProgressStandsFor viewing new progress to g [] → StandsFor viewing new (shows viewing s (First i)) []
   stands_later s prefix p i to g progress k stands at point picture made now =
       let t = shows viewing s (First i) in
-      let point' : t.point ≡ to = ap (λ (a : ServerAt). past_in (server_two viewing.form viewing.hello) a (First i)) at ∙ point in
+      let point' : t.point ≡ to =
+      ap (λ (a : ServerAt). past_in (server_two viewing.form viewing.hello) a (First i)) at ∙ point in
       let picture' : t.picture ≡ g = ap (λ (a : ServerAt). picture_after a (First i) s.picture) at ∙ picture in
-      let out : t.outstanding ≡ s.outstanding = ap (λ (a : ServerAt). if ends_update a (First i) then false else s.outstanding) at in
+      let out : t.outstanding ≡ s.outstanding =
+      ap (λ (a : ServerAt). if ends_update a (First i) then false else s.outstanding) at in
       greeted_stands progress k s t prefix [] made stands out
-      (subst (λ (a : ServerAt). ProgressStandsFor viewing new progress a t.picture []) (sym point') (subst (λ (x : Option (Grid Colour)). ProgressStandsFor viewing new progress to x []) (sym picture') now))
+      (subst (λ (a : ServerAt). ProgressStandsFor viewing new progress a t.picture []) (sym point')
+      (subst (λ (x : Option (Grid Colour)). ProgressStandsFor viewing new progress to x []) (sym picture') now))
 
-  pub greet_reply : (bytes : List ℕ) (r : ArrayVec ℕ) → old.progress ≡ Handshake → FedBy (viewer_end viewing.hello) (HelloStandsFor viewing.hello) old.hello bytes (Some (Reply r)) after → is_open after ≡ true → IsGreeted old new after Handshake old.picture → StepsBy (viewer viewing) (StandsFor viewing) old bytes (Ok (Some (ReplyTold r.items))) new
+  pub greet_reply : (bytes : List ℕ) (r : ArrayVec ℕ) → old.progress ≡ Handshake →
+      FedBy (viewer_end viewing.hello) (HelloStandsFor viewing.hello) old.hello bytes (Some (Reply r)) after →
+      is_open after ≡ true → IsGreeted old new after Handshake old.picture →
+      StepsBy (viewer viewing) (StandsFor viewing) old bytes (Ok (Some (ReplyTold r.items))) new
   greet_reply bytes r was fed goes made =
-      greet_got bytes (Reply r) (Some (ReplyTold r.items)) was fed (λ s prefix p i stands at form stores screen told after_is.
+      greet_got bytes (Reply r) (Some (ReplyTold r.items)) was fed
+      (λ s prefix p i stands at form stores screen told after_is.
       let keeps = reply_keeps viewing.hello viewing.form p i s.picture r told in
-      let hello = subst (λ (v : ViewerHello). HelloStandsFor viewing.hello v (past_server_item viewing.hello.limit p i) []) (sym made.hello) after_is in (
+      let hello = subst (λ (v : ViewerHello). HelloStandsFor viewing.hello v (past_server_item viewing.hello.limit p i)
+      []) (sym made.hello) after_is in (
         refl,
-        stands_later s prefix p i (First (past_server_item viewing.hello.limit p i)) s.picture Handshake old.picture stands at
-            (ap (λ (over : Option UpdatePoint). turn over (past_server_item viewing.hello.limit p i)) keeps.0) keeps.1 made
+        stands_later s prefix p i (First (past_server_item viewing.hello.limit p i)) s.picture
+            Handshake old.picture stands at
+            (ap (λ (over : Option UpdatePoint). turn over (past_server_item viewing.hello.limit p i)) keeps.0) keeps.1
+            made
             (hello, ap is_open made.hello ∙ goes, made.form ∙ sym form, made.picture_is ∙ stores, keeps.2 screen),
       ))
 
-  pub greet_screen : (bytes : List ℕ) (width height : ℕ) → old.progress ≡ Handshake → FedBy (viewer_end viewing.hello) (HelloStandsFor viewing.hello) old.hello bytes (Some (Screen width height)) after → is_open after ≡ true → IsGreeted old new after Handshake (Some (screen_or width height old.picture)) → StepsBy (viewer viewing) (StandsFor viewing) old bytes (Ok None) new
+  pub greet_screen : (bytes : List ℕ) (width height : ℕ) → old.progress ≡ Handshake →
+      FedBy (viewer_end viewing.hello) (HelloStandsFor viewing.hello) old.hello bytes (Some (Screen width height))
+      after → is_open after ≡ true → IsGreeted old new after Handshake (Some (screen_or width height old.picture)) →
+      StepsBy (viewer viewing) (StandsFor viewing) old bytes (Ok None) new
   greet_screen bytes width height was fed goes made =
       greet_got bytes (Screen width height) None was fed (λ s prefix p i stands at form stores screen told after_is.
       let is = screen_at viewing.hello p i width height told in
       let none : s.picture ≡ None = subst (λ (w : ServerPoint). IsScreenAt w s.picture) is.at_point screen in
-      let shown : new.picture ≡ Some (uniform width height black) = made.picture_is ∙ ap (λ (g : Option (Grid Colour)). Some (screen_or width height g)) (stores ∙ none) in
-      let hello : HelloStandsFor viewing.hello new.hello (AwaitsName is.version width height is.name_length) [] = subst (λ (v : ViewerHello). HelloStandsFor viewing.hello v (AwaitsName is.version width height is.name_length) []) (sym made.hello) (subst (λ (w : ServerPoint). HelloStandsFor viewing.hello after w []) is.after after_is) in
-      let over : to_updates viewing.form p i ≡ None = ap (λ (w : ServerPoint). to_updates viewing.form w i) is.at_point ∙ (ap (λ (j : ServerItem). to_updates viewing.form (AwaitsInit is.version) j) is.item_is ∙ none_over is.version width height is.name_length is.named) in (
+      let shown : new.picture ≡ Some (uniform width height black) =
+      made.picture_is ∙ ap (λ (g : Option (Grid Colour)). Some (screen_or width height g)) (stores ∙ none) in
+      let hello : HelloStandsFor viewing.hello new.hello (AwaitsName is.version width height is.name_length) [] = subst
+      (λ (v : ViewerHello). HelloStandsFor viewing.hello v (AwaitsName is.version width height is.name_length) [])
+      (sym made.hello) (subst (λ (w : ServerPoint). HelloStandsFor viewing.hello after w []) is.after after_is) in
+      let over : to_updates viewing.form p i ≡ None = ap (λ (w : ServerPoint). to_updates viewing.form w i) is.at_point
+      ∙ (ap (λ (j : ServerItem). to_updates viewing.form (AwaitsInit is.version) j) is.item_is
+      ∙ none_over is.version width height is.name_length is.named) in (
         refl,
-        stands_later s prefix p i (First (AwaitsName is.version width height is.name_length)) (Some (uniform width height black)) Handshake (Some (screen_or width height old.picture)) stands at
-            (ap (λ (o : Option UpdatePoint). turn o (past_server_item viewing.hello.limit p i)) over ∙ ap (λ (w : ServerPoint). First w) is.after) (ap (λ (j : ServerItem). screen_after j s.picture) is.item_is) made
+        stands_later s prefix p i (First (AwaitsName is.version width height is.name_length))
+            (Some (uniform width height black)) Handshake (Some (screen_or width height old.picture)) stands at
+            (ap (λ (o : Option UpdatePoint). turn o (past_server_item viewing.hello.limit p i)) over
+            ∙ ap (λ (w : ServerPoint). First w) is.after)
+            (ap (λ (j : ServerItem). screen_after j s.picture) is.item_is) made
             (hello, ap is_open made.hello ∙ goes, made.form ∙ sym form, shown, refl),
       ))
     where
-      none_over : (version : Version) (w h n : ℕ) → 0 < n → to_updates viewing.form (AwaitsInit version) (ServerInit w h n) ≡ None
+      none_over : (version : Version) (w h n : ℕ) → 0 < n →
+          to_updates viewing.form (AwaitsInit version) (ServerInit w h n) ≡ None
       none_over version w h zero some = absurd (omega (arith, some))
       none_over version w h (suc n) some = refl
 
   -- the handshake is done
-  ready_at : (width height : ℕ) (version : Version) → IsGreeted old new after at_message (Some (screen_or width height old.picture)) → viewing.form ≡ old.format → HelloStandsFor viewing.hello after (Begun version width height) [] → is_open after ≡ false → Some (screen_or width height old.picture) ≡ Some (uniform width height black) → ProgressStandsFor viewing new at_message (Second (first_between viewing.form width height)) (Some (uniform width height black)) []
+  ready_at : (width height : ℕ) (version : Version) →
+      IsGreeted old new after at_message (Some (screen_or width height old.picture)) → viewing.form ≡ old.format →
+      HelloStandsFor viewing.hello after (Begun version width height) [] → is_open after ≡ false →
+      Some (screen_or width height old.picture) ≡ Some (uniform width height black) → ProgressStandsFor viewing new
+      at_message (Second (first_between viewing.form width height)) (Some (uniform width height black)) []
   ready_at width height version made form stands closed shown = (
     record {
       closed = ap is_open made.hello ∙ closed;
-      unreasoned = ap reason_of made.hello ∙ none_kept viewing.hello.text_limit after.progress (Begun version width height) [] stands.progress_is;
+      unreasoned = ap reason_of made.hello
+          ∙ none_kept viewing.hello.text_limit after.progress (Begun version width height) [] stands.progress_is;
       form_is = form ∙ sym made.form;
       left_is = refl;
       screen = uniform width height black;
@@ -255,107 +349,30 @@ module _ (viewing : Viewing) (old new : Viewer) (after : ViewerHello) where
         elim is.told_at [
           | inl one ↦
               let none : s.picture ≡ None = subst (λ (w : ServerPoint). IsScreenAt w s.picture) one.at_point screen in
-              let shown : Some (screen_or width height old.picture) ≡ Some (uniform width height black) = ap (λ (g : Option (Grid Colour)). Some (screen_or width height g)) (stores ∙ none) in
-              let item : i ≡ ServerInit width height 0 = one.item_is ∙ ap (λ (k : ℕ). ServerInit width height k) one.unnamed in
-              let over : to_updates viewing.form p i ≡ Some (first_between viewing.form width height) = ap (λ (w : ServerPoint). to_updates viewing.form w i) one.at_point ∙ ap (λ (j : ServerItem). to_updates viewing.form (AwaitsInit version) j) item in
-              stands_later s prefix p i (Second (first_between viewing.form width height)) (Some (uniform width height black)) at_message (Some (screen_or width height old.picture)) stands at
-              (ap (λ (o : Option UpdatePoint). turn o (past_server_item viewing.hello.limit p i)) over) (ap (λ (j : ServerItem). screen_after j s.picture) item) made (ready_at width height version made form hello closed shown)
+              let shown : Some (screen_or width height old.picture) ≡ Some (uniform width height black) =
+              ap (λ (g : Option (Grid Colour)). Some (screen_or width height g)) (stores ∙ none) in
+              let item : i ≡ ServerInit width height 0 =
+              one.item_is ∙ ap (λ (k : ℕ). ServerInit width height k) one.unnamed in
+              let over : to_updates viewing.form p i ≡ Some (first_between viewing.form width height) =
+              ap (λ (w : ServerPoint). to_updates viewing.form w i) one.at_point
+              ∙ ap (λ (j : ServerItem). to_updates viewing.form (AwaitsInit version) j) item in
+              stands_later s prefix p i (Second (first_between viewing.form width height))
+              (Some (uniform width height black)) at_message (Some (screen_or width height old.picture)) stands at
+              (ap (λ (o : Option UpdatePoint). turn o (past_server_item viewing.hello.limit p i))
+              over) (ap (λ (j : ServerItem). screen_after j s.picture) item) made
+              (ready_at width height version made form hello closed shown)
           | inr one ↦
-              let some : s.picture ≡ Some (uniform width height black) = subst (λ (w : ServerPoint). IsScreenAt w s.picture) one.at_point screen in
-              let shown : Some (screen_or width height old.picture) ≡ Some (uniform width height black) = ap (λ (g : Option (Grid Colour)). Some (screen_or width height g)) (stores ∙ some) in
-              let over : to_updates viewing.form p i ≡ Some (first_between viewing.form width height) = ap (λ (w : ServerPoint). to_updates viewing.form w i) one.at_point ∙ ap (λ (j : ServerItem). to_updates viewing.form (AwaitsName version width height name_length) j) one.item_is in
-              stands_later s prefix p i (Second (first_between viewing.form width height)) (Some (uniform width height black)) at_message (Some (screen_or width height old.picture)) stands at
-              (ap (λ (o : Option UpdatePoint). turn o (past_server_item viewing.hello.limit p i)) over) (ap (λ (j : ServerItem). screen_after j s.picture) one.item_is ∙ some) made (ready_at width height version made form hello closed shown)
+              let some : s.picture ≡ Some (uniform width height black) =
+              subst (λ (w : ServerPoint). IsScreenAt w s.picture) one.at_point screen in
+              let shown : Some (screen_or width height old.picture) ≡ Some (uniform width height black) =
+              ap (λ (g : Option (Grid Colour)). Some (screen_or width height g)) (stores ∙ some) in
+              let over : to_updates viewing.form p i ≡ Some (first_between viewing.form width height) =
+              ap (λ (w : ServerPoint). to_updates viewing.form w i) one.at_point ∙ ap (λ (j : ServerItem).
+              to_updates viewing.form (AwaitsName version width height name_length) j) one.item_is in
+              stands_later s prefix p i (Second (first_between viewing.form width height))
+              (Some (uniform width height black)) at_message (Some (screen_or width height old.picture)) stands at
+              (ap (λ (o : Option UpdatePoint). turn o (past_server_item viewing.hello.limit p i))
+              over) (ap (λ (j : ServerItem). screen_after j s.picture) one.item_is ∙ some) made
+              (ready_at width height version made form hello closed shown)
         ],
       ))
-
--- ---- refusals
-
-module _ (viewing : Viewing) (old : Viewer) where
-  abbrev pub greet_bad : (bytes : List ℕ) (fault : HelloFault) → old.progress ≡ Handshake → RefusedBy (viewer_end viewing.hello) (HelloStandsFor viewing.hello) old.hello bytes fault → RefusedBy (viewer viewing) (StandsFor viewing) old bytes (fault_of_hello fault)
-  greet_bad bytes fault was refused s prefix stands =
-      let h = at_hello viewing old s.point s.picture prefix (here viewing old Handshake s prefix was stands) in
-      let r = refused h.0 prefix h.2 in
-      let none = none_quiet viewing.hello h.0 (prefix ++ bytes) r.rest r.items r.reads r.quiet in
-      let reads : prefix ++ bytes ≡ r.rest = subst (λ (items : List ServerItem). ReadsAll (server_handshake viewing.hello.limit viewing.hello.max_places) h.0 (prefix ++ bytes) items r.rest) none r.reads in
-      let bad : (server_handshake viewing.hello.limit viewing.hello.max_places).next h.0 r.rest ≡ Bad fault = subst (λ (items : List ServerItem). (server_handshake viewing.hello.limit viewing.hello.max_places).next (acts (viewer_end viewing.hello) h.0 items) r.rest ≡ Bad fault) none r.bad in
-      record {
-        items = [];
-        rest = r.rest;
-        reads = reads;
-        quiet = refl;
-        bad = ap (λ (a : ServerAt). (server_bytes viewing.form viewing.hello).next a r.rest) h.1 ∙ ap (named (λ i. First i) fault_of_hello) bad;
-      }
-
-  pub asks_too : (p : ServerPoint) (bytes : List ℕ) → HelloAsks viewing.hello p bytes → AsksInHandshake viewing.hello p bytes
-  asks_too AwaitsVersion bytes a = a
-  asks_too (AwaitsSecurity version) bytes a = a
-  asks_too (AwaitsResult version) bytes a = a
-  asks_too (AwaitsInit version) bytes a = (a.0, a.1, a.2, a.3, a.4)
-  asks_too (AwaitsName version width height name_length) bytes a = a
-  asks_too (Begun version width height) bytes a = a
-
-  abbrev pub greet_starves : (bytes : List ℕ) → old.progress ≡ Handshake → RunsOutBy (viewer_end viewing.hello) (HelloAsks viewing.hello) (HelloStandsFor viewing.hello) old.hello bytes → RunsOutBy (viewer viewing) (AsksMemory viewing) (StandsFor viewing) old bytes
-  greet_starves bytes was out s prefix stands =
-      let h = at_hello viewing old s.point s.picture prefix (here viewing old Handshake s prefix was stands) in
-      let r = out h.0 prefix h.2 in
-      let none = none_quiet viewing.hello h.0 (prefix ++ bytes) (r.front ++ r.later) r.items r.reads r.quiet in
-      let reads : prefix ++ bytes ≡ r.front ++ r.later = subst (λ (items : List ServerItem). ReadsAll (server_handshake viewing.hello.limit viewing.hello.max_places) h.0 (prefix ++ bytes) items (r.front ++ r.later)) none r.reads in
-      let asked : HelloAsks viewing.hello h.0 r.front = subst (λ (items : List ServerItem). HelloAsks viewing.hello (acts (viewer_end viewing.hello) h.0 items) r.front) none r.asked in
-      record { items = []; front = r.front; later = r.later; reads = reads; quiet = refl; asked = subst (λ (a : ServerAt). AsksAt viewing.hello a r.front) (sym h.1) (asks_too h.0 r.front asked) }
-
-  -- no memory for a screen, where there was none
-  abbrev pub screen_asks : (bytes : List ℕ) (n : ℕ) (after : ViewerHello) (d : ViewerStep) → old.progress ≡ Handshake → old.picture ≡ None → FedBy (viewer_end viewing.hello) (HelloStandsFor viewing.hello) old.hello (take n bytes) (Some d) after → ((p : ServerPoint) (i : ServerItem) → handshake_tells viewing.hello p i ≡ Some d → IsScreenAt p None → (version : Version) × (width height name_length : ℕ) × (p ≡ AwaitsInit version) × (i ≡ ServerInit width height name_length)) → RunsOutBy (viewer viewing) (AsksMemory viewing) (StandsFor viewing) old bytes
-  screen_asks bytes n after d was missing fed is s prefix stands =
-      let h = at_hello viewing old s.point s.picture prefix (here viewing old Handshake s prefix was stands) in
-      let f = fed h.0 prefix h.2 in
-      let t = some_taken viewing.hello h.0 f.0 prefix (take n bytes) f.1 d f.3 in
-      let front = prefix ++ take n bytes in
-      let none : s.picture ≡ None = sym h.5 ∙ missing in
-      let i = is h.0 t.0 t.2 (subst (λ (g : Option (Grid Colour)). IsScreenAt h.0 g) none h.6) in
-      let found = ((server_handshake_spelled viewing.hello.limit viewing.hello.max_places).reads h.0).found front t.0 [] t.1 in
-      let spelled : SpellsServerItem viewing.hello.max_places h.0 t.0 front = subst (λ (ys : List ℕ). SpellsServerItem viewing.hello.max_places h.0 t.0 ys) (sym (append-nil found.0) ∙ sym found.1) found.2 in
-      let init : SpellsServerItem viewing.hello.max_places (AwaitsInit i.0) (ServerInit i.1 i.2 i.3) front = subst (λ (j : ServerItem). SpellsServerItem viewing.hello.max_places (AwaitsInit i.0) j front) i.5 (subst (λ (w : ServerPoint). SpellsServerItem viewing.hello.max_places w t.0 front) i.4 spelled) in
-      record {
-        items = [];
-        front = front;
-        later = drop n bytes;
-        reads = ap (λ (ys : List ℕ). prefix ++ ys) (sym (take-append-drop n bytes)) ∙ sym (append_assoc prefix (take n bytes) (drop n bytes));
-        quiet = refl;
-        asked = subst (λ (a : ServerAt). AsksAt viewing.hello a front) (sym (h.1 ∙ ap (λ (w : ServerPoint). First w) i.4)) (i.1, i.2, i.3, init.0, init.1);
-      }
-
--- the steps at which the screen is made
-pub screen_told : (setup : ViewerSetup) (width height : ℕ) (p : ServerPoint) (i : ServerItem) → handshake_tells setup p i ≡ Some (Screen width height) → IsScreenAt p None → (version : Version) × (w h n : ℕ) × (p ≡ AwaitsInit version) × (i ≡ ServerInit w h n)
-screen_told setup width height p i told screen =
-    let is = screen_at setup p i width height told in
-    (is.version, width, height, is.name_length, is.at_point, is.item_is)
-
-pub ready_told : (setup : ViewerSetup) (width height : ℕ) (version : Version) (name : KeptText) (name_length : ℕ) (p : ServerPoint) (i : ServerItem) → handshake_tells setup p i ≡ Some (Ready width height version name name_length) → IsScreenAt p None → (v : Version) × (w h n : ℕ) × (p ≡ AwaitsInit v) × (i ≡ ServerInit w h n)
-ready_told setup width height version name name_length p i told screen =
-    let is = viewer_ready_at setup p i width height version name name_length told in
-    elim is.told_at [
-      | inl one ↦ (version, width, height, name_length, one.at_point, one.item_is)
-      | inr one ↦
-          let there : IsScreenAt (AwaitsName version width height name_length) None = subst (λ (w : ServerPoint). IsScreenAt w None) one.at_point screen in
-          absurd (no_screen (uniform width height black) there)
-    ]
-  where
-    no_screen : (g : Grid Colour) → None ≡ Some g → ⊥
-    no_screen g e = cc
-
--- what holds of a viewer in the handshake
-pub still_open : (hello : ViewerHello) (p : Progress) (picture : Option (Grid Colour)) → p ≡ Handshake → is_sound hello p picture ≡ true → is_open hello ≡ true
-still_open hello p picture e sound = subst (λ (q : Progress). is_sound hello q picture ≡ true) e sound
-
-pub memory_of : (fault : HelloFault) → fault_of_hello fault ≡ NoMemory → fault ≡ HelloMemory
-memory_of BadVersion e = absurd cc
-memory_of VersionTooHigh e = absurd cc
-memory_of BadSecurityChoice e = absurd cc
-memory_of NoneNotOffered e = absurd cc
-memory_of (Refused n) e = absurd cc
-memory_of BadSecurityWord e = absurd cc
-memory_of (SecurityFailed n) e = absurd cc
-memory_of ScreenEmpty e = absurd cc
-memory_of ScreenTooLarge e = absurd cc
-memory_of HelloMemory e = refl

@@ -1,5 +1,6 @@
 -- The damage of rectangles is the least rectangle that holds them all.
-use Rattle.std.proofs.Common.{◌≡◌, ℕ, ◌+◌, ◌-◌, ◌<◌, ◌≤◌, ◌&&◌, nat_lt, Bool, true, false, List, [], ◌∷◌, ◌++◌, Option, Some, None, refl, arith}
+use Rattle.std.proofs.Common.{◌≡◌, ℕ, ◌+◌, ◌-◌, ◌<◌, ◌≤◌, ◌&&◌, nat_lt, Bool, true, false, List, [], ◌∷◌, ◌++◌, Option}
+use Rattle.std.proofs.Common.{Some, None, refl, arith}
 use Rattle.std.proofs.lemmas.Bool.Decides.{nat_tests}
 use Rattle.std.proofs.Math.Nat.{le-min, max-le, min-le_left, le-max_left}
 use Rattle.std.proofs.lemmas.List.Elements.{All-head, All-tail}
@@ -8,27 +9,32 @@ use Rattle.rfb_picture.specs.declared.rect.Rect.{Rect}
 use Rattle.rfb_picture.specs.Rect.{contains}
 use Rattle.rfb_picture.proofs.GridLaws.{contains_true}
 use Rattle.rfb_viewer.specs.declared.viewer.damage.Edges.{Edges}
-use Rattle.rfb_viewer.specs.Damage.{edges_of, rect_between, outermost, with_edges, joined, joined_all, rect_of_damage, holds, IsWithin}
+use Rattle.rfb_viewer.specs.Damage.{edges_of, rect_between, outermost, with_edges, joined, joined_all, rect_of_damage}
+use Rattle.rfb_viewer.specs.Damage.{holds, IsWithin}
 use Rattle.rfb_viewer.proofs.DamageLemmas.{inside, joined_holds}
 
 -- ---- it holds them all
 
 -- what is held stays held, and what is joined is held
-held_by : (d : Option Edges) (r : Rect) (x y : ℕ) (b : Bool) → holds (rect_of_damage (joined d r)) x y ≡ b → ((holds (rect_of_damage d) x y ≡ true) → b ≡ true) × ((contains r x y ≡ true) → b ≡ true)
+held_by : (d : Option Edges) (r : Rect) (x y : ℕ) (b : Bool) → holds (rect_of_damage (joined d r)) x y ≡ b →
+    ((holds (rect_of_damage d) x y ≡ true) → b ≡ true) × ((contains r x y ≡ true) → b ≡ true)
 held_by d r x y true e = (λ _. refl, λ _. refl)
 held_by d r x y false e =
     let h = joined_holds d r x y e in
     (λ was. absurd (let out = h.0 in cc), λ was. absurd (let out = h.1 in cc))
 
-stays_held : (d : Option Edges) (rects : List Rect) (x y : ℕ) → holds (rect_of_damage d) x y ≡ true → holds (rect_of_damage (joined_all d rects)) x y ≡ true
+stays_held : (d : Option Edges) (rects : List Rect) (x y : ℕ) → holds (rect_of_damage d) x y ≡ true →
+    holds (rect_of_damage (joined_all d rects)) x y ≡ true
 stays_held d [] x y h = h
 stays_held d (r ∷ rects) x y h = stays_held (joined d r) rects x y ((held_by d r x y _ refl).0 h)
 
-all_held : (d : Option Edges) (before after : List Rect) (r : Rect) (x y : ℕ) → contains r x y ≡ true → holds (rect_of_damage (joined_all d (before ++ r ∷ after))) x y ≡ true
+all_held : (d : Option Edges) (before after : List Rect) (r : Rect) (x y : ℕ) → contains r x y ≡ true →
+    holds (rect_of_damage (joined_all d (before ++ r ∷ after))) x y ≡ true
 all_held d [] after r x y h = stays_held (joined d r) after x y ((held_by d r x y _ refl).1 h)
 all_held d (first ∷ before) after r x y h = all_held (joined d first) before after r x y h
 
-pub damage_holds : (before after : List Rect) (r : Rect) (x y : ℕ) → contains r x y ≡ true → holds (rect_of_damage (joined_all None (before ++ r ∷ after))) x y ≡ true
+pub damage_holds : (before after : List Rect) (r : Rect) (x y : ℕ) → contains r x y ≡ true →
+    holds (rect_of_damage (joined_all None (before ++ r ∷ after))) x y ≡ true
 damage_holds before after r x y h = all_held None before after r x y h
 
 -- ---- and no more
@@ -49,8 +55,10 @@ Fits (Some e) outer = Bounded e outer
 -- the corners of a rectangle tell its edges
 bounded : (r outer : Rect) → 0 < r.w → 0 < r.h → IsWithin (Some r) outer → Bounded (edges_of r) outer
 bounded r outer wide high within =
-    let first = within r.x r.y (inside r r.x r.y (omega arith) (omega (arith, wide)) (omega arith) (omega (arith, high))) in
-    let last = within (r.x + r.w - 1) (r.y + r.h - 1) (inside r (r.x + r.w - 1) (r.y + r.h - 1) (omega (arith, wide)) (omega (arith, wide)) (omega (arith, high)) (omega (arith, high))) in
+    let first =
+    within r.x r.y (inside r r.x r.y (omega arith) (omega (arith, wide)) (omega arith) (omega (arith, high))) in
+    let last = within (r.x + r.w - 1) (r.y + r.h - 1) (inside r (r.x + r.w - 1) (r.y + r.h - 1) (omega (arith, wide))
+    (omega (arith, wide)) (omega (arith, high)) (omega (arith, high))) in
     let a = contains_true outer r.x r.y first in
     let b = contains_true outer (r.x + r.w - 1) (r.y + r.h - 1) last in
     record {
@@ -95,11 +103,15 @@ fits_within : (d : Option Edges) (outer : Rect) → Fits d outer → IsWithin (r
 fits_within None outer fits x y h = absurd cc
 fits_within (Some e) outer fits x y h =
     let c = contains_true (rect_between e) x y h in
-    inside outer x y (omega (arith, c.0, fits.left)) (omega (arith, c.0, c.1, fits.right, fits.columns)) (omega (arith, c.2, fits.top)) (omega (arith, c.2, c.3, fits.lower, fits.rows))
+    inside outer x y (omega (arith, c.0, fits.left)) (omega (arith, c.0, c.1, fits.right, fits.columns))
+    (omega (arith, c.2, fits.top)) (omega (arith, c.2, c.3, fits.lower, fits.rows))
 
-fits_all : (d : Option Edges) (rects : List Rect) (outer : Rect) → Fits d outer → All (λ r. IsWithin (Some r) outer) rects → Fits (joined_all d rects) outer
+fits_all : (d : Option Edges) (rects : List Rect) (outer : Rect) → Fits d outer →
+    All (λ r. IsWithin (Some r) outer) rects → Fits (joined_all d rects) outer
 fits_all d [] outer fits all = fits
-fits_all d (r ∷ rects) outer fits all = fits_all (joined d r) rects outer (fits_joined d r outer fits (All-head (λ k. IsWithin (Some k) outer) r rects all)) (All-tail (λ k. IsWithin (Some k) outer) r rects all)
+fits_all d (r ∷ rects) outer fits all = fits_all (joined d r) rects outer (fits_joined d r outer fits
+    (All-head (λ k. IsWithin (Some k) outer) r rects all)) (All-tail (λ k. IsWithin (Some k) outer) r rects all)
 
-pub damage_within : (rects : List Rect) (outer : Rect) → All (λ r. IsWithin (Some r) outer) rects → IsWithin (rect_of_damage (joined_all None rects)) outer
+pub damage_within : (rects : List Rect) (outer : Rect) → All (λ r. IsWithin (Some r) outer) rects →
+    IsWithin (rect_of_damage (joined_all None rects)) outer
 damage_within rects outer all = fits_within (joined_all None rects) outer (fits_all None rects outer tt all)

@@ -4,11 +4,13 @@ pub mod HeadLemmas
 pub mod MessageLemmas
 pub mod RectLemmas
 pub mod GreetLemmas
+pub mod GreetRefusalLemmas
 pub mod FeedLemmas
 pub mod SendingLaws
 pub mod CallLemmas
 pub mod LendLemmas
 pub mod FailLemmas
+pub mod FailGreetLemmas
 pub mod PlaceLemmas
 pub mod CountLemmas
 pub mod OutsideLemmas

@@ -34,20 +34,31 @@ number_spelled CopyRect = record { size = refl; number_is = refl }
 number_spelled Rre = record { size = refl; number_is = refl }
 number_spelled Hextile = record { size = refl; number_is = refl }
 
-numbers_spelled : (encodings : List Encoding) → Listed SpellsNumber (map (λ e. number_of e) encodings) (flat_map encoding_bytes encodings)
+numbers_spelled : (encodings : List Encoding) →
+    Listed SpellsNumber (map (λ e. number_of e) encodings) (flat_map encoding_bytes encodings)
 numbers_spelled [] = refl
-numbers_spelled (encoding ∷ encodings) = (encoding_bytes encoding, flat_map encoding_bytes encodings, refl, number_spelled encoding, numbers_spelled encodings)
+numbers_spelled (encoding ∷ encodings) = (
+  encoding_bytes encoding,
+  flat_map encoding_bytes encodings,
+  refl,
+  number_spelled encoding,
+  numbers_spelled encodings,
+)
 
 -- SetEncodings
-pub encodings_spelled : (encodings : List Encoding) → length encodings < 2 ^ 16 → SpellsEncodingsMessage (map (λ e. number_of e) encodings) (encodings_message encodings)
+pub encodings_spelled : (encodings : List Encoding) → length encodings < 2 ^ 16 →
+    SpellsEncodingsMessage (map (λ e. number_of e) encodings) (encodings_message encodings)
 encodings_spelled encodings few =
-    let count : length (map (λ e. number_of e) encodings) ≡ length encodings = length-map encodings (λ e. number_of e) in
-    let head : SpellsSetEncodings (length encodings) (client_head_bytes (SetEncodings (length encodings))) = record { size = refl; message_type = refl; number_is = big_number-reads_back 2 (length encodings) [] few } in
+    let count : length (map (λ e. number_of e) encodings) ≡ length encodings =
+    length-map encodings (λ e. number_of e) in
+    let head : SpellsSetEncodings (length encodings) (client_head_bytes (SetEncodings (length encodings))) =
+    record { size = refl; message_type = refl; number_is = big_number-reads_back 2 (length encodings) [] few } in
     record {
       head = client_head_bytes (SetEncodings (length encodings));
       list = flat_map encoding_bytes encodings;
       whole = refl;
-      head_is = subst (λ (n : ℕ). SpellsSetEncodings n (client_head_bytes (SetEncodings (length encodings)))) (sym count) head;
+      head_is = subst (λ (n : ℕ). SpellsSetEncodings n (client_head_bytes (SetEncodings (length encodings))))
+          (sym count) head;
       listed = numbers_spelled encodings;
     }
 

@@ -1,5 +1,6 @@
 -- Steps of a viewer after the handshake: each is by bytes of one item.
-use Rattle.std.proofs.Common.{◌≡◌, ℕ, zero, suc, ◌+◌, ◌==◌, Bool, false, List, [], ◌++◌, Option, Some, None, Ok, Err, if◌then◌else◌, refl, sym, subst, ◌∙◌, ap, arith}
+use Rattle.std.proofs.Common.{◌≡◌, ℕ, zero, suc, ◌+◌, ◌==◌, Bool, false, List, [], ◌++◌, Option, Some, None, Ok, Err}
+use Rattle.std.proofs.Common.{if◌then◌else◌, refl, sym, subst, ◌∙◌, ap, arith}
 use Rattle.std.proofs.lemmas.Bool.Decides.{nat_tests}
 use Rattle.rfb_pixel.specs.declared.colour.Colour.{Colour}
 use Rattle.rfb_picture.specs.Grid.{Grid}
@@ -25,7 +26,8 @@ use Rattle.rfb_viewer.specs.inside.Steps.{progress_past, told_past, request_past
 -- ---- a viewer that is made of another
 
 -- it has that progress, that request and that picture, and all else as it was
-pub record IsMade (old new : Viewer) (progress : Progress) (request : Request) (picture : Option (Grid Colour)) : Type 0 where
+pub record IsMade (old new : Viewer) (progress : Progress) (request : Request) (picture : Option (Grid Colour)) : Type
+    0 where
   pub hello : new.hello ≡ old.hello
   pub form : new.format ≡ old.format
   pub encodings : new.encodings ≡ old.encodings
@@ -35,17 +37,21 @@ pub record IsMade (old new : Viewer) (progress : Progress) (request : Request) (
   pub picture_is : new.picture ≡ picture
 
 module _ (viewing : Viewing) (old new : Viewer) where
-  pub made_stands : (p : Progress) (r : Request) (g : Option (Grid Colour)) (s t : ViewerState) (prefix rest : List ℕ) → IsMade old new p r g → StandsFor viewing old s prefix → t.outstanding ≡ is_outstanding r → ProgressStandsFor viewing new p t.point t.picture rest → StandsFor viewing new t rest
+  pub made_stands : (p : Progress) (r : Request) (g : Option (Grid Colour)) (s t : ViewerState) (prefix rest : List ℕ) →
+      IsMade old new p r g → StandsFor viewing old s prefix → t.outstanding ≡ is_outstanding r →
+      ProgressStandsFor viewing new p t.point t.picture rest → StandsFor viewing new t rest
   made_stands p r g s t prefix rest made stands out progress = record {
     setup_is = ap setup_of made.hello ∙ stands.setup_is;
     limit_is = made.limit ∙ stands.limit_is;
     encodings_are = ap (λ e. e.items) made.encodings ∙ stands.encodings_are;
     outstanding_is = out ∙ ap is_outstanding (sym made.request_is);
-    progress_is = subst (λ (q : Progress). ProgressStandsFor viewing new q t.point t.picture rest) (sym made.progress_is) progress;
+    progress_is = subst (λ (q : Progress). ProgressStandsFor viewing new q t.point t.picture rest)
+        (sym made.progress_is) progress;
   }
 
   -- the messages go on
-  abbrev pub ready_same : (p : Progress) (r : Request) (g picture : Option (Grid Colour)) (q : UpdatePoint) (left : ℕ) → IsMade old new p r g → IsReadyAt old q picture left → IsReadyAt new q picture left
+  abbrev pub ready_same : (p : Progress) (r : Request) (g picture : Option (Grid Colour)) (q : UpdatePoint) (left : ℕ) →
+      IsMade old new p r g → IsReadyAt old q picture left → IsReadyAt new q picture left
   ready_same p r g picture q left made ready = record {
     closed = ap is_open made.hello ∙ ready.closed;
     unreasoned = ap reason_of made.hello ∙ ready.unreasoned;
@@ -58,7 +64,10 @@ module _ (viewing : Viewing) (old new : Viewer) where
   }
 
   -- after an item with that effect
-  pub ready_past : (p : Progress) (r : Request) (g : Option (Grid Colour)) (picture : Option (Grid Colour)) (q : UpdatePoint) (n left : ℕ) (now : Grid Colour) → IsMade old new p r g → (ready : IsReadyAt old q picture n) → now.width ≡ ready.screen.width → now.height ≡ ready.screen.height → IsReadyAt new (record q { left = left }) (Some now) left
+  pub ready_past : (p : Progress) (r : Request) (g : Option (Grid Colour))
+      (picture : Option (Grid Colour)) (q : UpdatePoint) (n left : ℕ) (now : Grid Colour) → IsMade old new p r g →
+      (ready : IsReadyAt old q picture n) → now.width ≡ ready.screen.width → now.height ≡ ready.screen.height →
+      IsReadyAt new (record q { left = left }) (Some now) left
   ready_past p r g picture q n left now made ready wide high = record {
     closed = ap is_open made.hello ∙ ready.closed;
     unreasoned = ap reason_of made.hello ∙ ready.unreasoned;
@@ -72,40 +81,68 @@ module _ (viewing : Viewing) (old new : Viewer) where
 
   -- ---- the answers of a step
 
-  next_is : (s : ViewerState) (q : UpdatePoint) (bytes : List ℕ) (n : Next UpdateItem UpdateFault) → s.point ≡ Second q → update_stream.next q bytes ≡ n → (server_bytes viewing.form viewing.hello).next s.point bytes ≡ named (λ j. Second j) fault_of_update n
-  next_is s q bytes n at e = ap (λ (p : ServerAt). (server_bytes viewing.form viewing.hello).next p bytes) at ∙ ap (named (λ j. Second j) fault_of_update) e
+  next_is : (s : ViewerState) (q : UpdatePoint) (bytes : List ℕ) (n : Next UpdateItem UpdateFault) →
+      s.point ≡ Second q → update_stream.next q bytes ≡ n →
+      (server_bytes viewing.form viewing.hello).next s.point bytes ≡ named (λ j. Second j) fault_of_update n
+  next_is s q bytes n at e = ap (λ (p : ServerAt). (server_bytes viewing.form viewing.hello).next p bytes)
+      at ∙ ap (named (λ j. Second j) fault_of_update) e
 
-  pub more_step : (unit : List ℕ) → ((s : ViewerState) (prefix : List ℕ) → StandsFor viewing old s prefix → (q : UpdatePoint) × (s.point ≡ Second q) × (update_stream.next q (prefix ++ unit) ≡ More) × StandsFor viewing new s (prefix ++ unit)) → StepsBy (viewer viewing) (StandsFor viewing) old unit (Ok None) new
+  pub more_step : (unit : List ℕ) → ((s : ViewerState) (prefix : List ℕ) → StandsFor viewing old s prefix →
+      (q : UpdatePoint) × (s.point ≡ Second q) × (update_stream.next q (prefix ++ unit) ≡ More)
+      × StandsFor viewing new s (prefix ++ unit)) → StepsBy (viewer viewing) (StandsFor viewing) old unit (Ok None) new
   more_step unit step s prefix stands =
       let h = step s prefix stands in
-      subst (λ (n : Next FromServer ViewerFault). Steps (viewer viewing) (StandsFor viewing) new s (prefix ++ unit) n (Ok None)) (sym (next_is s h.0 (prefix ++ unit) More h.1 h.2)) (refl, h.3)
+      subst (λ (n : Next FromServer ViewerFault). Steps (viewer viewing) (StandsFor viewing) new s (prefix ++ unit) n
+      (Ok None)) (sym (next_is s h.0 (prefix ++ unit) More h.1 h.2)) (refl, h.3)
 
-  pub got_step : (unit : List ℕ) (event : Option ViewerTold) → ((s : ViewerState) (prefix : List ℕ) → StandsFor viewing old s prefix → (q : UpdatePoint) × (i : UpdateItem) × (s.point ≡ Second q) × (update_stream.next q (prefix ++ unit) ≡ Got i []) × (item_told viewing.hello.text_limit q i ≡ event) × StandsFor viewing new (shows viewing s (Second i)) []) → StepsBy (viewer viewing) (StandsFor viewing) old unit (Ok event) new
+  pub got_step : (unit : List ℕ) (event : Option ViewerTold) →
+      ((s : ViewerState) (prefix : List ℕ) → StandsFor viewing old s prefix →
+      (q : UpdatePoint) × (i : UpdateItem) × (s.point ≡ Second q) × (update_stream.next q (prefix ++ unit) ≡ Got i [])
+      × (item_told viewing.hello.text_limit q i ≡ event) × StandsFor viewing new (shows viewing s (Second i)) []) →
+      StepsBy (viewer viewing) (StandsFor viewing) old unit (Ok event) new
   got_step unit event step s prefix stands =
       let h = step s prefix stands in
       let told = ap (λ (p : ServerAt). told_at viewing p (Second h.1)) h.2 ∙ h.4 in
-      subst (λ (n : Next FromServer ViewerFault). Steps (viewer viewing) (StandsFor viewing) new s (prefix ++ unit) n (Ok event)) (sym (next_is s h.0 (prefix ++ unit) (Got h.1 []) h.2 h.3)) (refl, told, h.5)
+      subst (λ (n : Next FromServer ViewerFault). Steps (viewer viewing) (StandsFor viewing) new s (prefix ++ unit) n
+      (Ok event)) (sym (next_is s h.0 (prefix ++ unit) (Got h.1 []) h.2 h.3)) (refl, told, h.5)
 
-  pub bad_step : (unit : List ℕ) (fault : UpdateFault) → ((s : ViewerState) (prefix : List ℕ) → StandsFor viewing old s prefix → (q : UpdatePoint) × (s.point ≡ Second q) × (update_stream.next q (prefix ++ unit) ≡ Bad fault)) → StepsBy (viewer viewing) (StandsFor viewing) old unit (Err (fault_of_update fault)) new
+  pub bad_step : (unit : List ℕ) (fault : UpdateFault) →
+      ((s : ViewerState) (prefix : List ℕ) → StandsFor viewing old s prefix →
+      (q : UpdatePoint) × (s.point ≡ Second q) × (update_stream.next q (prefix ++ unit) ≡ Bad fault)) →
+      StepsBy (viewer viewing) (StandsFor viewing) old unit (Err (fault_of_update fault)) new
   bad_step unit fault step s prefix stands =
       let h = step s prefix stands in
-      subst (λ (n : Next FromServer ViewerFault). Steps (viewer viewing) (StandsFor viewing) new s (prefix ++ unit) n (Err (fault_of_update fault))) (sym (next_is s h.0 (prefix ++ unit) (Bad fault) h.1 h.2)) refl
+      subst (λ (n : Next FromServer ViewerFault). Steps (viewer viewing) (StandsFor viewing) new s (prefix ++ unit) n
+      (Err (fault_of_update fault))) (sym (next_is s h.0 (prefix ++ unit) (Bad fault) h.1 h.2)) refl
 
   -- ---- after an item
 
   -- a viewer that is made so stands for the state after the item
-  pub past_stands : (s : ViewerState) (prefix : List ℕ) (q : UpdatePoint) (i : UpdateItem) (n left : ℕ) (g : Grid Colour) (p : Progress) (r : Request) → StandsFor viewing old s prefix → s.point ≡ Second q → (ready : IsReadyAt old q s.picture n) → IsMade old new p r (Some g) → update_stream.past q i ≡ record q { left = left } → effect q i ready.screen ≡ g → g.width ≡ ready.screen.width → g.height ≡ ready.screen.height → (if is_last q i then false else s.outstanding) ≡ is_outstanding r → (IsReadyAt new (record q { left = left }) (Some g) left → ProgressStandsFor viewing new p (Second (record q { left = left })) (Some g) []) → StandsFor viewing new (shows viewing s (Second i)) []
+  pub past_stands : (s : ViewerState) (prefix : List ℕ) (q : UpdatePoint) (i : UpdateItem) (n left : ℕ)
+      (g : Grid Colour) (p : Progress) (r : Request) → StandsFor viewing old s prefix → s.point ≡ Second q →
+      (ready : IsReadyAt old q s.picture n) → IsMade old new p r (Some g) →
+      update_stream.past q i ≡ record q { left = left } → effect q i ready.screen ≡ g → g.width ≡ ready.screen.width →
+      g.height ≡ ready.screen.height → (if is_last q i then false else s.outstanding) ≡ is_outstanding r →
+      (IsReadyAt new (record q { left = left }) (Some g) left →
+      ProgressStandsFor viewing new p (Second (record q { left = left })) (Some g) []) →
+      StandsFor viewing new (shows viewing s (Second i)) []
   past_stands s prefix q i n left g p r stands at ready made past has wide high out progress =
       let t = shows viewing s (Second i) in
-      let point : t.point ≡ Second (record q { left = left }) = ap (λ (a : ServerAt). past_in (server_two viewing.form viewing.hello) a (Second i)) at ∙ ap (λ (a : UpdatePoint). Second a) past in
-      let picture : t.picture ≡ Some g = ap (λ (a : ServerAt). picture_after a (Second i) s.picture) at ∙ (ap (effect_on q i) ready.picture_is ∙ ap (λ (k : Grid Colour). Some k) has) in
-      let outstanding : t.outstanding ≡ is_outstanding r = ap (λ (a : ServerAt). if ends_update a (Second i) then false else s.outstanding) at ∙ out in
+      let point : t.point ≡ Second (record q { left = left }) = ap (λ (a : ServerAt).
+      past_in (server_two viewing.form viewing.hello) a (Second i)) at ∙ ap (λ (a : UpdatePoint). Second a) past in
+      let picture : t.picture ≡ Some g = ap (λ (a : ServerAt). picture_after a (Second i) s.picture)
+      at ∙ (ap (effect_on q i) ready.picture_is ∙ ap (λ (k : Grid Colour). Some k) has) in
+      let outstanding : t.outstanding ≡ is_outstanding r =
+      ap (λ (a : ServerAt). if ends_update a (Second i) then false else s.outstanding) at ∙ out in
       let now = progress (ready_past p r (Some g) s.picture q n left g made ready wide high) in
       made_stands p r (Some g) s t prefix [] made stands outstanding
-      (subst (λ (a : ServerAt). ProgressStandsFor viewing new p a t.picture []) (sym point) (subst (λ (k : Option (Grid Colour)). ProgressStandsFor viewing new p (Second (record q { left = left })) k []) (sym picture) now))
+      (subst (λ (a : ServerAt). ProgressStandsFor viewing new p a t.picture []) (sym point)
+      (subst (λ (k : Option (Grid Colour)). ProgressStandsFor viewing new p (Second (record q { left = left }))
+      k []) (sym picture) now))
 
   -- where `left` rectangles are left
-  pub past_progress : (left : ℕ) (q : UpdatePoint) (g : Grid Colour) → new.picture ≡ Some g → IsReadyAt new q (Some g) left → ProgressStandsFor viewing new (progress_past left) (Second q) (Some g) []
+  pub past_progress : (left : ℕ) (q : UpdatePoint) (g : Grid Colour) → new.picture ≡ Some g →
+      IsReadyAt new q (Some g) left → ProgressStandsFor viewing new (progress_past left) (Second q) (Some g) []
   past_progress zero q g stores ready = (ready, stores, refl, tt)
   past_progress (suc more) q g stores ready =
       let same : suc more ≡ more + 1 = omega arith in
@@ -113,7 +150,8 @@ module _ (viewing : Viewing) (old new : Viewer) where
 
 -- ---- the end of an update
 
-pub past_request : (left : ℕ) (r : Request) (outstanding last : Bool) → last ≡ (left == 0) → outstanding ≡ is_outstanding r → (if last then false else outstanding) ≡ is_outstanding (request_past left r)
+pub past_request : (left : ℕ) (r : Request) (outstanding last : Bool) → last ≡ (left == 0) →
+    outstanding ≡ is_outstanding r → (if last then false else outstanding) ≡ is_outstanding (request_past left r)
 past_request zero r outstanding last e is = rw e refl
 past_request (suc more) r outstanding last e is = let no : last ≡ false = e ∙ grind (arith, nat_tests) in rw no is
 

@@ -1,12 +1,14 @@
 -- What a step of a viewer promises, by what its bytes are of, and where it fails.
-use Rattle.std.proofs.Common.{◌≡◌, ℕ, zero, suc, ◌&&◌, not, Bool, true, false, List, ◌++◌, Option, Some, None, refl, sym, subst, ◌∙◌, ap}
+use Rattle.std.proofs.Common.{◌≡◌, ℕ, zero, suc, ◌&&◌, not, Bool, true, false, List, ◌++◌, Option, Some, None, refl}
+use Rattle.std.proofs.Common.{sym, subst, ◌∙◌, ap}
 use Rattle.arrayvec.specs.ArrayVec.{ArrayVec}
 use Rattle.rfb_pixel.specs.declared.colour.Colour.{Colour}
 use Rattle.rfb_picture.specs.declared.rect.Rect.{Rect}
 use Rattle.rfb_picture.specs.Grid.{Grid}
 use Rattle.rfb_wire.specs.declared.fault.WireFault.{WireFault}
 use Rattle.rfb_wire.specs.declared.server_head.ServerHead.{ServerHead}
-use Rattle.rfb_wire.specs.declared.server_head.ServerHead.TheVariants.{Update, ColourMap, Bell as BellHead, CutText as CutTextHead}
+use Rattle.rfb_wire.specs.declared.server_head.ServerHead.TheVariants.{Update, ColourMap, Bell as BellHead}
+use Rattle.rfb_wire.specs.declared.server_head.ServerHead.TheVariants.{CutText as CutTextHead}
 use Rattle.rfb_wire.specs.RectStream.{is_on_screen}
 use Rattle.rfb_codec.specs.declared.fault.PaintFault.{PaintFault}
 use Rattle.rfb_codec.specs.Stage.{is_ended}
@@ -47,9 +49,11 @@ after_going limit (CutTextHead zero) = refl
 after_going limit (CutTextHead (suc more)) = refl
 
 -- the data of a rectangle that is painted have not ended
-pub data_left : (v : Viewer) (more : ℕ) (painter : UnderWay) (picture : Grid Colour) → v.progress ≡ Data more painter → v.picture ≡ Some picture → is_ended painter.rect painter.stage ≡ false
+pub data_left : (v : Viewer) (more : ℕ) (painter : UnderWay) (picture : Grid Colour) → v.progress ≡ Data more painter →
+    v.picture ≡ Some picture → is_ended painter.rect painter.stage ≡ false
 data_left v more painter picture was shown =
-    right_of (is_on_screen picture.width picture.height painter.rect) (is_ended painter.rect painter.stage) (rw (was, shown) at v.sound)
+    right_of (is_on_screen picture.width picture.height painter.rect) (is_ended painter.rect painter.stage)
+    (rw (was, shown) at v.sound)
   where
     right_of : (a b : Bool) → (a && not b) ≡ true → b ≡ false
     right_of true true e = absurd cc
@@ -78,30 +82,37 @@ module _ (old new : Viewer) (bytes : List ℕ) where
   damages_at p was d = subst (λ (q : Progress). DamagesAt q old bytes new) (sym was) d
 
   -- a handshake that makes no screen
-  pub unmade_damages : old.progress ≡ Handshake → new.picture ≡ old.picture → ended_of new ≡ ended_of old → Damages old bytes new
+  pub unmade_damages : old.progress ≡ Handshake → new.picture ≡ old.picture →
+      ended_of new ≡ ended_of old → Damages old bytes new
   unmade_damages was shown same =
       damages_at Handshake was
-      (same ∙ sym (made_same old.picture (ended_of old)) ∙ ap (λ (g : Option (Grid Colour)). screen_made old.picture g (ended_of old)) (sym shown))
+      (same ∙ sym (made_same old.picture (ended_of old))
+      ∙ ap (λ (g : Option (Grid Colour)). screen_made old.picture g (ended_of old)) (sym shown))
 
-  kept_under : (r : Rect) (b : Option Rect) (ended : ended_of new ≡ ended_of old) → ended_of new ≡ ended_with (Some r) b (ended_of old)
+  kept_under : (r : Rect) (b : Option Rect) (ended : ended_of new ≡ ended_of old) →
+      ended_of new ≡ ended_with (Some r) b (ended_of old)
   kept_under r None ended = ended
   kept_under r (Some other) ended = ended
 
   -- a rectangle's head whose rectangle is under way now
-  pub begun_damages : (more : ℕ) (part : ArrayVec ℕ) (r : Rect) → old.progress ≡ RectHead more part → under_way new.progress ≡ Some r → ended_of new ≡ ended_of old → Damages old bytes new
+  pub begun_damages : (more : ℕ) (part : ArrayVec ℕ) (r : Rect) → old.progress ≡ RectHead more part →
+      under_way new.progress ≡ Some r → ended_of new ≡ ended_of old → Damages old bytes new
   begun_damages more part r was under same =
       damages_at (RectHead more part) was
       (kept_under r (begun_on old.picture (part.items ++ bytes)) same
-      ∙ ap (λ (now : Option Rect). ended_with now (begun_on old.picture (part.items ++ bytes)) (ended_of old)) (sym under))
+      ∙ ap (λ (now : Option Rect). ended_with now (begun_on old.picture (part.items ++ bytes)) (ended_of old))
+      (sym under))
 
   -- data of a rectangle that goes on
-  pub going_damages : (more : ℕ) (painter : UnderWay) (r : Rect) → old.progress ≡ Data more painter → under_way new.progress ≡ Some r → ended_of new ≡ ended_of old → Damages old bytes new
+  pub going_damages : (more : ℕ) (painter : UnderWay) (r : Rect) → old.progress ≡ Data more painter →
+      under_way new.progress ≡ Some r → ended_of new ≡ ended_of old → Damages old bytes new
   going_damages more painter r was under same =
       damages_at (Data more painter) was
       (same ∙ ap (λ (now : Option Rect). ended_with now (Some painter.rect) (ended_of old)) (sym under))
 
   -- data of a rectangle that is not under way any more
-  pub ended_damages : (more : ℕ) (painter : UnderWay) → old.progress ≡ Data more painter → under_way new.progress ≡ None → ended_of new ≡ joined (ended_of old) painter.rect → Damages old bytes new
+  pub ended_damages : (more : ℕ) (painter : UnderWay) → old.progress ≡ Data more painter →
+      under_way new.progress ≡ None → ended_of new ≡ joined (ended_of old) painter.rect → Damages old bytes new
   ended_damages more painter was none e =
       damages_at (Data more painter) was
       (e ∙ ap (λ (now : Option Rect). ended_with now (Some painter.rect) (ended_of old)) (sym none))

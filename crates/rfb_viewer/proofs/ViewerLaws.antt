@@ -14,18 +14,22 @@ use Rattle.rfb_hello.specs.ViewerEnd.{ViewerSetup}
 use Rattle.rfb_hello.proofs.ServerStreamLaws.{server_handshake_spelled}
 use Rattle.rfb_viewer.specs.declared.viewer.Viewer.{Viewer}
 use Rattle.rfb_viewer.specs.declared.viewer.progress.Progress.{Progress}
-use Rattle.rfb_viewer.specs.declared.viewer.progress.Progress.TheVariants.{Handshake, Head, RectHead, Data, Colours, CutText, Failed}
+use Rattle.rfb_viewer.specs.declared.viewer.progress.Progress.TheVariants.{Handshake, Head, RectHead, Data, Colours}
+use Rattle.rfb_viewer.specs.declared.viewer.progress.Progress.TheVariants.{CutText, Failed}
 use Rattle.rfb_viewer.specs.ServerBytes.{ServerAt, server_two, server_bytes, server_bytes_say}
 use Rattle.rfb_viewer.specs.Viewer.{Viewing, ViewerState, viewer}
 use Rattle.rfb_viewer.specs.Progress.{ProgressStandsFor, fault_in}
 use Rattle.rfb_viewer.specs.Standing.{StandsFor, fault_of}
 
-pub server_bytes_spelled : (form : PixelFormat) (setup : ViewerSetup) → IsSpelled (server_bytes form setup) (server_bytes_say form setup)
+pub server_bytes_spelled : (form : PixelFormat) (setup : ViewerSetup) →
+    IsSpelled (server_bytes form setup) (server_bytes_say form setup)
 server_bytes_spelled form setup =
-    sequel_spelled (server_two form setup) (server_item_says setup.max_places) update_says (server_handshake_spelled setup.limit setup.max_places) update_spelled
+    sequel_spelled (server_two form setup) (server_item_says setup.max_places) update_says
+    (server_handshake_spelled setup.limit setup.max_places) update_spelled
 
 pub server_bytes_laws : (form : PixelFormat) (setup : ViewerSetup) → IsGrammar (server_bytes form setup)
-server_bytes_laws form setup = spelled_grammar (server_bytes form setup) (server_bytes_say form setup) (server_bytes_spelled form setup)
+server_bytes_laws form setup =
+    spelled_grammar (server_bytes form setup) (server_bytes_say form setup) (server_bytes_spelled form setup)
 
 pub viewer_machine : (viewing : Viewing) → IsMachine (viewer viewing)
 viewer_machine viewing = record { laws = server_bytes_laws viewing.form viewing.hello; past = λ s i. refl }

@@ -1,5 +1,6 @@
 -- What changed of a viewer's picture: the least rectangle that holds the rectangles of updates.
-use Rattle.std.specs.Prelude.{◌≡◌, ℕ, zero, suc, ◌+◌, ◌-◌, ◌&&◌, nat_lt, min, max, Bool, true, false, List, [], ◌∷◌, Option, Some, None, if◌then◌else◌}
+use Rattle.std.specs.Prelude.{◌≡◌, ℕ, zero, suc, ◌+◌, ◌-◌, ◌&&◌, nat_lt, min, max, Bool, true, false, List, [], ◌∷◌}
+use Rattle.std.specs.Prelude.{Option, Some, None, if◌then◌else◌}
 use Rattle.rfb_pixel.specs.declared.colour.Colour.{Colour}
 use Rattle.rfb_picture.specs.declared.rect.Rect.{Rect}
 use Rattle.rfb_picture.specs.Rect.{rect, contains}
@@ -11,12 +12,14 @@ use Rattle.rfb_wire.specs.stream.Reading.{Next, More, Got, Bad}
 use Rattle.rfb_wire.specs.stream.Sequel.{First, Second}
 use Rattle.rfb_wire.specs.stream.End.{Machine, RunsOutBy}
 use Rattle.rfb_codec.specs.UpdateStream.{UpdatePoint, UpdateItem, Message, Rectangle}
-use Rattle.rfb_hello.specs.ServerHandshake.{ServerItem, ProtocolVersion, SecurityNone, SecurityTypes, SecurityResult, ServerInit, Name}
+use Rattle.rfb_hello.specs.ServerHandshake.{ServerItem, ProtocolVersion, SecurityNone, SecurityTypes, SecurityResult}
+use Rattle.rfb_hello.specs.ServerHandshake.{ServerInit, Name}
 use Rattle.rfb_viewer.specs.declared.fault.ViewerFault.{ViewerFault}
 use Rattle.rfb_viewer.specs.declared.viewer.Viewer.{Viewer}
 use Rattle.rfb_viewer.specs.declared.viewer.damage.Edges.{Edges}
 use Rattle.rfb_viewer.specs.declared.viewer.progress.Progress.{Progress}
-use Rattle.rfb_viewer.specs.declared.viewer.progress.Progress.TheVariants.{Handshake, Head, RectHead as RectHeadPart, Data, Colours, CutText, Failed}
+use Rattle.rfb_viewer.specs.declared.viewer.progress.Progress.TheVariants.{Handshake, Head, RectHead as RectHeadPart}
+use Rattle.rfb_viewer.specs.declared.viewer.progress.Progress.TheVariants.{Data, Colours, CutText, Failed}
 use Rattle.rfb_viewer.specs.ServerBytes.{ServerAt, FromServer, server_bytes}
 use Rattle.rfb_viewer.specs.Told.{ViewerTold}
 use Rattle.rfb_viewer.specs.Viewer.{Viewing, ViewerState, black, shows, viewer_tells}

@@ -13,7 +13,8 @@ use Rattle.rfb_codec.specs.Stage.{IsRefused}
 use Rattle.rfb_codec.specs.UpdateStream.{UpdatePoint}
 use Rattle.rfb_hello.specs.KeptText.{KeptText}
 use Rattle.rfb_hello.specs.declared.viewer_hello.progress.Cause.{Cause}
-use Rattle.rfb_hello.specs.declared.viewer_hello.progress.Cause.TheVariants.{Refused as RefusedCause, SecurityFailed as FailedCause}
+use Rattle.rfb_hello.specs.declared.viewer_hello.progress.Cause.TheVariants.{Refused as RefusedCause}
+use Rattle.rfb_hello.specs.declared.viewer_hello.progress.Cause.TheVariants.{SecurityFailed as FailedCause}
 use Rattle.rfb_hello.specs.ViewerStanding.{IsReasonKept, reason_of as reason_in}
 use Rattle.rfb_viewer.specs.declared.fault.ViewerFault.{ViewerFault}
 use Rattle.rfb_viewer.specs.declared.fault.ViewerFault.TheVariants.{Refused, SecurityFailed, NoMemory}

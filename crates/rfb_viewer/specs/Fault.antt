@@ -2,15 +2,29 @@
 -- viewer; and their numbers.
 use Rattle.std.specs.Prelude.{ℕ}
 use Rattle.rfb_wire.specs.declared.fault.WireFault.{WireFault}
-use Rattle.rfb_wire.specs.declared.fault.WireFault.TheVariants.{UnknownMessage as WireMessage, UnknownEncoding as WireEncoding, RectOutside as WireOutside}
+use Rattle.rfb_wire.specs.declared.fault.WireFault.TheVariants.{UnknownMessage as WireMessage}
+use Rattle.rfb_wire.specs.declared.fault.WireFault.TheVariants.{UnknownEncoding as WireEncoding}
+use Rattle.rfb_wire.specs.declared.fault.WireFault.TheVariants.{RectOutside as WireOutside}
 use Rattle.rfb_wire.specs.ServerMessage.{UnknownType}
 use Rattle.rfb_codec.specs.declared.fault.PaintFault.{PaintFault}
-use Rattle.rfb_codec.specs.declared.fault.PaintFault.TheVariants.{SubrectOutside as Subrect, NoBackground as Background, NoForeground as Foreground, BothColourBits as Both, SourceOutside as Source}
+use Rattle.rfb_codec.specs.declared.fault.PaintFault.TheVariants.{SubrectOutside as Subrect, NoBackground as Background}
+use Rattle.rfb_codec.specs.declared.fault.PaintFault.TheVariants.{NoForeground as Foreground, BothColourBits as Both}
+use Rattle.rfb_codec.specs.declared.fault.PaintFault.TheVariants.{SourceOutside as Source}
 use Rattle.rfb_codec.specs.UpdateStream.{UpdateFault, InMessage, InHead, InData}
 use Rattle.rfb_hello.specs.declared.fault.HelloFault.{HelloFault}
-use Rattle.rfb_hello.specs.declared.fault.HelloFault.TheVariants.{BadVersion as Version, VersionTooHigh as High, BadSecurityChoice as Choice, NoneNotOffered as NotOffered, Refused as Refusal, BadSecurityWord as Word, SecurityFailed as Failure, ScreenEmpty as Empty, ScreenTooLarge as Large, NoMemory as Memory}
+use Rattle.rfb_hello.specs.declared.fault.HelloFault.TheVariants.{BadVersion as Version, VersionTooHigh as High}
+use Rattle.rfb_hello.specs.declared.fault.HelloFault.TheVariants.{BadSecurityChoice as Choice}
+use Rattle.rfb_hello.specs.declared.fault.HelloFault.TheVariants.{NoneNotOffered as NotOffered, Refused as Refusal}
+use Rattle.rfb_hello.specs.declared.fault.HelloFault.TheVariants.{BadSecurityWord as Word, SecurityFailed as Failure}
+use Rattle.rfb_hello.specs.declared.fault.HelloFault.TheVariants.{ScreenEmpty as Empty, ScreenTooLarge as Large}
+use Rattle.rfb_hello.specs.declared.fault.HelloFault.TheVariants.{NoMemory as Memory}
 use Rattle.rfb_viewer.specs.declared.fault.ViewerFault.{ViewerFault}
-use Rattle.rfb_viewer.specs.declared.fault.ViewerFault.TheVariants.{UnknownMessage, UnknownEncoding, RectOutside, SubrectOutside, NoBackground, NoForeground, BothColourBits, SourceOutside, BadVersion, NoneNotOffered, Refused, BadSecurityWord, SecurityFailed, ScreenEmpty, ScreenTooLarge, NoMemory}
+use Rattle.rfb_viewer.specs.declared.fault.ViewerFault.TheVariants.{UnknownMessage, UnknownEncoding, RectOutside}
+use Rattle.rfb_viewer.specs.declared.fault.ViewerFault.TheVariants.{SubrectOutside, NoBackground, NoForeground}
+use Rattle.rfb_viewer.specs.declared.fault.ViewerFault.TheVariants.{BothColourBits, SourceOutside, BadVersion}
+use Rattle.rfb_viewer.specs.declared.fault.ViewerFault.TheVariants.{NoneNotOffered, Refused, BadSecurityWord}
+use Rattle.rfb_viewer.specs.declared.fault.ViewerFault.TheVariants.{SecurityFailed, ScreenEmpty, ScreenTooLarge}
+use Rattle.rfb_viewer.specs.declared.fault.ViewerFault.TheVariants.{NoMemory}
 
 -- of the handshake's faults the second and the third are a client's, and never come of a server's
 -- bytes

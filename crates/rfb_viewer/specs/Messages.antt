@@ -8,7 +8,8 @@ use Rattle.rfb_pixel.specs.Format.{PixelFormat}
 use Rattle.rfb_pixel.specs.Reading.{format_bytes}
 use Rattle.rfb_picture.specs.declared.rect.Rect.{Rect}
 use Rattle.rfb_wire.specs.declared.encoding.Encoding.{Encoding}
-use Rattle.rfb_wire.specs.declared.client_head.ClientHead.TheVariants.{SetPixelFormat, SetEncodings, Request, Key, Pointer, CutText}
+use Rattle.rfb_wire.specs.declared.client_head.ClientHead.TheVariants.{SetPixelFormat, SetEncodings, Request, Key}
+use Rattle.rfb_wire.specs.declared.client_head.ClientHead.TheVariants.{Pointer, CutText}
 use Rattle.rfb_wire.specs.Encoding.{number_of}
 use Rattle.rfb_wire.specs.ClientHead.{client_head_bytes}
 

@@ -10,12 +10,14 @@ use Rattle.rfb_codec.specs.UnderWay.{UnderWay, painting, StandsFor as PainterSta
 use Rattle.rfb_codec.specs.Painter.{painting_of, AwaitsData}
 use Rattle.rfb_codec.specs.UpdateStream.{UpdatePoint, update_stream}
 use Rattle.rfb_hello.specs.KeptText.{KeptText, no_text, kept_of}
-use Rattle.rfb_hello.specs.ServerHandshake.{ServerPoint, AwaitsVersion, AwaitsSecurity, AwaitsResult, AwaitsInit, AwaitsName, Begun}
+use Rattle.rfb_hello.specs.ServerHandshake.{ServerPoint, AwaitsVersion, AwaitsSecurity, AwaitsResult, AwaitsInit}
+use Rattle.rfb_hello.specs.ServerHandshake.{AwaitsName, Begun}
 use Rattle.rfb_hello.specs.ViewerStanding.{StandsFor as HelloStandsFor, is_open, reason_of}
 use Rattle.rfb_viewer.specs.declared.fault.ViewerFault.{ViewerFault}
 use Rattle.rfb_viewer.specs.declared.viewer.Viewer.{Viewer}
 use Rattle.rfb_viewer.specs.declared.viewer.progress.Progress.{Progress}
-use Rattle.rfb_viewer.specs.declared.viewer.progress.Progress.TheVariants.{Handshake, Head, RectHead as RectHeadPart, Data, Colours, CutText, Failed}
+use Rattle.rfb_viewer.specs.declared.viewer.progress.Progress.TheVariants.{Handshake, Head, RectHead as RectHeadPart}
+use Rattle.rfb_viewer.specs.declared.viewer.progress.Progress.TheVariants.{Data, Colours, CutText, Failed}
 use Rattle.rfb_viewer.specs.ServerBytes.{ServerAt}
 use Rattle.rfb_viewer.specs.Viewer.{Viewing, black}
 

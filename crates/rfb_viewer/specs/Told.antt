@@ -5,7 +5,10 @@ use Rattle.rfb_codec.specs.UpdateStream.{UpdatePoint, UpdateItem, Message, Recta
 use Rattle.rfb_hello.specs.declared.step.ViewerStep.{ViewerStep}
 use Rattle.rfb_hello.specs.declared.step.ViewerStep.TheVariants.{Reply as ReplyStep, Screen, Ready as ReadyStep}
 use Rattle.rfb_viewer.specs.declared.event.ViewerEvent.{ViewerEvent}
-use Rattle.rfb_viewer.specs.declared.event.ViewerEvent.TheVariants.{Reply as ReplyEvent, Ready as ReadyEvent, UpdateDone as UpdateDoneEvent, Bell as BellEvent, CutText as CutTextEvent, ColourMapSkipped as ColourMapSkippedEvent}
+use Rattle.rfb_viewer.specs.declared.event.ViewerEvent.TheVariants.{Reply as ReplyEvent, Ready as ReadyEvent}
+use Rattle.rfb_viewer.specs.declared.event.ViewerEvent.TheVariants.{UpdateDone as UpdateDoneEvent, Bell as BellEvent}
+use Rattle.rfb_viewer.specs.declared.event.ViewerEvent.TheVariants.{CutText as CutTextEvent}
+use Rattle.rfb_viewer.specs.declared.event.ViewerEvent.TheVariants.{ColourMapSkipped as ColourMapSkippedEvent}
 
 -- an answer that is to be sent; the last one, with the screen's size and as much of its name as is
 -- kept and how many bytes it has; the end of an update; a bell; a text, likewise; a colour map,

@@ -10,7 +10,9 @@ use Rattle.rfb_wire.specs.stream.Both.{event_as}
 use Rattle.rfb_wire.specs.stream.End.{Machine}
 use Rattle.rfb_codec.specs.UpdateStream.{UpdatePoint, UpdateItem}
 use Rattle.rfb_codec.specs.Effect.{effect}
-use Rattle.rfb_hello.specs.ServerHandshake.{ServerPoint, AwaitsVersion, AwaitsInit, ServerItem, ProtocolVersion, SecurityNone, SecurityTypes, SecurityResult, ServerInit, Name, SpellsServerInit, IsAdmitted}
+use Rattle.rfb_hello.specs.ServerHandshake.{ServerPoint, AwaitsVersion, AwaitsInit, ServerItem, ProtocolVersion}
+use Rattle.rfb_hello.specs.ServerHandshake.{SecurityNone, SecurityTypes, SecurityResult, ServerInit, Name}
+use Rattle.rfb_hello.specs.ServerHandshake.{SpellsServerInit, IsAdmitted}
 use Rattle.rfb_hello.specs.ViewerEnd.{ViewerSetup, viewer_tells as handshake_tells, AsksForReason}
 use Rattle.rfb_viewer.specs.declared.fault.ViewerFault.{ViewerFault}
 use Rattle.rfb_viewer.specs.ServerBytes.{ServerAt, FromServer, server_two, server_bytes}

@@ -1,6 +1,7 @@
 //! Laws of a server's stream and of a viewer's states, with nothing to run.
 
-ghost use Rattle.std.specs.Prelude.{◌≡◌, ℕ, ◌<◌, ◌^◌, true, List, ◌∷◌, ◌++◌, length, map, None, Some};
+ghost use Rattle.std.specs.Prelude.{◌≡◌, ℕ, ◌<◌, ◌^◌, true, List, ◌∷◌, ◌++◌, length, map, None};
+ghost use Rattle.std.specs.Prelude.{Some};
 ghost use Rattle.std.specs.List.{All};
 ghost use Rattle.rfb_pixel.specs.Format.{PixelFormat, IsFormat};
 ghost use Rattle.rfb_picture.specs.declared.rect.Rect.{Rect};

@@ -2,7 +2,8 @@
 
 ghost use Rattle.std.specs.Prelude.{◌≡◌, ◌∷◌, [], true};
 ghost use Rattle.rfb_hello.specs.declared.version.Version.TheVariants.{V38};
-ghost use Rattle.rfb_wire.specs.declared.encoding.Encoding.TheVariants.{Raw, CopyRect, Rre, Hextile};
+ghost use Rattle.rfb_wire.specs.declared.encoding.Encoding.TheVariants.{Raw, CopyRect, Rre};
+ghost use Rattle.rfb_wire.specs.declared.encoding.Encoding.TheVariants.{Hextile};
 
 use arrayvec::ArrayVec;
 use rfb_hello::Version;

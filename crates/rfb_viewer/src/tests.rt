@@ -1,6 +1,6 @@
 //! Tests of a viewer that is fed what servers send. Streams, answers and colours were worked out by
-//! hand from RFC 6143. Most tests are lists of steps, written as constants behind a `&`: a list that
-//! is made in a test's body takes several times as long to prove.
+//! hand from RFC 6143. Most tests are lists of steps, written as constants behind a `&`: a list
+//! that is made in a test's body takes several times as long to prove.
 
 mod calls;
 mod counted;

@@ -1,6 +1,7 @@
 //! A viewer: a picture, and how far the server's bytes have come.
 
-ghost use Rattle.std.specs.Prelude.{◌≡◌, ◌≢◌, ◌≤◌, ◌<◌, ℕ, List, [], length, take, true, IfOk, IfErr, None, Some};
+ghost use Rattle.std.specs.Prelude.{◌≡◌, ◌≢◌, ◌≤◌, ◌<◌, ℕ, List, [], length, take, true, IfOk};
+ghost use Rattle.std.specs.Prelude.{IfErr, None, Some};
 ghost use Rattle.rfb_viewer.specs.inside.Sound.{is_sound};
 
 mod after;

@@ -9,7 +9,8 @@ use Rattle.rfb_viewer.specs.declared.fault.ViewerFault.{ViewerFault}
 use Rattle.rfb_viewer.specs.declared.viewer.Viewer.{Viewer}
 use Rattle.rfb_viewer.specs.declared.viewer.damage.Edges.{Edges}
 use Rattle.rfb_viewer.specs.declared.viewer.progress.Progress.{Progress}
-use Rattle.rfb_viewer.specs.declared.viewer.progress.Progress.TheVariants.{Handshake, Head, RectHead as RectHeadPart, Data, Colours, CutText, Failed}
+use Rattle.rfb_viewer.specs.declared.viewer.progress.Progress.TheVariants.{Handshake, Head, RectHead as RectHeadPart}
+use Rattle.rfb_viewer.specs.declared.viewer.progress.Progress.TheVariants.{Data, Colours, CutText, Failed}
 use Rattle.rfb_viewer.specs.Damage.{joined, under_way, ended_of, damage_of, head_rect, holds, colour_at}
 use Rattle.rfb_viewer.specs.Failing.{EndsAt}
 use Rattle.rfb_viewer.specs.Standing.{StandsFor, picture_of}

@@ -4,10 +4,12 @@ use Rattle.std.specs.Prelude.{ℕ, zero, suc, ◌+◌, ◌*◌, ◌<◌, [], Opt
 use Rattle.rfb_pixel.specs.declared.colour.Colour.{Colour}
 use Rattle.rfb_picture.specs.Grid.{Grid, uniform}
 use Rattle.rfb_wire.specs.declared.server_head.ServerHead.{ServerHead}
-use Rattle.rfb_wire.specs.declared.server_head.ServerHead.TheVariants.{Update, ColourMap, Bell as BellHead, CutText as CutTextHead}
+use Rattle.rfb_wire.specs.declared.server_head.ServerHead.TheVariants.{Update, ColourMap, Bell as BellHead}
+use Rattle.rfb_wire.specs.declared.server_head.ServerHead.TheVariants.{CutText as CutTextHead}
 use Rattle.rfb_hello.specs.KeptText.{kept_of}
 use Rattle.rfb_viewer.specs.declared.viewer.progress.Progress.{Progress}
-use Rattle.rfb_viewer.specs.declared.viewer.progress.Progress.TheVariants.{Head, RectHead, Colours, CutText as CutTextPart}
+use Rattle.rfb_viewer.specs.declared.viewer.progress.Progress.TheVariants.{Head, RectHead, Colours}
+use Rattle.rfb_viewer.specs.declared.viewer.progress.Progress.TheVariants.{CutText as CutTextPart}
 use Rattle.rfb_viewer.specs.declared.viewer.progress.Request.{Request}
 use Rattle.rfb_viewer.specs.declared.viewer.progress.Request.TheVariants.{Answered}
 use Rattle.rfb_viewer.specs.Told.{ViewerTold, UpdateDone, Bell, CutText, ColourMapSkipped}

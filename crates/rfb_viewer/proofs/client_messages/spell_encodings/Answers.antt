@@ -14,9 +14,13 @@ use Rattle.rfb_viewer.proofs.client_messages.spell_encodings.Goals as goal
 pub returns-clause-spelled : goal.returns-clause-spelled
 returns-clause-spelled c =
     let encodings = c.args.encodings.now in
-    let all : take c.loop-encoding.encoding-index encodings ≡ encodings = take_all c.loop-encoding.encoding-index encodings c.loop-encoding-test.false in
-    let message : c.loop-encoding.message.items ≡ encodings_message encodings = c.loop-encoding.invariant.items ∙ ap (λ (es : List Encoding). client_head_bytes (SetEncodings (length encodings)) ++ flat_map encoding_bytes es) all in
-    subst (λ (bytes : List ℕ). SpellsEncodingsMessage (map (λ e. number_of e) encodings) bytes) (sym message) (encodings_spelled encodings (omega (arith, c.requires)))
+    let all : take c.loop-encoding.encoding-index encodings ≡ encodings =
+    take_all c.loop-encoding.encoding-index encodings c.loop-encoding-test.false in
+    let message : c.loop-encoding.message.items ≡ encodings_message encodings = c.loop-encoding.invariant.items
+    ∙ ap (λ (es : List Encoding). client_head_bytes (SetEncodings (length encodings))
+    ++ flat_map encoding_bytes es) all in
+    subst (λ (bytes : List ℕ). SpellsEncodingsMessage (map (λ e. number_of e) encodings) bytes) (sym message)
+    (encodings_spelled encodings (omega (arith, c.requires)))
 
 pub loop-encoding-preserved : goal.loop-encoding-preserved
 loop-encoding-preserved c = grind (arith, common_steps)

@@ -9,5 +9,16 @@ push-requires-in-More c =
     let pushed = ap length c.push.ensures.items in
     let joined = ap length c.append.ensures.items in
     let part = ap length c.as_slice.ensures.value in
-    let none = ap length c.new-whole.ensures in
-    (lit< tt, omega (arith, few, here, c.push.ensures.len, joined, part, none, length-append c.new-whole.result.items c.as_slice.result.now))
+    let none = ap length c.new-whole.ensures in (
+      lit< tt,
+      omega (
+        arith,
+        few,
+        here,
+        c.push.ensures.len,
+        joined,
+        part,
+        none,
+        length-append c.new-whole.result.items c.as_slice.result.now,
+      ),
+    )

@@ -7,16 +7,34 @@ use Rattle.rfb_viewer.proofs.viewer.Viewer.damage.Goals as goal
 
 pub returns-in-None-clause-told : goal.returns-in-None-clause-told
 returns-in-None-clause-told c = λ viewing s prefix stands.
-    ap rect_of_damage (sym c.in-None.is ∙ c.damage_now-damage.ensures) ∙ damage_is viewing c.args.self.now s prefix stands
+    ap rect_of_damage (sym c.in-None.is ∙ c.damage_now-damage.ensures)
+    ∙ damage_is viewing c.args.self.now s prefix stands
 
 pub returns-in-None-clause-stands : goal.returns-in-None-clause-stands
 returns-in-None-clause-stands c = λ viewing s prefix stands.
-    same_stands viewing c.args.self.now _ s prefix (record { hello = refl; form = refl; encodings = refl; limit = refl; progress_is = refl; request_is = refl; picture_is = refl }) stands
+    same_stands viewing c.args.self.now _ s prefix (record {
+      hello = refl;
+      form = refl;
+      encodings = refl;
+      limit = refl;
+      progress_is = refl;
+      request_is = refl;
+      picture_is = refl;
+    }) stands
 
 pub returns-in-Some-clause-told : goal.returns-in-Some-clause-told
 returns-in-Some-clause-told c = λ viewing s prefix stands.
-    ap (λ (r : Rect). Some r) c.rect.ensures ∙ ap rect_of_damage (sym c.in-Some.is ∙ c.damage_now-damage.ensures) ∙ damage_is viewing c.args.self.now s prefix stands
+    ap (λ (r : Rect). Some r) c.rect.ensures ∙ ap rect_of_damage (sym c.in-Some.is ∙ c.damage_now-damage.ensures)
+    ∙ damage_is viewing c.args.self.now s prefix stands
 
 pub returns-in-Some-clause-stands : goal.returns-in-Some-clause-stands
 returns-in-Some-clause-stands c = λ viewing s prefix stands.
-    same_stands viewing c.args.self.now _ s prefix (record { hello = refl; form = refl; encodings = refl; limit = refl; progress_is = refl; request_is = refl; picture_is = refl }) stands
+    same_stands viewing c.args.self.now _ s prefix (record {
+      hello = refl;
+      form = refl;
+      encodings = refl;
+      limit = refl;
+      progress_is = refl;
+      request_is = refl;
+      picture_is = refl;
+    }) stands

@@ -8,4 +8,5 @@ use Rattle.rfb_viewer.proofs.viewer.Viewer.picture.Goals as goal
 pub returns-clause-shows : goal.returns-clause-shows
 returns-clause-shows c = λ viewing s prefix now.
     let v = c.args.self.now in
-    subst (λ (g : Option (Grid Colour)). Shows s prefix g) (sym c.as_ref.ensures.value) (shows_at viewing v v.progress s.point s.picture prefix now.progress_is)
+    subst (λ (g : Option (Grid Colour)). Shows s prefix g) (sym c.as_ref.ensures.value)
+    (shows_at viewing v v.progress s.point s.picture prefix now.progress_is)

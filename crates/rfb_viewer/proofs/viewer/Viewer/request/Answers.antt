@@ -4,4 +4,12 @@ use Rattle.rfb_viewer.proofs.viewer.Viewer.request.Goals as goal
 
 pub returns-clause-stands : goal.returns-clause-stands
 returns-clause-stands c = λ viewing s prefix stands.
-    requested_stands viewing c.args.self.now _ s prefix (record { hello = refl; form = refl; encodings = refl; limit = refl; progress_is = refl; request_is = refl; picture_is = refl }) stands
+    requested_stands viewing c.args.self.now _ s prefix (record {
+      hello = refl;
+      form = refl;
+      encodings = refl;
+      limit = refl;
+      progress_is = refl;
+      request_is = refl;
+      picture_is = refl;
+    }) stands

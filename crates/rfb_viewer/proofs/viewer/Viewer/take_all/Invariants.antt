@@ -16,9 +16,11 @@ invariant-loop-used l = record {
   made : making_of l.self ≡ making_of l.fn.self;
   offered : offered_of l.self ≡ offered_of l.fn.self;
   fed : (viewing : Viewing) → FedBy (viewer viewing) (StandsFor viewing) l.fn.self (take l.used l.bytes) None l.self;
-  damage : (viewing : Viewing) → FedBy (damaging viewing) (IsDamaged viewing) l.fn.self (take l.used l.bytes) None l.self;
+  damage : (viewing : Viewing) →
+      FedBy (damaging viewing) (IsDamaged viewing) l.fn.self (take l.used l.bytes) None l.self;
   moved : (viewing : Viewing) → FedBy (moving viewing) (HasMoved viewing) l.fn.self (take l.used l.bytes) None l.self;
-  outside : (viewing : Viewing) (s : ViewerState) (prefix : List ℕ) → StandsFor viewing l.fn.self s prefix → KeepsOutside l.fn.self l.self;
+  outside : (viewing : Viewing) (s : ViewerState) (prefix : List ℕ) → StandsFor viewing l.fn.self s prefix →
+      KeepsOutside l.fn.self l.self;
 }
 
 abbrev pub decreases-loop-used : goal.decreases-loop-used

@@ -7,7 +7,8 @@ use Rattle.rfb_viewer.specs.declared.fault.ViewerFault.{ViewerFault}
 use Rattle.rfb_viewer.specs.declared.viewer.progress.Progress.TheVariants.{Failed}
 use Rattle.rfb_viewer.specs.Damage.{joined, under_way}
 use Rattle.rfb_viewer.specs.Moved.{moved_if}
-use Rattle.rfb_viewer.proofs.RectLemmas.{paint_more, paint_done, paint_fault, painting_same, not_false, not_true, past_going}
+use Rattle.rfb_viewer.proofs.RectLemmas.{paint_more, paint_done, paint_fault, painting_same, not_false, not_true}
+use Rattle.rfb_viewer.proofs.RectLemmas.{past_going}
 use Rattle.rfb_viewer.proofs.FailLemmas.{paint_ends}
 use Rattle.rfb_viewer.proofs.DamageHeadLemmas.{past_none}
 use Rattle.rfb_viewer.proofs.PlaceLemmas.{data_placed}
@@ -25,7 +26,8 @@ returns-in-Err c =
     let flaw = c.in-Err.flaw in
     let told = c.in-Err.ensures in
     let rect = c.rect.ensures ∙ c.take.ensures.rect in
-    let damages = ended_damages old _ bytes more painter c.in-Data.is (ap under_way c.fail.ensures.after) (c.join.ensures ∙ ap (joined old.damage) rect) in
+    let damages = ended_damages old _ bytes more painter c.in-Data.is (ap under_way c.fail.ensures.after)
+    (c.join.ensures ∙ ap (joined old.damage) rect) in
     rw (c.fail.ensures.value, c.of_paint.ensures)
     (paint_fails old _ bytes damages refl refl refl refl flaw.used flaw.fault
     (data_placed old more painter picture bytes flaw c.in-Data.is c.in-Some.is told.begun told.within told.with)
@@ -82,8 +84,17 @@ returns c =
       steps = λ viewing. rw after.told
           (paint_done viewing old _ more painter c.take.new.self picture c.take.new.picture
           (take used bytes) c.in-Data.is c.in-Some.is (c.in-Ok.ensures.done done)
-          (record { hello = refl; form = refl; encodings = refl; limit = refl; progress_is = after.progress; request_is = after.request; picture_is = refl }));
-      damage = ended_damages old _ (take used bytes) more painter c.in-Data.is (ap under_way after.progress ∙ past_none more) (c.join-2.ensures ∙ ap (joined old.damage) rect);
+          (record {
+            hello = refl;
+            form = refl;
+            encodings = refl;
+            limit = refl;
+            progress_is = after.progress;
+            request_is = after.request;
+            picture_is = refl;
+          }));
+      damage = ended_damages old _ (take used bytes) more painter c.in-Data.is
+          (ap under_way after.progress ∙ past_none more) (c.join-2.ensures ∙ ap (joined old.damage) rect);
       moved = paint_moves old _ more painter c.take.new.self picture c.take.new.picture
           (take used bytes) c.in-Data.is c.in-Some.is (c.in-Ok.ensures.done done) (c.in-Ok.ensures.copied done)
           (c.keep_move.ensures ∙ ap (λ (r : Rect). moved_if old.moved.items r

@@ -28,7 +28,15 @@ returns-in-More c =
           head_part viewing old _ part c.read_head.new.part (take 1 c.args.bytes.now) c.in-Head.is
           (c.in-More.ensures.kept ∙ ap (λ (ys : List ℕ). part.items ++ ys) (sym one))
           (subst IsHeadBegun (sym c.in-More.ensures.kept) (misses_begun _ _ c.in-More.ensures.more))
-          (record { hello = refl; form = refl; encodings = refl; limit = refl; progress_is = refl; request_is = refl; picture_is = refl });
+          (record {
+            hello = refl;
+            form = refl;
+            encodings = refl;
+            limit = refl;
+            progress_is = refl;
+            request_is = refl;
+            picture_is = refl;
+          });
       damage = damages_at old _ (take 1 c.args.bytes.now) (Head part) c.in-Head.is refl;
       moved = quiet_moves old _ (take 1 c.args.bytes.now) (Head part) c.in-Head.is tt refl;
       offered = refl;
@@ -44,13 +52,15 @@ returns-in-Bad c =
     let fault = c.in-Bad.fault in
     let part = c.in-Head.part in
     let one = one_byte bytes c.requires.some in
-    let unknown = subst (λ (ys : List ℕ). IsUnknown SpellsServerHead fault (part.items ++ ys)) (sym one) c.in-Bad.ensures.bad in
+    let unknown =
+    subst (λ (ys : List ℕ). IsUnknown SpellsServerHead fault (part.items ++ ys)) (sym one) c.in-Bad.ensures.bad in
     rw (c.fail-fault.ensures.value, c.of_wire.ensures)
     (wire_fails old _ bytes (damages_at old _ bytes (Head part) c.in-Head.is refl) refl refl refl refl 1 fault
     (first_bad_placed old bytes (fault_of_wire fault) c.requires.some (wire_other fault) (λ viewing. step_refuses
     (viewer viewing) (StandsFor viewing) old old (take 1 bytes) (fault_of_wire fault)
     (head_bad viewing old old part (take 1 bytes) fault c.in-Head.is unknown)))
-    (λ viewing. head_ends viewing old old part 1 bytes fault c.in-Head.is (head_bad viewing old old part (take 1 bytes) fault c.in-Head.is unknown))
+    (λ viewing. head_ends viewing old old part 1 bytes fault c.in-Head.is
+    (head_bad viewing old old part (take 1 bytes) fault c.in-Head.is unknown))
     refl (c.fail-fault.ensures.after ∙ ap (λ (f : ViewerFault). Failed f) c.of_wire.ensures))
 
 pub returns-in_default-go_on_after : goal.returns-in_default-go_on_after
@@ -68,7 +78,8 @@ returns-in_default-go_on_after c =
     (first_memory_placed old bytes c.requires.some (λ viewing. head_asks viewing old old part byte
     (take 1 bytes) head c.in-Head.is (ap (take 1) one) (λ begun. head_whole head part.items byte _ begun got.0
     got.1) asked))
-    (λ viewing. head_memory viewing old part byte bytes head c.in-Head.is one (λ begun. head_whole head part.items byte _ begun got.0 got.1) asked)
+    (λ viewing. head_memory viewing old part byte bytes head c.in-Head.is one
+    (λ begun. head_whole head part.items byte _ begun got.0 got.1) asked)
     (none_at old old.hello refl) c.fail-fault-in_default-go_on_after.ensures.after)
 
 pub returns : goal.returns
@@ -83,8 +94,17 @@ returns c =
       within = omega (arith, c.requires.some);
       steps = λ viewing. rw (c.in-Ok.ensures.told)
           (head_got viewing old _ part (take 1 bytes) c.in-Got.head c.in-Head.is
-          (λ begun. subst (λ (ys : List ℕ). SpellsServerHead c.in-Got.head (part.items ++ ys)) (sym one) (head_whole c.in-Got.head part.items (slice_index bytes 0) _ begun got.0 got.1))
-          (record { hello = refl; form = refl; encodings = refl; limit = refl; progress_is = c.in-Ok.ensures.progress; request_is = c.in-Ok.ensures.request; picture_is = refl }));
+          (λ begun. subst (λ (ys : List ℕ). SpellsServerHead c.in-Got.head (part.items ++ ys)) (sym one)
+          (head_whole c.in-Got.head part.items (slice_index bytes 0) _ begun got.0 got.1))
+          (record {
+            hello = refl;
+            form = refl;
+            encodings = refl;
+            limit = refl;
+            progress_is = c.in-Ok.ensures.progress;
+            request_is = c.in-Ok.ensures.request;
+            picture_is = refl;
+          }));
       damage = damages_at old _ (take 1 bytes) (Head part) c.in-Head.is refl;
       moved = quiet_moves old _ (take 1 bytes) (Head part) c.in-Head.is tt refl;
       offered = rw c.in-Ok.ensures.told (head_keeps old _ bytes refl c.in-Got.head);

@@ -1,4 +1,5 @@
-use Rattle.std.proofs.Common.{◌≡◌, ◌∙◌, ◌+◌, ◌≤◌, ◌++◌, ℕ, List, true, false, [], length, take, drop, refl, sym, subst, ap, arith, take-append-drop, length-drop}
+use Rattle.std.proofs.Common.{◌≡◌, ◌∙◌, ◌+◌, ◌≤◌, ◌++◌, ℕ, List, true, false, [], length, take, drop, refl, sym, subst}
+use Rattle.std.proofs.Common.{ap, arith, take-append-drop, length-drop}
 use Rattle.std.proofs.lemmas.Grind.{common_steps}
 use Rattle.std.proofs.lemmas.List.{take_all, take_rest}
 use Rattle.rfb_wire.proofs.stream_laws.FeedLaws.{take_add, step_refuses}
@@ -12,7 +13,9 @@ use Rattle.rfb_viewer.specs.Fault.{fault_of_wire}
 use Rattle.rfb_viewer.specs.Moved.{moved_if}
 use Rattle.rfb_viewer.specs.Viewer.{Viewing, viewer}
 use Rattle.rfb_viewer.specs.Standing.{StandsFor}
-use Rattle.rfb_viewer.proofs.RectLemmas.{IsOpened, rect_part, rect_bad, rect_more, rect_done, rect_fault, step_by, same_painter, same_count, painting_same, head_all, not_false, not_true, past_going}
+use Rattle.rfb_viewer.proofs.RectLemmas.{IsOpened, rect_part, rect_bad, rect_more, rect_done, rect_fault, step_by}
+use Rattle.rfb_viewer.proofs.RectLemmas.{same_painter, same_count, painting_same, head_all, not_false, not_true}
+use Rattle.rfb_viewer.proofs.RectLemmas.{past_going}
 use Rattle.rfb_viewer.proofs.FailLemmas.{rect_head_ends, opened_ends, wire_other}
 use Rattle.rfb_viewer.proofs.PlaceLemmas.{bad_placed, head_awaits, opened_placed}
 use Rattle.rfb_viewer.specs.Damage.{joined, under_way}
@@ -62,11 +65,14 @@ returns-in-Bad c =
     (bad_placed old bytes n (fault_of_wire fault) c.gather-front.ensures.used.0 c.gather-front.ensures.used.1
     (wire_other fault)
     (λ viewing. step_refuses (viewer viewing) (StandsFor viewing) old old (take n bytes) (fault_of_wire fault)
-    (rect_bad viewing old old more head (take n bytes) whole fault picture c.in-RectHead.is gathered.0 gathered.1 c.in-Some-picture.is told))
+    (rect_bad viewing old old more head (take n bytes) whole fault picture c.in-RectHead.is gathered.0
+    gathered.1 c.in-Some-picture.is told))
     (head_awaits old more head n bytes whole c.in-RectHead.is gathered.0 gathered.1 c.gather-front.ensures.used.0
     c.gather-front.ensures.used.1))
-    (λ viewing. rect_head_ends viewing old old more head n bytes whole fault _ (sym c.in-Some-picture.is) c.in-RectHead.is gathered.0 gathered.1
-    (rect_bad viewing old old more head (take n bytes) whole fault picture c.in-RectHead.is gathered.0 gathered.1 c.in-Some-picture.is told))
+    (λ viewing. rect_head_ends viewing old old more head n bytes whole fault _ (sym c.in-Some-picture.is)
+    c.in-RectHead.is gathered.0 gathered.1
+    (rect_bad viewing old old more head (take n bytes) whole fault picture c.in-RectHead.is gathered.0
+    gathered.1 c.in-Some-picture.is told))
     refl (c.fail-fault.ensures.after ∙ ap (λ (f : ViewerFault). Failed f) c.of_wire.ensures))
 
 pub returns-in-Err : goal.returns-in-Err
@@ -87,7 +93,8 @@ returns-in-Err c =
     let got = rw (c.width-width.ensures.value, c.height-height.ensures, slice) at c.in-Got.ensures.got in
     let spelled = head_all whole _ head gathered.1 got.0 got.1 in
     let same : c.new.result ≡ painter = same_painter _ _ c.new.result painter c.in-Data.is in
-    let opened : (viewing : Viewing) → IsOpened viewing old old count part (take front bytes) whole head picture painter = λ viewing. record {
+    let opened : (viewing : Viewing) →
+    IsOpened viewing old old count part (take front bytes) whole head picture painter = λ viewing. record {
       was = c.in-RectHead.is;
       whole_is = gathered.0;
       shown = c.in-Some-picture.is;
@@ -101,7 +108,8 @@ returns-in-Err c =
     subst (λ (ys : List ℕ). Refuses painter picture ys c.take.new.picture fault) rest c.in-Err.ensures.fault in
     let rect = c.rect.ensures ∙ c.take.ensures.rect ∙ ap (λ p. p.rect) (sym same) ∙ ap
     (λ p. p.rect) c.new.ensures.value in
-    let damages = head_damages old _ count part c.in-RectHead.is (take front bytes) (drop front bytes) bytes whole head picture
+    let damages =
+    head_damages old _ count part c.in-RectHead.is (take front bytes) (drop front bytes) bytes whole head picture
     (sym (take-append-drop front bytes)) gathered.0 c.in-Some-picture.is spelled got.2
     (ap under_way c.fail.ensures.after)
     (c.join.ensures ∙ ap (joined old.damage) rect) in
@@ -138,7 +146,8 @@ returns-then-not-painted c =
     let more : c.in-Ok.painted.done ≡ false = not_false c.in-Ok.painted.done c.if-not-painted.true in
     let within : used ≤ length (drop front bytes) = rw rest at c.in-Ok.ensures.used in
     let all : used ≡ length (drop front bytes) = c.in-Ok.ensures.all more ∙ ap length rest in
-    let some : take used (drop front bytes) ≡ drop front bytes = take_all used (drop front bytes) (omega (arith, all)) in
+    let some : take used (drop front bytes) ≡ drop front bytes =
+    take_all used (drop front bytes) (omega (arith, all)) in
     let waits : Waits painter picture (take used (drop front bytes)) c.take.new.self c.take.new.picture =
     subst (λ (ys : List ℕ). Waits painter picture ys c.take.new.self c.take.new.picture) (rest ∙ sym some)
     (c.in-Ok.ensures.more more) in
@@ -215,12 +224,22 @@ returns c =
       some = omega (arith, c.gather-front.ensures.used.0);
       within = omega (arith, c.gather-front.ensures.used.1, length-drop front bytes, within);
       steps = λ viewing. rw (c.end_of.ensures, after.told)
-          (step_by viewing old _ (take front bytes ++ take used (drop front bytes)) (take (front + used) bytes) _ (take_add front used bytes)
+          (step_by viewing old _ (take front bytes ++ take used (drop front bytes)) (take (front + used) bytes)
+          _ (take_add front used bytes)
           (rect_done viewing old _ count part (take front bytes) whole (take used
           (drop front bytes)) head picture c.take.new.picture painter c.take.new.self
           (reopened viewing old _ count part (take front bytes) whole head picture painter (opened viewing)) paints
-          (record { hello = refl; form = refl; encodings = refl; limit = refl; progress_is = after.progress; request_is = after.request; picture_is = refl })));
-      damage = head_damages old _ count part c.in-RectHead.is (take front bytes) (take used (drop front bytes)) (take (front + used) bytes) whole head picture
+          (record {
+            hello = refl;
+            form = refl;
+            encodings = refl;
+            limit = refl;
+            progress_is = after.progress;
+            request_is = after.request;
+            picture_is = refl;
+          })));
+      damage = head_damages old _ count part c.in-RectHead.is (take front bytes) (take used (drop front bytes))
+          (take (front + used) bytes) whole head picture
           (take_add front used bytes) gathered.0 c.in-Some-picture.is spelled got.2
           (ap under_way after.progress ∙ past_none count)
           (c.join-2.ensures ∙ ap (joined old.damage) rect);

@@ -14,15 +14,28 @@ returns-then-bytes-missing c =
     let bytes = c.args.bytes.now in
     let kept = c.in-CutText.kept in
     let long : length (take (length bytes) bytes) ≡ length bytes = length-take-le (length bytes) bytes (omega arith) in
-    let left : length (take (length bytes) bytes) + (c.in-CutText.more - length bytes) ≡ c.in-CutText.more = omega (arith, long, c.if-bytes-missing.true) in
-    let now : c.keep.new.self ≡ record kept { bytes = take kept.room (kept.bytes ++ take (length bytes) bytes) } = c.keep.ensures ∙ ap (λ (ys : List ℕ). record kept { bytes = take kept.room (kept.bytes ++ ys) }) (sym (take_all (length bytes) bytes (omega arith))) in
+    let left : length (take (length bytes) bytes) + (c.in-CutText.more - length bytes) ≡ c.in-CutText.more =
+    omega (arith, long, c.if-bytes-missing.true) in
+    let now : c.keep.new.self ≡ record kept { bytes = take kept.room (kept.bytes ++ take (length bytes) bytes) } =
+    c.keep.ensures ∙ ap (λ (ys : List ℕ). record kept { bytes = take kept.room (kept.bytes ++ ys) })
+    (sym (take_all (length bytes) bytes (omega arith))) in
     record {
       some = c.requires.some;
       within = omega arith;
       steps = λ viewing.
-          text_part viewing old _ c.in-CutText.length c.in-CutText.more (c.in-CutText.more - length bytes) kept c.keep.new.self (take (length bytes) bytes) c.in-CutText.is left now
-          (record { hello = refl; form = refl; encodings = refl; limit = refl; progress_is = refl; request_is = refl; picture_is = refl });
-      damage = damages_at old _ (take (length bytes) bytes) (CutText c.in-CutText.length c.in-CutText.more kept) c.in-CutText.is refl;
+          text_part viewing old _ c.in-CutText.length c.in-CutText.more (c.in-CutText.more - length bytes) kept
+          c.keep.new.self (take (length bytes) bytes) c.in-CutText.is left now
+          (record {
+            hello = refl;
+            form = refl;
+            encodings = refl;
+            limit = refl;
+            progress_is = refl;
+            request_is = refl;
+            picture_is = refl;
+          });
+      damage = damages_at old _ (take (length bytes) bytes)
+          (CutText c.in-CutText.length c.in-CutText.more kept) c.in-CutText.is refl;
       moved = quiet_moves old _ (take (length bytes) bytes) (CutText c.in-CutText.length c.in-CutText.more kept)
           c.in-CutText.is tt refl;
       offered = refl;
@@ -37,19 +50,32 @@ returns c =
     let bytes = c.args.bytes.now in
     let kept = c.in-CutText.kept in
     let missing = c.in-CutText.more + 1 in
-    let long : length (take missing bytes) ≡ missing = length-take-le missing bytes (omega (arith, c.if-bytes-missing.false)) in
-    let now : c.keep-2.new.self ≡ record kept { bytes = take kept.room (kept.bytes ++ take missing bytes) } = search rules in
+    let long : length (take missing bytes) ≡ missing =
+    length-take-le missing bytes (omega (arith, c.if-bytes-missing.false)) in
+    let now : c.keep-2.new.self ≡ record kept { bytes = take kept.room (kept.bytes ++ take missing bytes) } =
+    search rules in
     let same = c.in-CutText-replace.ensures.value in
     let n : c.in-CutText-replace.length ≡ c.in-CutText.length = cc in
     let is : c.in-CutText-replace.kept ≡ c.keep-2.new.self = cc in
-    let told : c.into_vec.result.items ≡ c.keep-2.new.self.bytes = c.into_vec.ensures.bytes ∙ ap (λ (k : KeptText). k.bytes) is in
+    let told : c.into_vec.result.items ≡ c.keep-2.new.self.bytes =
+    c.into_vec.ensures.bytes ∙ ap (λ (k : KeptText). k.bytes) is in
     record {
       some = omega arith;
       within = omega (arith, c.if-bytes-missing.false);
       steps = λ viewing. rw (told, n)
-          (text_got viewing old _ c.in-CutText.length c.in-CutText.more kept c.keep-2.new.self (take missing bytes) c.in-CutText.is long now
-          (record { hello = refl; form = refl; encodings = refl; limit = refl; progress_is = c.replace.ensures.after ∙ ap (λ (ys : List ℕ). Head (record { items = ys })) c.new.ensures; request_is = refl; picture_is = refl }));
-      damage = damages_at old _ (take missing bytes) (CutText c.in-CutText.length c.in-CutText.more kept) c.in-CutText.is refl;
+          (text_got viewing old _ c.in-CutText.length c.in-CutText.more kept c.keep-2.new.self
+          (take missing bytes) c.in-CutText.is long now
+          (record {
+            hello = refl;
+            form = refl;
+            encodings = refl;
+            limit = refl;
+            progress_is = c.replace.ensures.after ∙ ap (λ (ys : List ℕ). Head (record { items = ys })) c.new.ensures;
+            request_is = refl;
+            picture_is = refl;
+          }));
+      damage = damages_at old _ (take missing bytes)
+          (CutText c.in-CutText.length c.in-CutText.more kept) c.in-CutText.is refl;
       moved = quiet_moves old _ (take missing bytes) (CutText c.in-CutText.length c.in-CutText.more kept)
           c.in-CutText.is tt refl;
       offered = refl;
