@@ -4,15 +4,20 @@ use Rattle.std.proofs.Common.{◌≡◌, ℕ, ◌==◌, Bool, true, false, List,
 use Rattle.rfb_wire.specs.stream.Sequel.{First, Second, StaysFirst}
 use Rattle.rfb_wire.specs.stream.Grammar.{Grammar, ReadsAll, past_all}
 use Rattle.rfb_wire.proofs.stream_laws.SequelLaws.{all_first, all_second}
-use Rattle.rfb_wire.specs.ClientMessage.{SetPixelFormat, SetEncodings, FramebufferUpdateRequest, KeyEvent, PointerEvent, ClientCutText}
+use Rattle.rfb_wire.specs.ClientMessage.{SetPixelFormat, SetEncodings, FramebufferUpdateRequest, KeyEvent, PointerEvent}
+use Rattle.rfb_wire.specs.ClientMessage.{ClientCutText}
 use Rattle.rfb_wire.specs.Encoding.{number_of}
 use Rattle.rfb_wire.specs.ServerMessage.{FramebufferUpdate, SetColorMapEntries, Bell, ServerCutText}
 use Rattle.rfb_codec.specs.UpdateStream.{UpdatePoint, UpdateItem, Message, Rectangle}
 use Rattle.rfb_hello.specs.declared.version.Version.{Version}
 use Rattle.rfb_hello.specs.declared.version.Version.TheVariants.{V33, V37, V38}
 use Rattle.rfb_hello.specs.Version.{lower}
-use Rattle.rfb_hello.specs.ClientHandshake.{AwaitsVersion as AwaitsClientVersion, AwaitsChoice, AwaitsInit as AwaitsClientInit, ClientItem, ProtocolVersion as ClientVersion, SecurityType, ClientInit, after_version}
-use Rattle.rfb_hello.specs.ServerHandshake.{ServerPoint, AwaitsVersion, AwaitsSecurity, AwaitsResult, AwaitsInit, AwaitsName, ServerItem, ProtocolVersion, SecurityNone, SecurityTypes, SecurityResult, ServerInit, Name}
+use Rattle.rfb_hello.specs.ClientHandshake.{AwaitsVersion as AwaitsClientVersion, AwaitsChoice}
+use Rattle.rfb_hello.specs.ClientHandshake.{AwaitsInit as AwaitsClientInit, ClientItem}
+use Rattle.rfb_hello.specs.ClientHandshake.{ProtocolVersion as ClientVersion, SecurityType, ClientInit, after_version}
+use Rattle.rfb_hello.specs.ServerHandshake.{ServerPoint, AwaitsVersion, AwaitsSecurity, AwaitsResult, AwaitsInit}
+use Rattle.rfb_hello.specs.ServerHandshake.{AwaitsName, ServerItem, ProtocolVersion, SecurityNone, SecurityTypes}
+use Rattle.rfb_hello.specs.ServerHandshake.{SecurityResult, ServerInit, Name}
 use Rattle.rfb_hello.specs.ServerAnswers.{types_asked, init_asked, name_asked}
 use Rattle.rfb_hello.proofs.AnswerLaws.{types_read, result_read, init_read}
 use Rattle.rfb_hello.proofs.ViewerAnswerLaws.{greeting_answered, none_answered, types_answered, result_answered}
@@ -27,7 +32,9 @@ use Rattle.rfb_viewer.specs.Viewer.{told_at}
 use Rattle.rfb_session.specs.Link.{Ends}
 use Rattle.rfb_session.specs.Answers.{ready_messages, viewer_answers, server_answers}
 use Rattle.rfb_session.specs.InFlight.{AreMade, viewer_reply, server_reply}
-use Rattle.rfb_session.proofs.PhaseLemmas.{Core, Stands, Phase, Greeting, Versioned, Typed, Choosing37, Choosing38, Chosen, Sharing, Begun, Named, Idling, Asking, Held, Sent, first_is, none_first}
+use Rattle.rfb_session.proofs.PhaseLemmas.{Core, Stands, Phase, Greeting, Versioned, Typed, Choosing37, Choosing38}
+use Rattle.rfb_session.proofs.PhaseLemmas.{Chosen, Sharing, Begun, Named, Idling, Asking, Held, Sent, first_is}
+use Rattle.rfb_session.proofs.PhaseLemmas.{none_first}
 use Rattle.rfb_session.proofs.ReadyLemmas.{ready_read}
 
 abbrev pub to_server_stream : (e : Ends) → Grammar ClientAt FromClient ServerFault

@@ -13,13 +13,16 @@ use Rattle.rfb_viewer.specs.declared.fault.CallFault.{CallFault}
 use Rattle.rfb_viewer.specs.declared.fault.CallFault.TheVariants.{NotReady, Busy}
 use Rattle.rfb_viewer.specs.ServerBytes.{ServerAt, FromServer}
 use Rattle.rfb_viewer.specs.Viewer.{ViewerState, viewer}
-use Rattle.rfb_viewer.specs.Calls.{call_refused, request_refused, format_refused, call_refusal, request_refusal, format_refusal, requested, with_format, formatted}
+use Rattle.rfb_viewer.specs.Calls.{call_refused, request_refused, format_refused, call_refusal, request_refusal}
+use Rattle.rfb_viewer.specs.Calls.{format_refusal, requested, with_format, formatted}
 use Rattle.rfb_server.specs.ClientBytes.{FromClient}
 use Rattle.rfb_session.specs.Link.{Ends, LinkState}
 use Rattle.rfb_session.specs.Headline.{ShowsKnown, ShowsLatest}
 use Rattle.rfb_session.specs.LinkSteps.{calls}
-use Rattle.rfb_session.proofs.QueueLemmas.{IsMere, form_after, form_append, mere_form, mere_later, mere_more, later_more, ask_more, asks_now}
-use Rattle.rfb_session.proofs.PhaseLemmas.{Core, core, Phase, Greeting, Versioned, Typed, Choosing37, Choosing38, Chosen, Sharing, Begun, Named, Idling, Asking, Held, Sent, meets_as}
+use Rattle.rfb_session.proofs.QueueLemmas.{IsMere, form_after, form_append, mere_form, mere_later, mere_more}
+use Rattle.rfb_session.proofs.QueueLemmas.{later_more, ask_more, asks_now}
+use Rattle.rfb_session.proofs.PhaseLemmas.{Core, core, Phase, Greeting, Versioned, Typed, Choosing37, Choosing38}
+use Rattle.rfb_session.proofs.PhaseLemmas.{Chosen, Sharing, Begun, Named, Idling, Asking, Held, Sent, meets_as}
 use Rattle.rfb_session.proofs.HoldsLemmas.{Holds, due}
 
 -- a message joins those in flight to the server

@@ -18,7 +18,8 @@ use Rattle.rfb_viewer.specs.declared.fault.CallFault.TheVariants.{NotReady, Busy
 use Rattle.rfb_viewer.specs.declared.viewer.Viewer.{Viewer}
 use Rattle.rfb_viewer.specs.ServerBytes.{ServerAt}
 use Rattle.rfb_viewer.specs.Viewer.{ViewerState}
-use Rattle.rfb_viewer.specs.Calls.{call_refusal, call_refused, request_refused, request_refusal, format_refusal, requested, formatted}
+use Rattle.rfb_viewer.specs.Calls.{call_refusal, call_refused, request_refused, request_refusal, format_refusal}
+use Rattle.rfb_viewer.specs.Calls.{requested, formatted}
 use Rattle.rfb_viewer.specs.Standing.{StandsFor as ViewerStandsFor}
 use Rattle.rfb_session.specs.declared.latest.Latest.{Latest}
 use Rattle.rfb_session.specs.declared.told.Refused.{Refused}

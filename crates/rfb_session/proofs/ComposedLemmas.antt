@@ -1,5 +1,6 @@
 -- A composing of a link is one of its state.
-use Rattle.std.proofs.Common.{◌≡◌, ◌≢◌, ℕ, List, [], Bool, true, false, ◌++◌, None, Some, inl, inr, refl, sym, ap, ◌∙◌, subst}
+use Rattle.std.proofs.Common.{◌≡◌, ◌≢◌, ℕ, List, [], Bool, true, false, ◌++◌, None, Some, inl, inr, refl, sym, ap, ◌∙◌}
+use Rattle.std.proofs.Common.{subst}
 use Rattle.std.proofs.lemmas.List.{append-nil}
 use Rattle.rfb_pixel.specs.declared.colour.Colour.{Colour}
 use Rattle.rfb_pixel.specs.Format.{PixelFormat}
@@ -71,7 +72,8 @@ composed_does screen old new told over none taken did = λ e n made reached here
     let areas : (notes_in old.session).area ≡ n.link.session.area =
     ap (λ (notes : Notes). notes.area) (session_noted e.serving n.screen old.session s c.server_has c.server_is) in
     let forms : (notes_in new.session).form ≡ n.link.session.form =
-    ap (λ (notes : Notes). notes.form) (session_noted e.serving n.screen new.session one.resulting c.server_has one.stands)
+    ap (λ (notes : Notes). notes.form)
+    (session_noted e.serving n.screen new.session one.resulting c.server_has one.stands)
     ∙ one.composes.same_format in (
       record n { link = l },
       (refl, inl composes),

@@ -1,5 +1,6 @@
 -- Deliveries to the ends of a link.
-use Rattle.std.proofs.Common.{◌≡◌, ℕ, ◌+◌, ◌≤◌, min, List, [], ◌++◌, length, take, drop, take-take, take-append-drop, length-take, Option, None, false, refl, sym, ap, ◌∙◌, subst, append-nil, arith}
+use Rattle.std.proofs.Common.{◌≡◌, ℕ, ◌+◌, ◌≤◌, min, List, [], ◌++◌, length, take, drop, take-take, take-append-drop}
+use Rattle.std.proofs.Common.{length-take, Option, None, false, refl, sym, ap, ◌∙◌, subst, append-nil, arith}
 use Rattle.rfb_pixel.specs.declared.colour.Colour.{Colour}
 use Rattle.rfb_picture.specs.Grid.{Grid}
 use Rattle.rfb_wire.specs.stream.End.{FedBy, RefusedBy}

@@ -19,7 +19,9 @@ use Rattle.rfb_session.specs.Link.{Ends, SessionState, server_of, LinkState}
 use Rattle.rfb_session.specs.Headline.{ShowsKnown, ShowsLatest}
 use Rattle.rfb_session.specs.LinkSteps.{ComposesOn}
 use Rattle.rfb_session.proofs.QueueLemmas.{IsRest, update_rest, IsUnasked, none_unasked}
-use Rattle.rfb_session.proofs.PhaseLemmas.{Core, core, Meets, Awaits, Phase, Greeting, Versioned, Typed, Choosing37, Choosing38, Chosen, Sharing, Begun, Named, Idling, Asking, Held, Sent, meets_as}
+use Rattle.rfb_session.proofs.PhaseLemmas.{Core, core, Meets, Awaits, Phase, Greeting, Versioned, Typed, Choosing37}
+use Rattle.rfb_session.proofs.PhaseLemmas.{Choosing38, Chosen, Sharing, Begun, Named, Idling, Asking, Held, Sent}
+use Rattle.rfb_session.proofs.PhaseLemmas.{meets_as}
 use Rattle.rfb_session.proofs.HoldsLemmas.{due, Holds}
 
 past_effects : (p : UpdatePoint) (item : UpdateItem) (items : List UpdateItem)

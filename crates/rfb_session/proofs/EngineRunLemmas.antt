@@ -1,5 +1,6 @@
 -- Runs of an engine, one after another.
-use Rattle.std.proofs.Common.{◌≡◌, ℕ, ◌+◌, List, [], ◌∷◌, ◌++◌, Option, refl, sym, ap, ◌∙◌, subst, append_assoc, append-nil, arith}
+use Rattle.std.proofs.Common.{◌≡◌, ℕ, ◌+◌, List, [], ◌∷◌, ◌++◌, Option, refl, sym, ap, ◌∙◌, subst, append_assoc}
+use Rattle.std.proofs.Common.{append-nil, arith}
 use Rattle.rfb_wire.specs.stream.End.{FedBy}
 use Rattle.rfb_session.specs.EngineRun.{Step, Fed, Did, Driven, Runs, Ran, RunsOn, fed_at, fed_in, sent_in, updates_in}
 use Rattle.rfb_session.specs.EngineRun.{AreFed, FeedsOn, TakesNone}

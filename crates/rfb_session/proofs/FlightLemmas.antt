@@ -1,5 +1,6 @@
 -- What reaches an end leaves the bytes in flight those of the items in flight.
-use Rattle.std.proofs.Common.{◌≡◌, ℕ, ◌+◌, List, [], ◌∷◌, ◌++◌, length, Option, refl, sym, ap, ◌∙◌, subst, append-nil, append_assoc, arith}
+use Rattle.std.proofs.Common.{◌≡◌, ℕ, ◌+◌, List, [], ◌∷◌, ◌++◌, length, Option, refl, sym, ap, ◌∙◌, subst, append-nil}
+use Rattle.std.proofs.Common.{append_assoc, arith}
 use Rattle.rfb_pixel.specs.declared.colour.Colour.{Colour}
 use Rattle.rfb_picture.specs.Grid.{Grid}
 use Rattle.rfb_wire.specs.stream.Grammar.{Grammar, IsGrammar, ReadsAll, past_all}
@@ -22,12 +23,14 @@ use Rattle.rfb_viewer.specs.Viewer.{ViewerState, viewer, shows}
 use Rattle.rfb_viewer.proofs.ViewerLaws.{server_bytes_laws, viewer_machine}
 use Rattle.rfb_session.specs.Link.{Ends, SessionState, server_of, session_of, LinkState, first_link}
 use Rattle.rfb_session.specs.Answers.{viewer_answers, viewer_replies, server_answers, server_replies}
-use Rattle.rfb_session.specs.InFlight.{AreMade, Flight, Flies, first_flight, viewer_reply, server_reply, ReachesViewer, ReachesServer}
+use Rattle.rfb_session.specs.InFlight.{AreMade, Flight, Flies, first_flight, viewer_reply, server_reply, ReachesViewer}
+use Rattle.rfb_session.specs.InFlight.{ReachesServer}
 use Rattle.rfb_session.proofs.PhaseLemmas.{Core, core}
 use Rattle.rfb_session.proofs.ShowingLemmas.{shown}
 use Rattle.rfb_session.proofs.ServedLemmas.{served}
 use Rattle.rfb_session.proofs.HoldsLemmas.{Holds, holds_shown, holds_served, kept_screen}
-use Rattle.rfb_session.proofs.AnswerLemmas.{to_server_stream, to_viewer_stream, AnswersAfter, answers_read, RepliesAfter, replies_read}
+use Rattle.rfb_session.proofs.AnswerLemmas.{to_server_stream, to_viewer_stream, AnswersAfter, answers_read}
+use Rattle.rfb_session.proofs.AnswerLemmas.{RepliesAfter, replies_read}
 
 module _ {P I F : Type 0} where
   -- no bytes are no items

@@ -1,11 +1,13 @@
 -- What holds of a link at all times, and that each step of it keeps that.
-use Rattle.std.proofs.Common.{◌≡◌, ℕ, List, [], ◌∷◌, ◌++◌, Option, Some, None, ◌⊎◌, inl, inr, refl, sym, ap, ◌∙◌, subst, append-nil, append_assoc}
+use Rattle.std.proofs.Common.{◌≡◌, ℕ, List, [], ◌∷◌, ◌++◌, Option, Some, None, ◌⊎◌, inl, inr, refl, sym, ap, ◌∙◌, subst}
+use Rattle.std.proofs.Common.{append-nil, append_assoc}
 use Rattle.rfb_pixel.specs.declared.colour.Colour.{Colour}
 use Rattle.rfb_pixel.specs.Format.{PixelFormat}
 use Rattle.rfb_picture.specs.Grid.{Grid, at_or}
 use Rattle.rfb_wire.specs.stream.Sequel.{First, Second}
 use Rattle.rfb_wire.specs.stream.End.{acts}
-use Rattle.rfb_wire.specs.ClientMessage.{SetPixelFormat, SetEncodings, FramebufferUpdateRequest, KeyEvent, PointerEvent, ClientCutText}
+use Rattle.rfb_wire.specs.ClientMessage.{SetPixelFormat, SetEncodings, FramebufferUpdateRequest, KeyEvent, PointerEvent}
+use Rattle.rfb_wire.specs.ClientMessage.{ClientCutText}
 use Rattle.rfb_server.specs.ClientBytes.{FromClient}
 use Rattle.rfb_server.specs.Server.{Serving, ServerState, item_acts, serves, server}
 use Rattle.rfb_viewer.specs.ServerBytes.{FromServer}
@@ -15,7 +17,8 @@ use Rattle.rfb_session.specs.Answers.{viewer_answers, viewer_replies, server_ans
 use Rattle.rfb_session.specs.Headline.{IsUnknown, ShowsKnown, ShowsLatest}
 use Rattle.rfb_session.specs.LinkSteps.{MovesToViewer, MovesToServer}
 use Rattle.rfb_session.proofs.QueueLemmas.{forgotten_unknown}
-use Rattle.rfb_session.proofs.PhaseLemmas.{Core, core, Phase, Greeting, Versioned, Typed, Choosing37, Choosing38, Chosen, Sharing, Begun, Named, Idling, Asking, Held, Sent}
+use Rattle.rfb_session.proofs.PhaseLemmas.{Core, core, Phase, Greeting, Versioned, Typed, Choosing37, Choosing38}
+use Rattle.rfb_session.proofs.PhaseLemmas.{Chosen, Sharing, Begun, Named, Idling, Asking, Held, Sent}
 use Rattle.rfb_session.proofs.ShowingLemmas.{shown, phase_shown}
 use Rattle.rfb_session.proofs.ServedLemmas.{served, phase_served, no_answer}
 use Rattle.rfb_session.proofs.SizeLemmas.{width-uniform, height-uniform}

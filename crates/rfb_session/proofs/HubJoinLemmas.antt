@@ -36,7 +36,8 @@ fresh_seat hub setup session viewer link seat w h name wide high named whole sta
     viewer_is links session_is unhinted setup_is link_is ours =
     let serves = subst (λ (x : ℕ). (screen : Grid Colour) →
     SessionStandsFor (serving_with hub.offer x hub.screen.height hub.name.items hub.text_limit) screen session
-    (with_screen screen (first_server (serving_with hub.offer x hub.screen.height hub.name.items hub.text_limit))) []) wide
+    (with_screen screen (first_server (serving_with hub.offer x hub.screen.height hub.name.items hub.text_limit))) [])
+    wide
     (subst (λ (y : ℕ). (screen : Grid Colour) →
     SessionStandsFor (serving_with hub.offer w y hub.name.items hub.text_limit) screen session
     (with_screen screen (first_server (serving_with hub.offer w y hub.name.items hub.text_limit))) []) high

@@ -1,5 +1,6 @@
 -- What the slots of a hub stand for, step after step.
-use Rattle.std.proofs.Common.{◌≡◌, ◌≢◌, ◌⊎◌, ℕ, Bool, true, false, List, [], ◌∷◌, ◌++◌, Some, None, inl, inr, refl, sym, ap, ◌∙◌, subst}
+use Rattle.std.proofs.Common.{◌≡◌, ◌≢◌, ◌⊎◌, ℕ, Bool, true, false, List, [], ◌∷◌, ◌++◌, Some, None, inl, inr, refl, sym}
+use Rattle.std.proofs.Common.{ap, ◌∙◌, subst}
 use Rattle.std.proofs.lemmas.Bool.{cases_eq}
 use Rattle.rfb_pixel.specs.declared.colour.Colour.{Colour}
 use Rattle.rfb_picture.specs.Grid.{Grid}
@@ -7,7 +8,8 @@ use Rattle.rfb_server.specs.Drawing.{Stroke, notice_of, Fill as OneFill, Copy as
 use Rattle.rfb_server.specs.Server.{Serving}
 use Rattle.rfb_server.proofs.ServerLaws.{session_going}
 use Rattle.rfb_viewer.proofs.ViewerLaws.{viewer_going}
-use Rattle.rfb_session.specs.declared.event.Event.TheVariants.{Fill as OfFill, Put as OfPut, Copy as OfCopy, Hint as OfHint}
+use Rattle.rfb_session.specs.declared.event.Event.TheVariants.{Fill as OfFill, Put as OfPut, Copy as OfCopy}
+use Rattle.rfb_session.specs.declared.event.Event.TheVariants.{Hint as OfHint}
 use Rattle.rfb_session.specs.declared.hub.Hub.{Hub}
 use Rattle.rfb_session.specs.declared.hub.event.HubEvent.{HubEvent}
 use Rattle.rfb_session.specs.declared.hub.event.HubEvent.TheVariants.{Fill, Put, Copy, Hint, Join, Leave, Of, Foreign}

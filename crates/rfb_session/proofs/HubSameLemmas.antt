@@ -13,8 +13,10 @@ same_facts old eight columns rows follow =
     let two : IsProp (old.screen.width ≤ 4096) = hlevel props in
     let three : IsProp (old.screen.height ≤ 4096) = hlevel props in
     let four : IsProp (EachFollows old.screen old.slots) = hlevel props in
-    ap (λ (x : length old.slots ≡ 8). record old { eight = x; columns = columns; rows = rows; follow = follow }) (one eight old.eight)
-    ∙ (ap (λ (x : old.screen.width ≤ 4096). record old { columns = x; rows = rows; follow = follow }) (two columns old.columns)
+    ap (λ (x : length old.slots ≡ 8). record old { eight = x; columns = columns; rows = rows; follow = follow })
+    (one eight old.eight)
+    ∙ (ap (λ (x : old.screen.width ≤ 4096). record old { columns = x; rows = rows; follow = follow })
+    (two columns old.columns)
     ∙ (ap (λ (x : old.screen.height ≤ 4096). record old { rows = x; follow = follow }) (three rows old.rows)
     ∙ ap (λ (x : EachFollows old.screen old.slots). record old { follow = x }) (four follow old.follow)))
 

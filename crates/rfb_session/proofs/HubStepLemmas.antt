@@ -1,5 +1,6 @@
 -- Steps of a hub, from what became of its screen and its slots.
-use Rattle.std.proofs.Common.{◌≡◌, ◌≢◌, ◌⊎◌, ℕ, Bool, true, false, nat_eq, List, Option, Some, None, inl, inr, refl, sym, ap, ◌∙◌, subst}
+use Rattle.std.proofs.Common.{◌≡◌, ◌≢◌, ◌⊎◌, ℕ, Bool, true, false, nat_eq, List, Option, Some, None, inl, inr, refl}
+use Rattle.std.proofs.Common.{sym, ap, ◌∙◌, subst}
 use Rattle.std.proofs.lemmas.Bool.{cases_eq}
 use Rattle.rfb_pixel.specs.declared.colour.Colour.{Colour}
 use Rattle.rfb_picture.specs.Grid.{Grid}
@@ -18,7 +19,9 @@ use Rattle.rfb_session.specs.declared.told.Refused.{Refused}
 use Rattle.rfb_session.specs.declared.told.Told.{Told}
 use Rattle.rfb_session.specs.Hub.{seat_in, serving_in}
 use Rattle.rfb_session.specs.HubSeats.{event_of, SeatDoes, SeatStandsFor}
-use Rattle.rfb_session.specs.HubSteps.{JoinsAs, Beyond, Taken, Joined, LeavesAs, NoneLeft, Left, ForeignAs, NoneFed, Fed, EndsAs, NoneThere, Happened, StaysAs, IsOther, HubActs, SlotSteps, SlotTells, SlotsDo, HubSteps}
+use Rattle.rfb_session.specs.HubSteps.{JoinsAs, Beyond, Taken, Joined, LeavesAs, NoneLeft, Left, ForeignAs, NoneFed}
+use Rattle.rfb_session.specs.HubSteps.{Fed, EndsAs, NoneThere, Happened, StaysAs, IsOther, HubActs, SlotSteps}
+use Rattle.rfb_session.specs.HubSteps.{SlotTells, SlotsDo, HubSteps}
 use Rattle.rfb_session.specs.Slots.{StaysUnless}
 use Rattle.rfb_session.specs.HubTelling.{IsMere, TellsFor, hub_refusal}
 use Rattle.rfb_session.specs.InFlight.{AreMade}
@@ -135,15 +138,16 @@ pub foreign_steps : (old new : Hub) (event : HubEvent) (j : ℕ) (bytes : List �
     ((e : Ends) (n : Network) (k : ℕ) → SlotTells e n event k told) →
     ((k : ℕ) → nat_eq k j ≡ false → seat_in new k ≡ seat_in old k) →
     (told.refused ≢ None → new ≡ old) → HubSteps old event told new
-foreign_steps old new event j bytes told mere screens made closed feeds acts beside stays steps tells others kept = record {
-  made = made;
-  closed = closed;
-  acts = acts;
-  others = λ k is. stays k _ _ (stays_mere told k _ _ mere (others k (beside k is)));
-  does = mere_does old new event told steps tells screens
-      (λ k a b was is ours. same k a b was is ours feeds (cases_eq k j));
-  kept = kept;
-}
+foreign_steps old new event j bytes told mere screens made closed feeds acts beside stays steps tells others kept =
+    record {
+      made = made;
+      closed = closed;
+      acts = acts;
+      others = λ k is. stays k _ _ (stays_mere told k _ _ mere (others k (beside k is)));
+      does = mere_does old new event told steps tells screens
+          (λ k a b was is ours. same k a b was is ours feeds (cases_eq k j));
+      kept = kept;
+    }
   where
     same : (k : ℕ) (a b : HubSeat) → seat_in old k ≡ Some a → seat_in new k ≡ Some b →
         b.foreign ≡ false → ForeignAs old j bytes told new → ((k ≡ j) ⊎ (k ≢ j)) → b ≡ a

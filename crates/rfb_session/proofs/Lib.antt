@@ -31,6 +31,7 @@ pub mod SlotLemmas
 mod SeatsLemmas
 pub mod FollowLemmas
 pub mod ShareRoomLemmas
+pub mod ShareFitLemmas
 pub mod ShareSeatLemmas
 pub mod ShareMemoryLemmas
 pub mod ShareLifeLemmas
@@ -68,6 +69,7 @@ pub mod TurnLemmas
 pub mod ServeOrderLemmas
 pub mod ViewLemmas
 pub mod LookLemmas
+pub mod ViewedLemmas
 pub mod ViewOrderLemmas
 pub mod WatcherLemmas
 pub mod WordLaws
@@ -102,5 +104,6 @@ pub mod BoundLemmas
 pub mod ConsoleLemmas
 pub mod ConsoleMoveLemmas
 pub mod ConsoleStepLemmas
+pub mod SeatLifeLemmas
 pub mod SeatHistoryLemmas
 pub mod LineHistoryLemmas

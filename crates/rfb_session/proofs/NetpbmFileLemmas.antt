@@ -1,5 +1,7 @@
 -- A file, from its front and what follows.
-use Rattle.std.proofs.Common.{◌≡◌, ◌∙◌, ◌<◌, ◌≤◌, ◌*◌, ◌++◌, ℕ, List, [], Option, Some, None, Result, Ok, Err, IfOk, IfErr, IfSome, length, take, drop, ap, sym, refl, subst, inl, inr, arith, append-nil, take_all, drop_of_length-le}
+use Rattle.std.proofs.Common.{◌≡◌, ◌∙◌, ◌<◌, ◌≤◌, ◌*◌, ◌++◌, ℕ, List, [], Option, Some, None, Result, Ok, Err, IfOk}
+use Rattle.std.proofs.Common.{IfErr, IfSome, length, take, drop, ap, sym, refl, subst, inl, inr, arith, append-nil}
+use Rattle.std.proofs.Common.{take_all, drop_of_length-le}
 use Rattle.std.proofs.Math.Seq.{drop-append_seam, take-append_seam}
 use Rattle.std.proofs.lemmas.Bool.{cases_lt}
 use Rattle.std.specs.Fmt.{option_append}
@@ -30,7 +32,8 @@ front_all xs short =
     let few : length xs ≤ 8192 = omega arith in
     (take_all 8192 xs few, drop_of_length-le xs few)
 
-pub front_is : (front rest bytes : List ℕ) → bytes ≡ front ++ rest → length front ≤ 8192 → (length front < 8192 → rest ≡ []) →
+pub front_is : (front rest bytes : List ℕ) → bytes ≡ front ++ rest → length front ≤ 8192 →
+    (length front < 8192 → rest ≡ []) →
     (front_of bytes ≡ front) × (tail_of bytes ≡ rest)
 front_is front rest bytes is few end =
     elim (cases_lt (length front) 8192) [
@@ -46,7 +49,8 @@ front_is front rest bytes is few end =
 
 -- ---- what was read
 
-pub head_flaw_read : (old mid : Option (List ℕ)) (front : List ℕ) (flaw : Flaw) → Consumes old mid front → length front ≤ 8192 →
+pub head_flaw_read : (old mid : Option (List ℕ)) (front : List ℕ) (flaw : Flaw) →
+    Consumes old mid front → length front ≤ 8192 →
     (length front < 8192 → IsAtEnd mid) → HasHeadFlaw front flaw → FailsToSpell old (FlawError flaw)
 head_flaw_read None mid front flaw came few end bad = tt
 head_flaw_read (Some bytes) None front flaw came few end bad = absurd came
@@ -55,7 +59,8 @@ head_flaw_read (Some bytes) (Some rest) front flaw came few end bad =
 
 pub spells_read : (old mid : Option (List ℕ)) (front rest : List ℕ) (w h : ℕ) (s : Sample) (places : List Colour) →
     Consumes old mid front → length front ≤ 8192 → (length front < 8192 → IsAtEnd mid) → IsHead front w h s rest →
-    IfSome (option_append (Some rest) mid) (λ bytes. ArePlaces s (h * w) bytes places) → SpellsKnown old (grid w h places)
+    IfSome (option_append (Some rest) mid) (λ bytes. ArePlaces s (h * w) bytes places) →
+    SpellsKnown old (grid w h places)
 spells_read None mid front rest w h s places came few end head are = tt
 spells_read (Some bytes) None front rest w h s places came few end head are = absurd came
 spells_read (Some bytes) (Some more) front rest w h s places came few end head are =
@@ -85,7 +90,8 @@ places_flaw_read (Some bytes) (Some more) front rest w h s (FlawError flaw) came
       subst (λ (l : List ℕ). HasPlacesFlaw s (h * w) (rest ++ l) flaw) (sym p.1) fails,
     )
 
-pub input_read : (old : Option (List ℕ)) (error : PixmapError) → ((flaw : Flaw) → ¬ (error ≡ FlawError flaw)) → FailsToSpell old error
+pub input_read : (old : Option (List ℕ)) (error : PixmapError) →
+    ((flaw : Flaw) → ¬ (error ≡ FlawError flaw)) → FailsToSpell old error
 input_read None error other = tt
 input_read (Some bytes) (FlawError flaw) other = absurd (other flaw refl)
 input_read (Some bytes) (Input input) other = tt
@@ -99,33 +105,42 @@ same_grid w h v g xs ys a b c = cc
 -- a file spells one picture
 pub spells_once : (bytes : List ℕ) (one other : Grid Colour) → Spells bytes one → Spells bytes other → one ≡ other
 spells_once bytes one other p q =
-    let same = head_once (front_of bytes) one.width one.height p.sample p.rest other.width other.height q.sample q.rest p.is_head q.is_head in
+    let same = head_once (front_of bytes) one.width one.height p.sample p.rest other.width other.height q.sample
+    q.rest p.is_head q.is_head in
     let places : one.places ≡ other.places = p.are_places.1 ∙ rw (same.sample, same.places) (sym q.are_places.1) in
     same_grid one.width one.height other.width other.height one.places other.places same.width same.height places
 
-no_places_flaw : (s : Sample) (n : ℕ) (bytes : List ℕ) (places : List Colour) (flaw : Flaw) → ArePlaces s n bytes places → HasPlacesFlaw s n bytes flaw → ⊥
+no_places_flaw : (s : Sample) (n : ℕ) (bytes : List ℕ) (places : List Colour) (flaw : Flaw) →
+    ArePlaces s n bytes places → HasPlacesFlaw s n bytes flaw → ⊥
 no_places_flaw s n bytes places flaw are (inl short) = omega (arith, are.0, short.1)
 no_places_flaw s n bytes places flaw are (inr long) = omega (arith, are.0, long.1)
 
 -- what spells a picture has no flaw
-pub spelled_whole : (bytes : List ℕ) (picture : Grid Colour) (flaw : Flaw) → Spells bytes picture → HasFlaw bytes flaw → ⊥
+pub spelled_whole : (bytes : List ℕ) (picture : Grid Colour) (flaw : Flaw) →
+    Spells bytes picture → HasFlaw bytes flaw → ⊥
 spelled_whole bytes picture flaw p (inl bad) =
     no_head_flaw (front_of bytes) picture.width picture.height p.sample p.rest flaw p.is_head bad
 spelled_whole bytes picture flaw p (inr bad) =
-    let same = head_once (front_of bytes) bad.0 bad.1 bad.2 bad.3 picture.width picture.height p.sample p.rest bad.4 p.is_head in
+    let same = head_once (front_of bytes) bad.0 bad.1 bad.2 bad.3 picture.width picture.height
+    p.sample p.rest bad.4 p.is_head in
     let there : HasPlacesFlaw p.sample (picture.height * picture.width) (p.rest ++ tail_of bytes) flaw =
     rw (← same.sample, ← same.height, ← same.width, ← same.places) bad.5 in
-    no_places_flaw p.sample (picture.height * picture.width) (p.rest ++ tail_of bytes) picture.places flaw p.are_places there
+    no_places_flaw p.sample (picture.height * picture.width) (p.rest ++ tail_of bytes)
+    picture.places flaw p.are_places there
 
 pub one_read : (r : Result Pixmap PixmapError) (old : Option (List ℕ)) (bytes : List ℕ) (picture : Grid Colour) →
     IfOk r (λ pixmap. SpellsKnown old (picture_of pixmap)) → old ≡ Some bytes → Spells bytes picture →
     IfOk r (λ pixmap. picture_of pixmap ≡ picture)
 one_read (Err error) old bytes picture read known spells = tt
 one_read (Ok pixmap) old bytes picture read known spells =
-    spells_once bytes (picture_of pixmap) picture (subst (λ (o : Option (List ℕ)). SpellsKnown o (picture_of pixmap)) known read) spells
+    spells_once bytes (picture_of pixmap) picture
+    (subst (λ (o : Option (List ℕ)). SpellsKnown o (picture_of pixmap)) known read) spells
 
-pub none_refused : (r : Result Pixmap PixmapError) (old : Option (List ℕ)) (bytes : List ℕ) (picture : Grid Colour) (flaw : Flaw) →
+pub none_refused : (r : Result Pixmap PixmapError) (old : Option (List ℕ)) (bytes : List ℕ)
+    (picture : Grid Colour) (flaw : Flaw) →
     IfErr r (FailsToSpell old) → old ≡ Some bytes → Spells bytes picture → ¬ (r ≡ Err (FlawError flaw))
 none_refused r old bytes picture flaw fails known spells is =
-    let there : FailsToSpell old (FlawError flaw) = subst (λ (s : Result Pixmap PixmapError). IfErr s (FailsToSpell old)) is fails in
-    spelled_whole bytes picture flaw spells (subst (λ (o : Option (List ℕ)). FailsToSpell o (FlawError flaw)) known there)
+    let there : FailsToSpell old (FlawError flaw) =
+    subst (λ (s : Result Pixmap PixmapError). IfErr s (FailsToSpell old)) is fails in
+    spelled_whole bytes picture flaw spells
+    (subst (λ (o : Option (List ℕ)). FailsToSpell o (FlawError flaw)) known there)

@@ -1,7 +1,10 @@
 -- Numbers after gaps: what is read from the left is what stands there, and nothing else does.
-use Rattle.std.proofs.Common.{◌≡◌, ◌∙◌, ◌==◌, ◌<◌, ◌≤◌, ◌+◌, ◌-◌, ◌*◌, ◌++◌, if◌then◌else◌, ℕ, zero, suc, Bool, true, false, not, List, [], ◌∷◌, length, get_or, ap, ap₂, sym, refl, subst, inl, inr, arith, length-append, eq-eqb, ne_eqb, eqb-true, true≢false}
+use Rattle.std.proofs.Common.{◌≡◌, ◌∙◌, ◌==◌, ◌<◌, ◌≤◌, ◌+◌, ◌-◌, ◌*◌, ◌++◌, if◌then◌else◌, ℕ, zero, suc, Bool, true}
+use Rattle.std.proofs.Common.{false, not, List, [], ◌∷◌, length, get_or, ap, ap₂, sym, refl, subst, inl, inr, arith}
+use Rattle.std.proofs.Common.{length-append, eq-eqb, ne_eqb, eqb-true, true≢false}
 use Rattle.std.proofs.lemmas.Bool.{cases_eq}
-use Rattle.rfb_session.specs.netpbm.Number.{AreDigits, BeginsNoDigit, IsDigit, IsGap, NextNumber, NoNumberNext, ends_line, is_blank, value_after, value_of}
+use Rattle.rfb_session.specs.netpbm.Number.{AreDigits, BeginsNoDigit, IsDigit, IsGap, NextNumber, NoNumberNext}
+use Rattle.rfb_session.specs.netpbm.Number.{ends_line, is_blank, value_after, value_of}
 use Rattle.rfb_session.specs.netpbm.inside.Gaps.{FirstDigits, after_gap}
 
 -- ---- digits
@@ -49,7 +52,8 @@ passed_step c cs false true no_hash is later some_comment some =
 passed_step c cs false false no_hash no_blank comment later some = ([], refl, tt)
 
 -- what comes after a gap, if anything does, comes after a whole one
-pub passed : (within : Bool) (bytes : List ℕ) → 1 ≤ length (after_gap within bytes) → Passed within bytes (after_gap within bytes)
+pub passed : (within : Bool) (bytes : List ℕ) → 1 ≤ length (after_gap within bytes) →
+    Passed within bytes (after_gap within bytes)
 passed false [] some = absurd (omega arith)
 passed true [] some = absurd (omega arith)
 passed false (c ∷ cs) some =

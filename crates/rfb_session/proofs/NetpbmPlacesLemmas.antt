@@ -1,5 +1,7 @@
 -- The colours of places, piece by piece.
-use Rattle.std.proofs.Common.{◌≡◌, ◌∙◌, ◌≤◌, ◌+◌, ◌*◌, ◌++◌, ℕ, zero, suc, List, [], ◌∷◌, Option, Some, None, IfSome, length, get_or, take, drop, ap, sym, refl, subst, inl, inr, arith, append-nil, append_assoc, length-append, take_all}
+use Rattle.std.proofs.Common.{◌≡◌, ◌∙◌, ◌≤◌, ◌+◌, ◌*◌, ◌++◌, ℕ, zero, suc, List, [], ◌∷◌, Option, Some, None, IfSome}
+use Rattle.std.proofs.Common.{length, get_or, take, drop, ap, sym, refl, subst, inl, inr, arith, append-nil}
+use Rattle.std.proofs.Common.{append_assoc, length-append, take_all}
 use Rattle.std.proofs.KnownBytes.{Consumes-trans}
 use Rattle.std.specs.Io.KnownBytes.{Consumes, IsAtEnd}
 use Rattle.rfb_pixel.specs.declared.colour.Colour.{Colour}
@@ -14,15 +16,18 @@ use Rattle.rfb_session.specs.netpbm.inside.Filling.{FailsEnd, FailsPiece, FailsT
 
 -- ---- whole places
 
-bytes_more : (n : ℕ) (a b : List ℕ) → length a ≡ 3 * n → colours_of_bytes (a ++ b) ≡ colours_of_bytes a ++ colours_of_bytes b
+bytes_more : (n : ℕ) (a b : List ℕ) → length a ≡ 3 * n →
+    colours_of_bytes (a ++ b) ≡ colours_of_bytes a ++ colours_of_bytes b
 bytes_more zero [] b size = refl
 bytes_more zero (r ∷ a) b size = absurd (omega arith)
 bytes_more (suc n) [] b size = absurd (omega arith)
 bytes_more (suc n) (r ∷ []) b size = absurd (omega arith)
 bytes_more (suc n) (r ∷ g ∷ []) b size = absurd (omega arith)
-bytes_more (suc n) (r ∷ g ∷ u ∷ a) b size = ap (λ (l : List Colour). colour_of_bytes r g u ∷ l) (bytes_more n a b (omega arith))
+bytes_more (suc n) (r ∷ g ∷ u ∷ a) b size =
+    ap (λ (l : List Colour). colour_of_bytes r g u ∷ l) (bytes_more n a b (omega arith))
 
-words_more : (n : ℕ) (a b : List ℕ) → length a ≡ 6 * n → colours_of_words (a ++ b) ≡ colours_of_words a ++ colours_of_words b
+words_more : (n : ℕ) (a b : List ℕ) → length a ≡ 6 * n →
+    colours_of_words (a ++ b) ≡ colours_of_words a ++ colours_of_words b
 words_more zero [] b size = refl
 words_more zero (r ∷ a) b size = absurd (omega arith)
 words_more (suc n) [] b size = absurd (omega arith)
@@ -35,7 +40,8 @@ words_more (suc n) (r ∷ r0 ∷ g ∷ g0 ∷ u ∷ u0 ∷ a) b size =
     let c : Colour = record { r = word_of r r0; g = word_of g g0; b = word_of u u0 } in
     ap (λ (l : List Colour). c ∷ l) (words_more n a b (omega arith))
 
-pub places_more : (s : Sample) (n : ℕ) (a b : List ℕ) → length a ≡ size_of s * n → colours_of s (a ++ b) ≡ colours_of s a ++ colours_of s b
+pub places_more : (s : Sample) (n : ℕ) (a b : List ℕ) → length a ≡ size_of s * n →
+    colours_of s (a ++ b) ≡ colours_of s a ++ colours_of s b
 places_more Byte n a b size = bytes_more n a b size
 places_more Word n a b size = words_more n a b size
 
@@ -76,7 +82,8 @@ words_step (r ∷ r0 ∷ g ∷ g0 ∷ u ∷ u0 ∷ xs) c long red green blue =
     let same : record { r = word_of r r0; g = word_of g g0; b = word_of u u0 } ≡ c = rw (← red, ← green, ← blue) refl in
     ap (λ (d : Colour). d ∷ colours_of_words xs) same
 
-pub words_pushed : (places new all : List Colour) (xs : List ℕ) (n : ℕ) (c : Colour) → 6 ≤ length xs → length (drop 6 xs) ≤ n →
+pub words_pushed : (places new all : List Colour) (xs : List ℕ) (n : ℕ) (c : Colour) →
+    6 ≤ length xs → length (drop 6 xs) ≤ n →
     c.r ≡ word_of (get_or xs 0 0) (get_or xs 1 0) → c.g ≡ word_of (get_or xs 2 0) (get_or xs 3 0) →
     c.b ≡ word_of (get_or xs 4 0) (get_or xs 5 0) → new ≡ places ++ c ∷ [] → places ++ colours_of_words xs ≡ all →
     new ++ colours_of_words (take n (drop 6 xs)) ≡ all
@@ -102,7 +109,8 @@ more_read s m n old mid new before more after one two is = record {
   are = is ∙ rw (one.are, two.are) (sym (places_more s m one.seen two.seen one.size));
 }
 
-pub count_read : (s : Sample) (n : ℕ) (old new : Option (List ℕ)) (places : List Colour) → ReadPlaces s n old new places →
+pub count_read : (s : Sample) (n : ℕ) (old new : Option (List ℕ)) (places : List Colour) →
+    ReadPlaces s n old new places →
     length places ≡ n
 count_read s n old new places read = ap length read.are ∙ places_count s n read.seen read.size
 
@@ -117,7 +125,8 @@ all_read s n (Some bytes) (Some rest) places read end =
     subst (λ (l : List ℕ). ArePlaces s n l places) (sym whole) (read.size, read.are)
 
 -- some places are there, and then too few bytes
-pub short_read : (s : Sample) (m wanted n : ℕ) (old mid new : Option (List ℕ)) (places : List Colour) (error : PixmapError) →
+pub short_read : (s : Sample) (m wanted n : ℕ) (old mid new : Option (List ℕ))
+    (places : List Colour) (error : PixmapError) →
     ReadPlaces s m old mid places → FailsPiece s wanted mid new error → m + wanted ≤ n → FailsToFill s n old error
 short_read s m wanted n None mid new places error read fails few = tt
 short_read s m wanted n (Some bytes) mid new places (Input input) read fails few = tt
@@ -146,7 +155,8 @@ long_read s n (Some bytes) (Some rest) places (FlawError flaw) read fails =
     let whole = ap length read.came ∙ length-append read.seen rest in
     inr (fails.0, omega (arith, whole, read.size, fails.1))
 
-pub no_flaw_input : (s : Sample) (n : ℕ) (old : Option (List ℕ)) (error : PixmapError) → ((flaw : Flaw) → ¬ (error ≡ FlawError flaw)) → FailsToFill s n old error
+pub no_flaw_input : (s : Sample) (n : ℕ) (old : Option (List ℕ)) (error : PixmapError) →
+    ((flaw : Flaw) → ¬ (error ≡ FlawError flaw)) → FailsToFill s n old error
 no_flaw_input s n None error other = tt
 no_flaw_input s n (Some bytes) (FlawError flaw) other = absurd (other flaw refl)
 no_flaw_input s n (Some bytes) (Input input) other = tt

@@ -1,5 +1,6 @@
 -- A file that is written of a picture spells it.
-use Rattle.std.proofs.Common.{◌≡◌, ◌∙◌, ◌<◌, ◌≤◌, ◌*◌, ◌^◌, ◌++◌, ℕ, true, List, [], ◌∷◌, length, take, drop, ap, sym, refl, subst, inl, zero, suc, ◌-◌, arith, append_assoc, length-append, take-append-drop}
+use Rattle.std.proofs.Common.{◌≡◌, ◌∙◌, ◌<◌, ◌≤◌, ◌*◌, ◌^◌, ◌++◌, ℕ, true, List, [], ◌∷◌, length, take, drop, ap, sym}
+use Rattle.std.proofs.Common.{refl, subst, inl, zero, suc, ◌-◌, arith, append_assoc, length-append, take-append-drop}
 use Rattle.std.proofs.lemmas.Fmt.{decimal_nonempty, digits_decimal, digits_value-decimal, length-decimal-le}
 use Rattle.std.proofs.lemmas.Str.Parse.{IsNumeralModel, numerals_by_fold}
 use Rattle.std.specs.Fmt.{decimal}
@@ -58,15 +59,31 @@ written_head w h rest wide high =
       two = two;
       three = three;
       is_magic = (head_text w h rest, λ digit. omega (arith, digit));
-      is_width = (decimal w, number_next w 10 one few refl (λ digit. omega (arith, digit)), sym (digits_value-decimal numerals w few), wide);
-      is_height = (decimal h, number_next h 32 two low refl (λ digit. omega (arith, digit)), sym (digits_value-decimal numerals h low), high);
+      is_width = (
+        decimal w,
+        number_next w 10 one few refl (λ digit. omega (arith, digit)),
+        sym (digits_value-decimal numerals w few),
+        wide,
+      );
+      is_height = (
+        decimal h,
+        number_next h 32 two low refl (λ digit. omega (arith, digit)),
+        sym (digits_value-decimal numerals h low),
+        high,
+      );
       is_maximum = (
         largest,
         record {
           gap = 10 ∷ [];
           parts = refl;
           is_gap = inl (refl, tt);
-          are_digits = ((omega arith, omega arith), ((omega arith, omega arith), ((omega arith, omega arith), ((omega arith, omega arith), ((omega arith, omega arith), tt)))));
+          are_digits = (
+            (omega arith, omega arith),
+            (
+              (omega arith, omega arith),
+              ((omega arith, omega arith), ((omega arith, omega arith), ((omega arith, omega arith), tt))),
+            ),
+          );
           some = omega arith;
           whole = λ digit. omega (arith, digit);
         },
@@ -86,7 +103,8 @@ colour_back c r g b red green blue = sym (λ i. record { r = red i; g = green i;
 one_more : (x y : Colour) (xs ys : List Colour) → x ≡ y → xs ≡ ys → x ∷ xs ≡ y ∷ ys
 one_more x y xs ys same more = cc
 
-places_back : (cs : List Colour) → AreColours cs → (length (components cs) ≡ 6 * length cs) × (cs ≡ colours_of_words (components cs))
+places_back : (cs : List Colour) → AreColours cs →
+    (length (components cs) ≡ 6 * length cs) × (cs ≡ colours_of_words (components cs))
 unfolding components
 places_back [] are = (refl, refl)
 places_back (c ∷ cs) are =
@@ -128,6 +146,8 @@ written_spells g wide high whole are =
     record {
       sample = Word;
       rest = front.0;
-      is_head = subst (λ (l : List ℕ). IsHead l g.width g.height Word front.0) (sym front.1) (written_head g.width g.height front.0 wide high);
-      are_places = subst (λ (l : List ℕ). ArePlaces Word (g.height * g.width) l g.places) (sym front.2) (omega (arith, places.0, whole), places.1);
+      is_head = subst (λ (l : List ℕ). IsHead l g.width g.height Word front.0) (sym front.1)
+          (written_head g.width g.height front.0 wide high);
+      are_places = subst (λ (l : List ℕ). ArePlaces Word (g.height * g.width) l g.places) (sym front.2)
+          (omega (arith, places.0, whole), places.1);
     }

@@ -11,13 +11,18 @@ use Rattle.rfb_viewer.specs.ServerBytes.{ServerAt}
 use Rattle.rfb_server.specs.Drawing.{Stroke, drawn_by}
 use Rattle.rfb_server.proofs.DrawingLaws.{width_drawn, height_drawn}
 use Rattle.rfb_session.specs.declared.event.Event.{Event}
-use Rattle.rfb_session.specs.declared.event.Event.TheVariants.{Fill, Put, Copy, Hint, Request, SetFormat, SetEncodings, Key, Pointer, CutText, Compose, ToServer, ToViewer}
+use Rattle.rfb_session.specs.declared.event.Event.TheVariants.{Fill, Put, Copy, Hint, Request, SetFormat, SetEncodings}
+use Rattle.rfb_session.specs.declared.event.Event.TheVariants.{Key, Pointer, CutText, Compose, ToServer, ToViewer}
 use Rattle.rfb_session.specs.Link.{Ends, LinkState, first_link}
-use Rattle.rfb_session.specs.LinkSteps.{LinkEvent, Request as OfRequest, SetFormat as OfFormat, SetEncodings as OfEncodings, Key as OfKey, Pointer as OfPointer, CutText as OfText, Compose as OfComposing, ToServer as OfServer, ToViewer as OfViewer, LinkSteps, begun}
+use Rattle.rfb_session.specs.LinkSteps.{LinkEvent, Request as OfRequest, SetFormat as OfFormat}
+use Rattle.rfb_session.specs.LinkSteps.{SetEncodings as OfEncodings, Key as OfKey, Pointer as OfPointer}
+use Rattle.rfb_session.specs.LinkSteps.{CutText as OfText, Compose as OfComposing, ToServer as OfServer}
+use Rattle.rfb_session.specs.LinkSteps.{ToViewer as OfViewer, LinkSteps, begun}
 use Rattle.rfb_session.specs.Headline.{IsHeadline}
 use Rattle.rfb_session.specs.Network.{Network, Draws, OnLink, Steps, Strokes, Leads, Still, Then, IsReached}
 use Rattle.rfb_session.proofs.QueueLemmas.{uniform_at, none_unasked}
-use Rattle.rfb_session.proofs.PhaseLemmas.{Core, core, Phase, Greeting, Versioned, Typed, Choosing37, Choosing38, Chosen, Sharing, Begun, Named, Idling, Asking, Held, Sent}
+use Rattle.rfb_session.proofs.PhaseLemmas.{Core, core, Phase, Greeting, Versioned, Typed, Choosing37, Choosing38}
+use Rattle.rfb_session.proofs.PhaseLemmas.{Chosen, Sharing, Begun, Named, Idling, Asking, Held, Sent}
 use Rattle.rfb_session.proofs.HoldsLemmas.{Holds, holds_to_viewer, holds_to_server}
 use Rattle.rfb_session.proofs.DueLemmas.{holds_composed}
 use Rattle.rfb_session.proofs.CallLemmas.{holds_mere, holds_request, holds_format}

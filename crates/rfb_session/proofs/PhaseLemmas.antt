@@ -7,8 +7,11 @@ use Rattle.rfb_wire.specs.stream.Sequel.{First, Second}
 use Rattle.rfb_codec.specs.UpdateStream.{UpdatePoint}
 use Rattle.rfb_hello.specs.declared.version.Version.{Version}
 use Rattle.rfb_hello.specs.declared.version.Version.TheVariants.{V37, V38}
-use Rattle.rfb_hello.specs.ClientHandshake.{AwaitsVersion as AwaitsClientVersion, AwaitsChoice, AwaitsInit as AwaitsClientInit, ProtocolVersion as ClientVersion, SecurityType, ClientInit, after_version}
-use Rattle.rfb_hello.specs.ServerHandshake.{ServerPoint, AwaitsVersion, AwaitsSecurity, AwaitsResult, AwaitsInit, AwaitsName, ProtocolVersion, SecurityResult, Name}
+use Rattle.rfb_hello.specs.ClientHandshake.{AwaitsVersion as AwaitsClientVersion, AwaitsChoice}
+use Rattle.rfb_hello.specs.ClientHandshake.{AwaitsInit as AwaitsClientInit, ProtocolVersion as ClientVersion}
+use Rattle.rfb_hello.specs.ClientHandshake.{SecurityType, ClientInit, after_version}
+use Rattle.rfb_hello.specs.ServerHandshake.{ServerPoint, AwaitsVersion, AwaitsSecurity, AwaitsResult, AwaitsInit}
+use Rattle.rfb_hello.specs.ServerHandshake.{AwaitsName, ProtocolVersion, SecurityResult, Name}
 use Rattle.rfb_hello.specs.ServerAnswers.{types_asked, init_asked}
 use Rattle.rfb_server.specs.ClientBytes.{ClientAt, FromClient}
 use Rattle.rfb_viewer.specs.ServerBytes.{FromServer}

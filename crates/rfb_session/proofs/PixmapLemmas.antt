@@ -1,5 +1,6 @@
 -- The bytes of a pixmap's places, one row after the other.
-use Rattle.std.proofs.Common.{◌≡◌, ℕ, ◌+◌, ◌-◌, ◌*◌, ◌/◌, min, List, [], ◌∷◌, ◌++◌, length, length-drop, take, take-add, drop, drop-cons, refl, ap, sym, ◌∙◌, arith}
+use Rattle.std.proofs.Common.{◌≡◌, ℕ, ◌+◌, ◌-◌, ◌*◌, ◌/◌, min, List, [], ◌∷◌, ◌++◌, length, length-drop, take, take-add}
+use Rattle.std.proofs.Common.{drop, drop-cons, refl, ap, sym, ◌∙◌, arith}
 use Rattle.std.proofs.Common.{Option, subst, append-nil, append_assoc, take-append-drop}
 use Rattle.std.proofs.Common.{slice_index_or, ◌≤◌, ◌<◌, length-take}
 use Rattle.std.proofs.lemmas.List.{take_all, length-take-le}
@@ -11,7 +12,8 @@ use Rattle.rfb_picture.specs.Grid.{Grid}
 use Rattle.rfb_pixel.specs.declared.colour.Colour.{Colour}
 use Rattle.rfb_session.specs.Pixmap.{components, header, header_of, pixmap}
 use Rattle.rfb_session.specs.Devices.{AppendsBeginning, AppendsUpTo}
-use Rattle.rfb_session.proofs.WrittenLemmas.{none_written, then_written, more_waits, then_all, then_stopped, beginning_more}
+use Rattle.rfb_session.proofs.WrittenLemmas.{none_written, then_written, more_waits, then_all, then_stopped}
+use Rattle.rfb_session.proofs.WrittenLemmas.{beginning_more}
 
 -- the bytes of a colour, before others
 abbrev pub with_colour : Colour → List ℕ → List ℕ
@@ -23,11 +25,14 @@ components-append [] ys = refl
 components-append (c ∷ cs) ys = ap (with_colour c) (components-append cs ys)
 
 -- The bytes of the rows so far and those of the next row are the bytes of one row more.
-pub components_more : (places row : List Colour) (bytes : List ℕ) (y width w : ℕ) → w ≡ width → row ≡ take w (drop (y * width + 0) places) → bytes ≡ components row → components (take (y * width) places) ++ bytes ≡ components (take ((y + 1) * width) places)
+pub components_more : (places row : List Colour) (bytes : List ℕ) (y width w : ℕ) →
+    w ≡ width → row ≡ take w (drop (y * width + 0) places) → bytes ≡ components row →
+    components (take (y * width) places) ++ bytes ≡ components (take ((y + 1) * width) places)
 components_more places row bytes y width w same lent put =
     let e : (y + 1) * width ≡ y * width + width = omega arith in
     let f : y * width + 0 ≡ y * width = omega arith in
-    rw (put, lent, same, f, e, take-add) (sym (components-append (take (y * width) places) (take width (drop (y * width) places))))
+    rw (put, lent, same, f, e, take-add)
+    (sym (components-append (take (y * width) places) (take width (drop (y * width) places))))
 
 -- Before the first row there are none.
 pub components_none : (places : List Colour) (width : ℕ) → components (take (0 * width) places) ≡ []
@@ -54,7 +59,8 @@ text_rest : (g : Grid Colour) (y : ℕ) → pixmap g ≡ text_up_to g y ++ compo
 text_rest g y =
     ap (λ (l : List Colour). header g ++ components l) (sym (take-append-drop (y * g.width) g.places))
     ∙ ap (λ (l : List ℕ). header g ++ l) (components-append (take (y * g.width) g.places) (drop (y * g.width) g.places))
-    ∙ sym (append_assoc (header g) (components (take (y * g.width) g.places)) (components (drop (y * g.width) g.places)))
+    ∙ sym (append_assoc (header g) (components (take (y * g.width) g.places))
+    (components (drop (y * g.width) g.places)))
 
 pub row_stopped : (g : Grid Colour) (y : ℕ) (old new : Option (List ℕ)) →
     AppendsBeginning old new (text_up_to g y) → AppendsBeginning old new (pixmap g)
@@ -63,7 +69,8 @@ row_stopped g y old new begun =
     (beginning_more old new (text_up_to g y) (components (drop (y * g.width) g.places)) begun)
 
 -- all rows
-pub whole_text : (g : Grid Colour) (y : ℕ) → y ≡ g.height → length g.places ≡ g.height * g.width → text_up_to g y ≡ pixmap g
+pub whole_text : (g : Grid Colour) (y : ℕ) → y ≡ g.height → length g.places ≡ g.height * g.width →
+    text_up_to g y ≡ pixmap g
 whole_text g y last whole =
     rw last (ap (λ (l : List Colour). header g ++ components l)
     (take_all (g.height * g.width) g.places (omega (arith, whole))))
@@ -118,10 +125,14 @@ components_eight (p ∷ []) none a b c d e f g h many ea eb ec ed ee ef eg eh = 
 components_eight (p ∷ q ∷ []) none a b c d e f g h many ea eb ec ed ee ef eg eh = absurd (omega (arith, many))
 components_eight (p ∷ q ∷ r ∷ []) none a b c d e f g h many ea eb ec ed ee ef eg eh = absurd (omega (arith, many))
 components_eight (p ∷ q ∷ r ∷ s ∷ []) none a b c d e f g h many ea eb ec ed ee ef eg eh = absurd (omega (arith, many))
-components_eight (p ∷ q ∷ r ∷ s ∷ t ∷ []) none a b c d e f g h many ea eb ec ed ee ef eg eh = absurd (omega (arith, many))
-components_eight (p ∷ q ∷ r ∷ s ∷ t ∷ u ∷ []) none a b c d e f g h many ea eb ec ed ee ef eg eh = absurd (omega (arith, many))
-components_eight (p ∷ q ∷ r ∷ s ∷ t ∷ u ∷ v ∷ []) none a b c d e f g h many ea eb ec ed ee ef eg eh = absurd (omega (arith, many))
-components_eight (p ∷ q ∷ r ∷ s ∷ t ∷ u ∷ v ∷ w ∷ x ∷ xs) none a b c d e f g h many ea eb ec ed ee ef eg eh = absurd (omega (arith, many))
+components_eight (p ∷ q ∷ r ∷ s ∷ t ∷ []) none a b c d e f g h many ea eb ec ed ee ef eg eh =
+    absurd (omega (arith, many))
+components_eight (p ∷ q ∷ r ∷ s ∷ t ∷ u ∷ []) none a b c d e f g h many ea eb ec ed ee ef eg eh =
+    absurd (omega (arith, many))
+components_eight (p ∷ q ∷ r ∷ s ∷ t ∷ u ∷ v ∷ []) none a b c d e f g h many ea eb ec ed ee ef eg eh =
+    absurd (omega (arith, many))
+components_eight (p ∷ q ∷ r ∷ s ∷ t ∷ u ∷ v ∷ w ∷ x ∷ xs) none a b c d e f g h many ea eb ec ed ee ef eg eh =
+    absurd (omega (arith, many))
 
 -- the components of no colour yet
 pub no_components : (before : List ℕ) → before ++ components [] ≡ before
@@ -142,8 +153,10 @@ pub put_more : (colours : List Colour) (bytes part : List ℕ) (start n k : ℕ)
     take (6 * (start + n)) (put_mid (6 * start) k bytes part) ≡ components (take (start + n) colours)
 put_more colours bytes part start n k within room so_far is =
     let rest = length-drop start colours in
-    let piece : length (take n (drop start colours)) ≡ n = length-take-le n (drop start colours) (omega (arith, rest, within)) in
-    let long : length part ≡ 6 * n = ap length is ∙ components_len (take n (drop start colours)) ∙ ap (λ (m : ℕ). 6 * m) piece in
+    let piece : length (take n (drop start colours)) ≡ n =
+    length-take-le n (drop start colours) (omega (arith, rest, within)) in
+    let long : length part ≡ 6 * n =
+    ap length is ∙ components_len (take n (drop start colours)) ∙ ap (λ (m : ℕ). 6 * m) piece in
     take-put_mid (6 * start) k bytes part (6 * (start + n)) (omega (arith, long)) room
     ∙ rw (so_far, is, take-add) (sym (components-append (take start colours) (take n (drop start colours))))
 
@@ -178,9 +191,11 @@ block_more colours start end up =
 
 -- it ends where the colours do, or the room for their bytes
 pub room_for_block : (colours : List Colour) (start end room waiting : ℕ) → room + waiting ≡ 65536 →
-    end ≡ min (length colours) (start + room / 6) → waiting + 6 * length (take (end - start) (drop start colours)) ≤ 65536
+    end ≡ min (length colours) (start + room / 6) →
+    waiting + 6 * length (take (end - start) (drop start colours)) ≤ 65536
 room_for_block colours start end room waiting all is =
-    let some : length (take (end - start) (drop start colours)) ≡ min (end - start) (length (drop start colours)) = length-take (end - start) (drop start colours) in
+    let some : length (take (end - start) (drop start colours)) ≡ min (end - start) (length (drop start colours)) =
+    length-take (end - start) (drop start colours) in
     omega (arith, all, is, some)
 
 -- where it stops at some colour, a beginning of all was written

@@ -16,7 +16,8 @@ use Rattle.rfb_viewer.specs.Standing.{StandsFor as ViewerStandsFor, fault_of}
 use Rattle.rfb_viewer.specs.Told.{ViewerTold}
 use Rattle.rfb_session.specs.declared.link.Link.{Link}
 use Rattle.rfb_session.specs.InFlight.{viewer_reply, server_reply}
-use Rattle.rfb_session.specs.LinkBytes.{session_driven, IsSole, sole_told, HearsOver, SessionEndsBy, ReachesSession, TellsSole, ViewerEndsBy, ReachesViewer}
+use Rattle.rfb_session.specs.LinkBytes.{session_driven, IsSole, sole_told, HearsOver, SessionEndsBy, ReachesSession}
+use Rattle.rfb_session.specs.LinkBytes.{TellsSole, ViewerEndsBy, ReachesViewer}
 use Rattle.rfb_session.specs.EngineRun.{TakesNone}
 use Rattle.rfb_session.specs.Watching.{viewer_driven, ViewerFeeds, ends_told}
 use Rattle.rfb_session.specs.inside.Delivering.{HasHeard, EndsHearing, HasWatched, EndsWatching}
@@ -56,7 +57,8 @@ pub heard_once : (old new : Link) (bytes : List ℕ) (count used : ℕ) (sole : 
     ((serving : Serving) (screen : Grid Colour) → FedBy (server serving) (SessionStandsFor serving screen)
     old.session (take used bytes) event new.session) →
     new.viewer ≡ old.viewer → new.to_server ≡ drop used old.to_server →
-    new.to_viewer ≡ old.to_viewer ++ server_reply event → new.latest ≡ old.latest → IsSole sole (sole_told event) → HasHeard old used sole new
+    new.to_viewer ≡ old.to_viewer ++ server_reply event → new.latest ≡ old.latest → IsSole sole (sole_told event) →
+    HasHeard old used sole new
 heard_once old new bytes count used sole event going few is some fed same gets sends latest asked =
     let part = fed_first old.to_server bytes count used few is some in
     record {
@@ -77,7 +79,8 @@ still_failed : (old new : Session) → new ≡ old → session_fault old ≢ Non
 still_failed old new same some = subst (λ (s : Session). session_fault s ≢ None) (sym same) some
 
 -- some, and then some more
-pub heard_more : (a b c : Link) (k j : ℕ) (p q : Bool) → HasHeard a k p b → HasHeard b j q c → HasHeard a (k + j) (p || q) c
+pub heard_more : (a b c : Link) (k j : ℕ) (p q : Bool) → HasHeard a k p b → HasHeard b j q c →
+    HasHeard a (k + j) (p || q) c
 heard_more a b c k j p q one two = record {
   sent = one.sent ++ two.sent;
   soles = one.soles + two.soles;
@@ -93,13 +96,15 @@ heard_more a b c k j p q one two = record {
       (λ screen. feeds_then (session_driven screen) a.session b.session c.session (take k a.to_server) one.sent
       (take j b.to_server) two.sent one.soles two.soles (one.hears screen) (two.hears screen));
   gone = two.gone ∙ ap (λ (rest : List ℕ). drop j rest) one.gone ∙ drop-drop j k a.to_server;
-  answered = two.answered ∙ ap (λ (l : List ℕ). l ++ two.sent) one.answered ∙ append_assoc a.to_viewer one.sent two.sent;
+  answered =
+      two.answered ∙ ap (λ (l : List ℕ). l ++ two.sent) one.answered ∙ append_assoc a.to_viewer one.sent two.sent;
   viewer = two.viewer ∙ one.viewer;
   latest = two.latest ∙ one.latest;
 }
 
 -- some, and then it ends
-pub heard_ends : (a b c : Link) (k j : ℕ) (p q : Bool) → HasHeard a k p b → EndsHearing b j q c → EndsHearing a (k + j) (p || q) c
+pub heard_ends : (a b c : Link) (k j : ℕ) (p q : Bool) → HasHeard a k p b → EndsHearing b j q c →
+    EndsHearing a (k + j) (p || q) c
 heard_ends a b c k j p q one two = record {
   fed = take k a.to_server ++ two.fed;
   later = two.later;
@@ -118,7 +123,8 @@ heard_ends a b c k j p q one two = record {
       (one.failed some) (two.failed (still_failed a.session b.session (one.failed some).same some));
   ends = two.ends;
   gone = two.gone ∙ ap (λ (rest : List ℕ). drop j rest) one.gone ∙ drop-drop j k a.to_server;
-  answered = two.answered ∙ ap (λ (l : List ℕ). l ++ two.sent) one.answered ∙ append_assoc a.to_viewer one.sent two.sent;
+  answered =
+      two.answered ∙ ap (λ (l : List ℕ). l ++ two.sent) one.answered ∙ append_assoc a.to_viewer one.sent two.sent;
   viewer = two.viewer ∙ one.viewer;
   latest = two.latest ∙ one.latest;
 }
@@ -184,17 +190,22 @@ pub heard_goes_on : (a b c : Link) (used left all : ℕ) (p q : Bool) → 0 < us
     HasHeard a (all - left) p b ⊎ ((left ≡ 0) × EndsHearing a all p b) →
     HasHeard b used q c ⊎ ((used ≡ left) × EndsHearing b left q c) →
     HasHeard a (all - (left - used)) (p || q) c ⊎ ((left - used ≡ 0) × EndsHearing a all (p || q) c)
-heard_goes_on a b c used left all p q some part within (inr (none, ended)) two = absurd (omega (arith, some, part, none))
+heard_goes_on a b c used left all p q some part within (inr (none, ended)) two =
+    absurd (omega (arith, some, part, none))
 heard_goes_on a b c used left all p q some part within (inl one) (inl two) =
     let sum : (all - left) + used ≡ all - (left - used) = omega (arith, part, within) in
     inl (subst (λ (n : ℕ). HasHeard a n (p || q) c) sum (heard_more a b c (all - left) used p q one two))
 heard_goes_on a b c used left all p q some part within (inl one) (inr (whole, two)) =
     let sum : (all - left) + left ≡ all = omega (arith, within) in
-    inr (omega (arith, whole), subst (λ (n : ℕ). EndsHearing a n (p || q) c) sum (heard_ends a b c (all - left) left p q one two))
+    inr (
+      omega (arith, whole),
+      subst (λ (n : ℕ). EndsHearing a n (p || q) c) sum (heard_ends a b c (all - left) left p q one two),
+    )
 
 -- all calls
 pub heard_done : (a b : Link) (left all : ℕ) (sole : Bool) → all - left ≡ all →
-    HasHeard a (all - left) sole b ⊎ ((left ≡ 0) × EndsHearing a all sole b) → HasHeard a all sole b ⊎ EndsHearing a all sole b
+    HasHeard a (all - left) sole b ⊎ ((left ≡ 0) × EndsHearing a all sole b) →
+    HasHeard a all sole b ⊎ EndsHearing a all sole b
 heard_done a b left all sole is (inl one) = inl (subst (λ (n : ℕ). HasHeard a n sole b) is one)
 heard_done a b left all sole is (inr (none, ended)) = inr ended
 
@@ -255,7 +266,8 @@ watched_more a b c k j one two = record {
       (feeds_then viewer_driven a.viewer b.viewer c.viewer (take k a.to_viewer) one.sent (take j b.to_viewer)
       two.sent one.updates two.updates one.watches two.watches);
   gone = two.gone ∙ ap (λ (rest : List ℕ). drop j rest) one.gone ∙ drop-drop j k a.to_viewer;
-  answered = two.answered ∙ ap (λ (l : List ℕ). l ++ two.sent) one.answered ∙ append_assoc a.to_server one.sent two.sent;
+  answered =
+      two.answered ∙ ap (λ (l : List ℕ). l ++ two.sent) one.answered ∙ append_assoc a.to_server one.sent two.sent;
   session = two.session ∙ one.session;
   latest = two.latest ∙ one.latest;
 }
@@ -279,7 +291,8 @@ watched_ends a b c k j one two = record {
       (one.failed some) (two.failed (still_broken a.viewer b.viewer (one.failed some).same some));
   ends = two.ends;
   gone = two.gone ∙ ap (λ (rest : List ℕ). drop j rest) one.gone ∙ drop-drop j k a.to_viewer;
-  answered = two.answered ∙ ap (λ (l : List ℕ). l ++ two.sent) one.answered ∙ append_assoc a.to_server one.sent two.sent;
+  answered =
+      two.answered ∙ ap (λ (l : List ℕ). l ++ two.sent) one.answered ∙ append_assoc a.to_server one.sent two.sent;
   session = two.session ∙ one.session;
   latest = two.latest ∙ one.latest;
 }

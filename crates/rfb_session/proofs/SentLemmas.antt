@@ -1,5 +1,6 @@
 -- What is sent joins the bytes in flight: an update that is composed, and messages of the viewer.
-use Rattle.std.proofs.Common.{◌≡◌, ℕ, Bool, true, List, [], ◌∷◌, ◌++◌, map, length, Some, None, refl, sym, ap, ◌∙◌, subst}
+use Rattle.std.proofs.Common.{◌≡◌, ℕ, Bool, true, List, [], ◌∷◌, ◌++◌, map, length, Some, None, refl, sym, ap, ◌∙◌}
+use Rattle.std.proofs.Common.{subst}
 use Rattle.rfb_pixel.specs.declared.colour.Colour.{Colour}
 use Rattle.rfb_picture.specs.Grid.{Grid}
 use Rattle.rfb_wire.specs.stream.Sequel.{First, Second}
@@ -21,7 +22,8 @@ use Rattle.rfb_viewer.proofs.ViewerLaws.{server_bytes_laws}
 use Rattle.rfb_session.specs.Link.{Ends, server_of, LinkState}
 use Rattle.rfb_session.specs.LinkSteps.{begun, calls, ComposesOn}
 use Rattle.rfb_session.specs.InFlight.{Flight, Flies}
-use Rattle.rfb_session.proofs.PhaseLemmas.{Core, core, Phase, Greeting, Versioned, Typed, Choosing37, Choosing38, Chosen, Sharing, Begun, Named, Idling, Asking, Held, Sent}
+use Rattle.rfb_session.proofs.PhaseLemmas.{Core, core, Phase, Greeting, Versioned, Typed, Choosing37, Choosing38}
+use Rattle.rfb_session.proofs.PhaseLemmas.{Chosen, Sharing, Begun, Named, Idling, Asking, Held, Sent}
 use Rattle.rfb_session.proofs.HoldsLemmas.{Holds}
 use Rattle.rfb_session.proofs.DueLemmas.{due_held, point_is}
 use Rattle.rfb_session.proofs.ReadyLemmas.{one_read}

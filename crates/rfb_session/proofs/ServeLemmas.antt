@@ -1,5 +1,7 @@
 -- What an engine does with a server, call by call.
-use Rattle.std.proofs.Common.{◌≡◌, ◌≢◌, ℕ, zero, suc, ◌+◌, ◌-◌, ◌*◌, ◌&&◌, Bool, true, false, List, [], ◌∷◌, ◌++◌, Option, Some, length, take, drop, refl, sym, ap, ◌∙◌, subst, append_assoc, append-nil, take-append-drop, slice_index_or, replicate}
+use Rattle.std.proofs.Common.{◌≡◌, ◌≢◌, ℕ, zero, suc, ◌+◌, ◌-◌, ◌*◌, ◌&&◌, Bool, true, false, List, [], ◌∷◌, ◌++◌}
+use Rattle.std.proofs.Common.{Option, Some, length, take, drop, refl, sym, ap, ◌∙◌, subst, append_assoc, append-nil}
+use Rattle.std.proofs.Common.{take-append-drop, slice_index_or, replicate}
 use Rattle.std.specs.Io.KnownBytes.{Appends}
 use Rattle.rfb_pixel.specs.declared.colour.Colour.{Colour}
 use Rattle.rfb_picture.specs.Grid.{Grid, uniform, at_or}
@@ -16,7 +18,9 @@ use Rattle.rfb_server.specs.Failing.{KeepsNotes}
 use Rattle.rfb_server.specs.Composing.{Composes}
 use Rattle.rfb_server.specs.Updating.{Updates, StaysUnsent}
 use Rattle.rfb_session.specs.declared.engine.fault.EngineFault.{EngineFault}
-use Rattle.rfb_session.specs.declared.engine.fault.EngineFault.TheVariants.{Server as ServerEnded, Viewer as ViewerEnded, Truncated, Device, NoMemory as EngineNoMemory}
+use Rattle.rfb_session.specs.declared.engine.fault.EngineFault.TheVariants.{Server as ServerEnded}
+use Rattle.rfb_session.specs.declared.engine.fault.EngineFault.TheVariants.{Viewer as ViewerEnded, Truncated, Device}
+use Rattle.rfb_session.specs.declared.engine.fault.EngineFault.TheVariants.{NoMemory as EngineNoMemory}
 use Rattle.rfb_session.specs.InFlight.{server_reply}
 use Rattle.rfb_session.specs.EngineRun.{Did}
 use Rattle.rfb_session.specs.ServeEngine.{Composed, Drawn, server_driven, ServerRuns, Hears, IsIdle}

@@ -4,19 +4,24 @@ use Rattle.rfb_pixel.specs.declared.colour.Colour.{Colour}
 use Rattle.rfb_picture.specs.Grid.{Grid}
 use Rattle.rfb_picture.specs.Area.{Places}
 use Rattle.rfb_wire.specs.stream.Sequel.{First, Second, past_in}
-use Rattle.rfb_wire.specs.ClientMessage.{ClientMessage, SetPixelFormat, SetEncodings, FramebufferUpdateRequest, KeyEvent, PointerEvent, ClientCutText}
+use Rattle.rfb_wire.specs.ClientMessage.{ClientMessage, SetPixelFormat, SetEncodings, FramebufferUpdateRequest}
+use Rattle.rfb_wire.specs.ClientMessage.{KeyEvent, PointerEvent, ClientCutText}
 use Rattle.rfb_codec.specs.UpdateStream.{UpdatePoint}
 use Rattle.rfb_hello.specs.declared.version.Version.{Version}
 use Rattle.rfb_hello.specs.declared.version.Version.TheVariants.{V33, V37, V38}
-use Rattle.rfb_hello.specs.ClientHandshake.{AwaitsVersion as AwaitsClientVersion, ClientItem, ProtocolVersion as ClientVersion}
+use Rattle.rfb_hello.specs.ClientHandshake.{AwaitsVersion as AwaitsClientVersion, ClientItem}
+use Rattle.rfb_hello.specs.ClientHandshake.{ProtocolVersion as ClientVersion}
 use Rattle.rfb_hello.specs.ServerHandshake.{ServerPoint, AwaitsSecurity}
 use Rattle.rfb_server.specs.ClientBytes.{ClientAt, FromClient, client_two}
 use Rattle.rfb_server.specs.Server.{serves, message_acts}
 use Rattle.rfb_viewer.specs.ServerBytes.{FromServer}
 use Rattle.rfb_session.specs.Link.{Ends, SessionState, server_of, session_of}
 use Rattle.rfb_session.specs.Answers.{server_answers}
-use Rattle.rfb_session.proofs.QueueLemmas.{IsMere, AreMere, AreLater, AskOnce, form_after, mere_forms, IsRest, IsUnasked}
-use Rattle.rfb_session.proofs.PhaseLemmas.{Core, Stands, Meets, Idles, Asks, Awaits, Sends, Phase, Greeting, Versioned, Typed, Choosing37, Choosing38, Chosen, Sharing, Begun, Named, Idling, Asking, Held, Sent, first_is, none_first}
+use Rattle.rfb_session.proofs.QueueLemmas.{IsMere, AreMere, AreLater, AskOnce, form_after, mere_forms, IsRest}
+use Rattle.rfb_session.proofs.QueueLemmas.{IsUnasked}
+use Rattle.rfb_session.proofs.PhaseLemmas.{Core, Stands, Meets, Idles, Asks, Awaits, Sends, Phase, Greeting, Versioned}
+use Rattle.rfb_session.proofs.PhaseLemmas.{Typed, Choosing37, Choosing38, Chosen, Sharing, Begun, Named, Idling, Asking}
+use Rattle.rfb_session.proofs.PhaseLemmas.{Held, Sent, first_is, none_first}
 
 abbrev pub served : Ends → Grid Colour → Core → FromClient → List FromClient → Core
 served e screen c item rest = record c {

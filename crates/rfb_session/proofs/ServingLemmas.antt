@@ -1,14 +1,18 @@
 -- What an engine does with a server, read by read.
-use Rattle.std.proofs.Common.{◌≡◌, ℕ, ◌+◌, ◌-◌, ◌^◌, ◌<◌, ◌≤◌, min, List, [], ◌++◌, Option, length, length-append, refl, sym, ap, ◌∙◌, subst, append_assoc, append-nil, arith}
+use Rattle.std.proofs.Common.{◌≡◌, ℕ, ◌+◌, ◌-◌, ◌^◌, ◌<◌, ◌≤◌, min, List, [], ◌++◌, Option, length, length-append, refl}
+use Rattle.std.proofs.Common.{sym, ap, ◌∙◌, subst, append_assoc, append-nil, arith}
 use Rattle.std.specs.Io.KnownBytes.{Appends, Consumes, Keeps, IsAtEnd}
 use Rattle.std.proofs.KnownBytes.{Appends-nil, Appends-trans, Consumes-nil, Consumes-trans, Consumes-kept}
 use Rattle.rfb_server.specs.declared.server.Server.{Server}
 use Rattle.rfb_session.specs.declared.engine.fault.EngineFault.{EngineFault}
-use Rattle.rfb_session.specs.declared.engine.fault.EngineFault.TheVariants.{Server as ServerEnded, Viewer as ViewerEnded, Truncated, Device, NoMemory as EngineNoMemory}
+use Rattle.rfb_session.specs.declared.engine.fault.EngineFault.TheVariants.{Server as ServerEnded}
+use Rattle.rfb_session.specs.declared.engine.fault.EngineFault.TheVariants.{Viewer as ViewerEnded, Truncated, Device}
+use Rattle.rfb_session.specs.declared.engine.fault.EngineFault.TheVariants.{NoMemory as EngineNoMemory}
 use Rattle.rfb_session.specs.Devices.{AppendsBeginning}
 use Rattle.rfb_session.specs.Playing.{most}
 use Rattle.rfb_session.specs.Wire.{by_bytes}
-use Rattle.rfb_session.specs.ServeEngine.{server_driven, ServerRuns, RunsToIdle, KeepsIdle, RunsFromIdle, IsHeard, IsUpdated, StopsHearing, StopsUpdating, AllServed, ServedSome, StopsServing}
+use Rattle.rfb_session.specs.ServeEngine.{server_driven, ServerRuns, RunsToIdle, KeepsIdle, RunsFromIdle, IsHeard}
+use Rattle.rfb_session.specs.ServeEngine.{IsUpdated, StopsHearing, StopsUpdating, AllServed, ServedSome, StopsServing}
 use Rattle.rfb_session.proofs.WrittenLemmas.{whole_beginning}
 use Rattle.rfb_session.proofs.PlayLemmas.{none_left}
 use Rattle.rfb_session.proofs.EngineRunLemmas.{none_more, joined, ran_none}
@@ -18,7 +22,8 @@ use Rattle.rfb_session.proofs.ServeLemmas.{hears_runs, composed_runs, kept_runs}
 -- ---- all reads
 
 -- what was read was fed and answered, and no update is due
-pub record ServedSoFar (unread left before after : Option (List ℕ)) (old : Server) (reads told : ℕ) (now : Server) : Type 0 where
+pub record ServedSoFar (unread left before after : Option (List ℕ)) (old : Server) (reads told : ℕ)
+    (now : Server) : Type 0 where
   pub fed : List ℕ
   pub sent : List ℕ
   pub updates : ℕ
@@ -28,7 +33,8 @@ pub record ServedSoFar (unread left before after : Option (List ℕ)) (old : Ser
   pub told_is : told ≡ most updates
   pub some : reads ≤ length fed
 
-pub serving_none : (unread before : Option (List ℕ)) (old : Server) → ServedSoFar unread unread before before old 0 0 old
+pub serving_none : (unread before : Option (List ℕ)) (old : Server) →
+    ServedSoFar unread unread before before old 0 0 old
 serving_none unread before old = record {
   fed = [];
   sent = [];
@@ -100,7 +106,8 @@ one_more reads old new few some = omega (arith, few, some)
 
 -- a read, and an update or none after it
 pub serving_more : (unread mid left before w x after : Option (List ℕ)) (old : Server) (reads told : ℕ)
-    (last heard : Server) (bytes : List ℕ) (n now : ℕ) (new : Server) → ServedSoFar unread mid before w old reads told last →
+    (last heard : Server) (bytes : List ℕ) (n now : ℕ) (new : Server) →
+    ServedSoFar unread mid before w old reads told last →
     Consumes mid left bytes → 0 < length bytes → IsHeard last bytes w x heard → IsUpdated heard x after n new →
     now ≡ min (told + n) (2 ^ 64 - 1) → ServedSoFar unread left before after old (reads + 1) now new
 serving_more unread mid left before w x after old reads told last heard bytes n now new was more some h u is = record {
@@ -175,20 +182,24 @@ pub hearing_fails : (unread mid left before w after : Option (List ℕ)) (old : 
     ServedSoFar unread mid before w old reads told last → Consumes mid left bytes → failed_read ≡ failing →
     failed_mid ≡ stuck → StopsHearing by_bytes last bytes w after failed_mid failed fault new →
     StopsServing unread left failing failed_read before after stuck failed [] old fault new
-hearing_fails unread mid left before w after old reads told last bytes fr fs st fm failed (ServerEnded fault) new was more same none stops = record {
-  fed = was.fed ++ stops.fed;
-  slice = stops.slice;
-  sent = was.sent ++ stops.sent;
-  updates = was.updates + 0;
-  last = stops.last;
-  read = subst (λ (l : List ℕ). Consumes unread left l) (joined_after was.fed bytes stops.fed stops.slice stops.bytes_are)
-      (Consumes-trans unread mid left was.fed bytes was.read more);
-  runs = idle_then old last stops.last was.fed was.sent stops.fed stops.sent was.updates 0 was.runs
-      (hears_runs last stops.last stops.fed stops.sent stops.hears);
-  wrote = Appends-trans before w after was.sent stops.sent was.wrote stops.wrote;
-  ends = stops.ends;
-}
-hearing_fails unread mid left before w after old reads told last bytes fr fs st fm failed Device new was more same none stops =
+hearing_fails unread mid left before w after old reads told last bytes fr fs st fm failed (ServerEnded fault) new was
+    more same none stops = record {
+      fed = was.fed ++ stops.fed;
+      slice = stops.slice;
+      sent = was.sent ++ stops.sent;
+      updates = was.updates + 0;
+      last = stops.last;
+      read =
+          subst (λ (l : List ℕ). Consumes unread left l)
+          (joined_after was.fed bytes stops.fed stops.slice stops.bytes_are)
+          (Consumes-trans unread mid left was.fed bytes was.read more);
+      runs = idle_then old last stops.last was.fed was.sent stops.fed stops.sent was.updates 0 was.runs
+          (hears_runs last stops.last stops.fed stops.sent stops.hears);
+      wrote = Appends-trans before w after was.sent stops.sent was.wrote stops.wrote;
+      ends = stops.ends;
+    }
+hearing_fails unread mid left before w after old reads told last bytes fr fs st fm failed Device
+    new was more same none stops =
     let cut = stops.1 in (
       one_of_two fr fs fm failed st same none stops.0,
       record {
@@ -196,60 +207,71 @@ hearing_fails unread mid left before w after old reads told last bytes fr fs st 
         later = cut.later;
         sent = was.sent ++ cut.sent;
         updates = was.updates + 0;
-        read = subst (λ (l : List ℕ). Consumes unread left l) (joined_after was.fed bytes cut.fed cut.later cut.bytes_are)
+        read =
+            subst (λ (l : List ℕ). Consumes unread left l) (joined_after was.fed bytes cut.fed cut.later cut.bytes_are)
             (Consumes-trans unread mid left was.fed bytes was.read more);
         runs = idle_then old last new was.fed was.sent cut.fed cut.sent was.updates 0 was.runs
             (hears_runs last new cut.fed cut.sent cut.hears);
         wrote = begun_after before w after was.sent cut.sent was.wrote cut.wrote;
       },
     )
-hearing_fails unread mid left before w after old reads told last bytes fr fs st fm failed (ViewerEnded fault) new was more same none stops = stops
-hearing_fails unread mid left before w after old reads told last bytes fr fs st fm failed Truncated new was more same none stops = absurd stops
-hearing_fails unread mid left before w after old reads told last bytes fr fs st fm failed EngineNoMemory new was more same none stops = absurd stops
+hearing_fails unread mid left before w after old reads told last bytes fr fs st fm failed (ViewerEnded fault) new
+    was more same none stops = stops
+hearing_fails unread mid left before w after old reads told last bytes fr fs st fm failed Truncated new was more
+    same none stops = absurd stops
+hearing_fails unread mid left before w after old reads told last bytes fr fs st fm failed EngineNoMemory new was more
+    same none stops = absurd stops
 
 -- or after it
 pub updating_fails : (unread mid left before w x after : Option (List ℕ)) (old : Server) (reads told : ℕ)
-    (last heard : Server) (bytes : List ℕ) (failing failed_read stuck failed_mid failed : ℕ) (fault : EngineFault) (new : Server) →
+    (last heard : Server) (bytes : List ℕ) (failing failed_read stuck failed_mid failed : ℕ)
+    (fault : EngineFault) (new : Server) →
     ServedSoFar unread mid before w old reads told last → Consumes mid left bytes → IsHeard last bytes w x heard →
     failed_read ≡ failing → failed_mid ≡ stuck → StopsUpdating by_bytes heard x after failed_mid failed fault new →
     StopsServing unread left failing failed_read before after stuck failed [] old fault new
-updating_fails unread mid left before w x after old reads told last heard bytes fr fs st fm failed Device new was more h same none stops = (
-  one_of_two fr fs fm failed st same none stops.0,
-  record {
-    fed = was.fed ++ bytes;
-    later = [];
-    sent = (was.sent ++ h.sent) ++ stops.1;
-    updates = was.updates + 1;
-    read = subst (λ (l : List ℕ). Consumes unread left l) (sym (append-nil (was.fed ++ bytes)))
-        (Consumes-trans unread mid left was.fed bytes was.read more);
-    runs = from_idle_then old heard new (was.fed ++ bytes) (was.sent ++ h.sent) stops.1 was.updates 1
-        (heard_after old last heard was.fed was.sent bytes was.updates w x was.runs h)
-        (composed_runs heard new [] stops.1 stops.2 refl);
-    wrote = begun_after before x after (was.sent ++ h.sent) stops.1
-        (Appends-trans before w x was.sent h.sent was.wrote h.wrote) stops.3;
-  },
-)
-updating_fails unread mid left before w x after old reads told last heard bytes fr fs st fm failed EngineNoMemory new was more h same none stops = record {
-  fed = was.fed ++ bytes;
-  later = [];
-  sent = (was.sent ++ h.sent) ++ [];
-  updates = was.updates + 0;
-  read = subst (λ (l : List ℕ). Consumes unread left l) (sym (append-nil (was.fed ++ bytes)))
-      (Consumes-trans unread mid left was.fed bytes was.read more);
-  runs = from_idle_then old heard new (was.fed ++ bytes) (was.sent ++ h.sent) [] was.updates 0
-      (heard_after old last heard was.fed was.sent bytes was.updates w x was.runs h)
-      (kept_runs heard new stops.1);
-  wrote = whole_beginning before after ((was.sent ++ h.sent) ++ [])
-      (Appends-trans before x after (was.sent ++ h.sent) []
-      (Appends-trans before w x was.sent h.sent was.wrote h.wrote) stops.2);
-}
-updating_fails unread mid left before w x after old reads told last heard bytes fr fs st fm failed (ServerEnded fault) new was more h same none stops = absurd stops
-updating_fails unread mid left before w x after old reads told last heard bytes fr fs st fm failed (ViewerEnded fault) new was more h same none stops = absurd stops
-updating_fails unread mid left before w x after old reads told last heard bytes fr fs st fm failed Truncated new was more h same none stops = absurd stops
+updating_fails unread mid left before w x after old reads told last heard bytes fr fs st fm failed Device new
+    was more h same none stops = (
+      one_of_two fr fs fm failed st same none stops.0,
+      record {
+        fed = was.fed ++ bytes;
+        later = [];
+        sent = (was.sent ++ h.sent) ++ stops.1;
+        updates = was.updates + 1;
+        read = subst (λ (l : List ℕ). Consumes unread left l) (sym (append-nil (was.fed ++ bytes)))
+            (Consumes-trans unread mid left was.fed bytes was.read more);
+        runs = from_idle_then old heard new (was.fed ++ bytes) (was.sent ++ h.sent) stops.1 was.updates 1
+            (heard_after old last heard was.fed was.sent bytes was.updates w x was.runs h)
+            (composed_runs heard new [] stops.1 stops.2 refl);
+        wrote = begun_after before x after (was.sent ++ h.sent) stops.1
+            (Appends-trans before w x was.sent h.sent was.wrote h.wrote) stops.3;
+      },
+    )
+updating_fails unread mid left before w x after old reads told last heard bytes fr fs st fm failed EngineNoMemory new
+    was more h same none stops = record {
+      fed = was.fed ++ bytes;
+      later = [];
+      sent = (was.sent ++ h.sent) ++ [];
+      updates = was.updates + 0;
+      read = subst (λ (l : List ℕ). Consumes unread left l) (sym (append-nil (was.fed ++ bytes)))
+          (Consumes-trans unread mid left was.fed bytes was.read more);
+      runs = from_idle_then old heard new (was.fed ++ bytes) (was.sent ++ h.sent) [] was.updates 0
+          (heard_after old last heard was.fed was.sent bytes was.updates w x was.runs h)
+          (kept_runs heard new stops.1);
+      wrote = whole_beginning before after ((was.sent ++ h.sent) ++ [])
+          (Appends-trans before x after (was.sent ++ h.sent) []
+          (Appends-trans before w x was.sent h.sent was.wrote h.wrote) stops.2);
+    }
+updating_fails unread mid left before w x after old reads told last heard bytes fr fs st fm failed (ServerEnded fault)
+    new was more h same none stops = absurd stops
+updating_fails unread mid left before w x after old reads told last heard bytes fr fs st fm failed (ViewerEnded fault)
+    new was more h same none stops = absurd stops
+updating_fails unread mid left before w x after old reads told last heard bytes fr fs st fm failed Truncated new was
+    more h same none stops = absurd stops
 
 -- ---- after a greeting
 
-pub front_all : (unread left start before after : Option (List ℕ)) (front : List ℕ) (old : Server) (told : ℕ) (now : Server) →
+pub front_all : (unread left start before after : Option (List ℕ)) (front : List ℕ)
+    (old : Server) (told : ℕ) (now : Server) →
     Appends start before front → AllServed unread left before after [] old told now →
     AllServed unread left start after front old told now
 front_all unread left start before after front old told now wrote all = record {
@@ -303,7 +325,8 @@ front_stops unread left r s start before after v w x front old (ServerEnded faul
 front_stops unread left r s start before after v w x front old (ViewerEnded fault) new wrote same stops = stops
 
 -- the greeting was not written whole
-pub unheard : (unread start after : Option (List ℕ)) (front : List ℕ) (old : Server) → AppendsBeginning start after front →
+pub unheard : (unread start after : Option (List ℕ)) (front : List ℕ) (old : Server) →
+    AppendsBeginning start after front →
     ServedSome unread unread start after front old old
 unheard unread start after front old begun = record {
   fed = [];

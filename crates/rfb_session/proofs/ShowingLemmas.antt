@@ -1,5 +1,6 @@
 -- Where a link stands once an item has reached the viewer.
-use Rattle.std.proofs.Common.{◌≡◌, ℕ, suc, Bool, true, false, List, [], ◌∷◌, ◌++◌, map, length, Option, Some, if◌then◌else◌, refl, sym, ap, ◌∙◌, subst, append-nil}
+use Rattle.std.proofs.Common.{◌≡◌, ℕ, suc, Bool, true, false, List, [], ◌∷◌, ◌++◌, map, length, Option, Some}
+use Rattle.std.proofs.Common.{if◌then◌else◌, refl, sym, ap, ◌∙◌, subst, append-nil}
 use Rattle.rfb_pixel.specs.declared.colour.Colour.{Colour}
 use Rattle.rfb_picture.specs.Grid.{Grid, uniform}
 use Rattle.rfb_wire.specs.stream.Sequel.{First, Second, past_in}
@@ -10,7 +11,8 @@ use Rattle.rfb_hello.specs.declared.version.Version.{Version}
 use Rattle.rfb_hello.specs.declared.version.Version.TheVariants.{V33, V37, V38}
 use Rattle.rfb_hello.specs.Version.{lower}
 use Rattle.rfb_hello.specs.ClientHandshake.{after_version}
-use Rattle.rfb_hello.specs.ServerHandshake.{ServerPoint, AwaitsSecurity, AwaitsResult, AwaitsInit, AwaitsName, ServerItem, ServerInit, Name}
+use Rattle.rfb_hello.specs.ServerHandshake.{ServerPoint, AwaitsSecurity, AwaitsResult, AwaitsInit, AwaitsName}
+use Rattle.rfb_hello.specs.ServerHandshake.{ServerItem, ServerInit, Name}
 use Rattle.rfb_hello.specs.ServerAnswers.{types_asked, name_asked}
 use Rattle.rfb_server.specs.ClientBytes.{ClientAt, FromClient}
 use Rattle.rfb_viewer.specs.ServerBytes.{ServerAt, FromServer, server_two, first_between}
@@ -18,8 +20,11 @@ use Rattle.rfb_viewer.specs.Told.{is_last}
 use Rattle.rfb_viewer.specs.Viewer.{shows, picture_after, effect_on, ends_update, black}
 use Rattle.rfb_session.specs.Link.{Ends}
 use Rattle.rfb_session.specs.Answers.{ready_messages, viewer_answers}
-use Rattle.rfb_session.proofs.QueueLemmas.{AreMere, AreLater, form_after, mere_forms, all_later, IsRest, form_kept, width_kept, height_kept, last_leaves_none}
-use Rattle.rfb_session.proofs.PhaseLemmas.{Core, HasPicture, Stands, Meets, Sends, Phase, Greeting, Versioned, Typed, Choosing37, Choosing38, Chosen, Sharing, Begun, Named, Idling, Asking, Held, Sent, first_is, none_first}
+use Rattle.rfb_session.proofs.QueueLemmas.{AreMere, AreLater, form_after, mere_forms, all_later, IsRest, form_kept}
+use Rattle.rfb_session.proofs.QueueLemmas.{width_kept, height_kept, last_leaves_none}
+use Rattle.rfb_session.proofs.PhaseLemmas.{Core, HasPicture, Stands, Meets, Sends, Phase, Greeting, Versioned, Typed}
+use Rattle.rfb_session.proofs.PhaseLemmas.{Choosing37, Choosing38, Chosen, Sharing, Begun, Named, Idling, Asking, Held}
+use Rattle.rfb_session.proofs.PhaseLemmas.{Sent, first_is, none_first}
 use Rattle.rfb_session.proofs.SizeLemmas.{width-uniform, height-uniform, whole-uniform}
 
 abbrev pub shown : Ends → Core → FromServer → List FromServer → Core

@@ -6,7 +6,8 @@ use Rattle.rfb_wire.specs.ClientMessage.{ClientMessage}
 use Rattle.rfb_viewer.specs.declared.fault.CallFault.{CallFault}
 use Rattle.rfb_viewer.specs.Viewer.{ViewerState}
 use Rattle.rfb_session.specs.declared.event.Event.{Event}
-use Rattle.rfb_session.specs.declared.event.Event.TheVariants.{Fill, Put, Copy, Hint, Request, SetFormat, SetEncodings, Key, Pointer, CutText, Compose, ToServer, ToViewer}
+use Rattle.rfb_session.specs.declared.event.Event.TheVariants.{Fill, Put, Copy, Hint, Request, SetFormat, SetEncodings}
+use Rattle.rfb_session.specs.declared.event.Event.TheVariants.{Key, Pointer, CutText, Compose, ToServer, ToViewer}
 use Rattle.rfb_session.specs.declared.told.Refused.{Refused}
 use Rattle.rfb_session.specs.Link.{Ends, LinkState}
 use Rattle.rfb_session.specs.LinkSteps.{calls}

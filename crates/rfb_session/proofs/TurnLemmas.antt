@@ -1,14 +1,17 @@
 -- A server's engine, turn by turn.
-use Rattle.std.proofs.Common.{◌≡◌, ℕ, ◌+◌, ◌-◌, ◌^◌, ◌≤◌, min, List, [], ◌∷◌, Option, Some, IfSome, length, take, refl, sym, ◌∙◌, subst, append-nil, length-take-le, arith}
+use Rattle.std.proofs.Common.{◌≡◌, ℕ, ◌+◌, ◌-◌, ◌^◌, ◌≤◌, min, List, [], ◌∷◌, Option, Some, IfSome, length, take, refl}
+use Rattle.std.proofs.Common.{sym, ◌∙◌, subst, append-nil, length-take-le, arith}
 use Rattle.std.specs.Io.KnownBytes.{Consumes}
 use Rattle.std.proofs.KnownBytes.{Consumes-nil, Consumes-trans}
 use Rattle.rfb_server.specs.declared.server.Server.{Server}
 use Rattle.rfb_server.specs.Updating.{StaysUnsent}
 use Rattle.rfb_session.specs.declared.engine.fault.EngineFault.{EngineFault}
 use Rattle.rfb_session.specs.ServeEngine.{AllServed, ServedSome, StopsServing}
-use Rattle.rfb_session.specs.Turns.{Showing, Turns, TurnsNoMore, StopsTurn, FailsToRead, FailsToHear, FailsToUpdate, read_in, TakesTurns, StopsInTurn}
+use Rattle.rfb_session.specs.Turns.{Showing, Turns, TurnsNoMore, StopsTurn, FailsToRead, FailsToHear, FailsToUpdate}
+use Rattle.rfb_session.specs.Turns.{read_in, TakesTurns, StopsInTurn}
 use Rattle.rfb_session.proofs.ServeLemmas.{heard_of, updated_of}
-use Rattle.rfb_session.proofs.ServingLemmas.{ServedSoFar, goes_on, serving_more, serving_ends, serving_unread, hearing_fails, updating_fails}
+use Rattle.rfb_session.proofs.ServingLemmas.{ServedSoFar, goes_on, serving_more, serving_ends, serving_unread}
+use Rattle.rfb_session.proofs.ServingLemmas.{hearing_fails, updating_fails}
 
 pub few_taken : (n : ℕ) (buf : List ℕ) → n ≤ length buf → length buf ≡ 4096 → length (take n buf) ≤ 4096
 few_taken n buf within size = omega (arith, within, size, length-take-le n buf within)
@@ -72,14 +75,16 @@ module _ {X : Type 0} where
       })))
 
   -- a turn that stops
-  pub turns_stop : (shows : Showing X) (unread mid left before w after : Option (List ℕ)) (failing failing_mid failed : ℕ)
+  pub turns_stop : (shows : Showing X) (unread mid left before w after : Option (List ℕ))
+      (failing failing_mid failed : ℕ)
       (stuck stuck_mid stopped : ℕ) (old : Server) (scene : X) (told : ℕ) (last : Server) (last_scene : X)
       (fault : EngineFault) (new : Server) (new_scene : X) →
       TakesTurns shows unread mid before w old scene told last last_scene →
       failing_mid ≡ failing → stuck_mid ≡ stuck → new_scene ≡ last_scene →
       StopsTurn mid left failing_mid failed w after stuck_mid stopped last fault new →
       StopsInTurn shows unread left failing failed before after stuck stopped old scene fault new new_scene
-  turns_stop shows unread mid left before w after failing failing_mid failed stuck stuck_mid stopped old scene told last last_scene fault new new_scene was one two same stops =
+  turns_stop shows unread mid left before w after failing failing_mid failed stuck stuck_mid stopped old scene told last
+      last_scene fault new new_scene was one two same stops =
       record {
         mid = last;
         unread_then = mid;
@@ -91,7 +96,8 @@ module _ {X : Type 0} where
       }
 
   -- what was served so far, and a turn more
-  pub served_more : (shows : Showing X) (unread mid left before w after : Option (List ℕ)) (old : Server) (reads told : ℕ)
+  pub served_more : (shows : Showing X) (unread mid left before w after : Option (List ℕ))
+      (old : Server) (reads told : ℕ)
       (last : Server) (last_scene : X) (more now : ℕ) (new : Server) (new_scene : X) →
       ServedSoFar unread mid before w old reads told last →
       Turns shows mid left last last_scene w after more new new_scene →
@@ -118,7 +124,8 @@ module _ {X : Type 0} where
       (fault : EngineFault) (new : Server) (last : X) → stuck_mid ≡ stuck →
       StopsInTurn shows unread left failing failed before after stuck_mid stopped old scene fault new last →
       StopsInTurn shows unread left failing failed before after stuck stopped old scene fault new last
-  greeted_stops shows unread left failing failed before after stuck stuck_mid stopped old scene fault new last same stops =
+  greeted_stops shows unread left failing failed before after stuck stuck_mid stopped old
+      scene fault new last same stops =
       subst (λ (k : ℕ). StopsInTurn shows unread left failing failed before after k stopped old scene fault new last)
       same stops
 
@@ -131,16 +138,22 @@ pub served_stop : (unread mid left before w after : Option (List ℕ)) (failing 
     ServedSoFar unread mid before w old reads told last → failing_mid ≡ failing → stuck_mid ≡ stuck →
     StopsTurn mid left failing_mid failed w after stuck_mid stopped last fault new →
     StopsServing unread left failing failed before after stuck stopped [] old fault new
-served_stop unread mid left before w after failing failing_mid failed stuck stuck_mid stopped old reads told last fault new was one two (FailsToRead is keeps read unwritten none unheard) =
-    subst (λ (f : EngineFault). StopsServing unread left failing failed before after stuck stopped [] old f new) (sym is) (
+served_stop unread mid left before w after failing failing_mid failed stuck stuck_mid stopped old reads told last fault
+    new was one two (FailsToRead is keeps read unwritten none unheard) =
+    subst (λ (f : EngineFault). StopsServing unread left failing failed before after stuck stopped [] old f new)
+    (sym is) (
       one_read failing failing_mid failed stuck_mid stopped stuck one read two none,
       subst (λ (v : Server). ServedSome unread left before after [] old v) (sym unheard)
           (subst (λ (a : Option (List ℕ)). ServedSome unread left before a [] old last) (sym unwritten)
           (serving_unread unread mid left before w old reads told last was keeps)),
     )
-served_stop unread mid left before w after failing failing_mid failed stuck stuck_mid stopped old reads told last fault new was one two (FailsToHear bytes read few same stops) =
-    hearing_fails unread mid left before w after old reads told last bytes failing failed stuck stuck_mid stopped fault new
+served_stop unread mid left before w after failing failing_mid failed stuck stuck_mid stopped old reads told last fault
+    new was one two (FailsToHear bytes read few same stops) =
+    hearing_fails unread mid left before w after old reads told last bytes failing failed
+    stuck stuck_mid stopped fault new
     was read (same ∙ one) two stops
-served_stop unread mid left before w after failing failing_mid failed stuck stuck_mid stopped old reads told last fault new was one two (FailsToUpdate bytes read few same heard answered hears stops) =
-    updating_fails unread mid left before w answered after old reads told last heard bytes failing failed stuck stuck_mid
+served_stop unread mid left before w after failing failing_mid failed stuck stuck_mid stopped old reads told last fault
+    new was one two (FailsToUpdate bytes read few same heard answered hears stops) =
+    updating_fails unread mid left before w answered after old reads told last heard bytes
+    failing failed stuck stuck_mid
     stopped fault new was read (heard_of last bytes w answered heard hears) (same ∙ one) two stops

@@ -1,5 +1,6 @@
 -- What a viewer that was fed all of a recording comes to, by the verdict of its bytes.
-use Rattle.std.proofs.Common.{◌≡◌, ◌≢◌, ℕ, ◌+◌, ◌-◌, ◌^◌, ◌<◌, Bool, true, false, List, [], ◌∷◌, ◌++◌, Option, Some, None, Result, Ok, Err, length, refl, sym, ap, ◌∙◌, subst, append-nil, arith}
+use Rattle.std.proofs.Common.{◌≡◌, ◌≢◌, ℕ, ◌+◌, ◌-◌, ◌^◌, ◌<◌, Bool, true, false, List, [], ◌∷◌, ◌++◌, Option, Some}
+use Rattle.std.proofs.Common.{None, Result, Ok, Err, length, refl, sym, ap, ◌∙◌, subst, append-nil, arith}
 use Rattle.std.specs.Io.KnownBytes.{Consumes, IsAtEnd}
 use Rattle.rfb_pixel.specs.declared.colour.Colour.{Colour}
 use Rattle.rfb_picture.specs.Grid.{Grid}
@@ -17,7 +18,9 @@ use Rattle.rfb_viewer.specs.Viewer.{Viewing, ViewerState, viewer, shows, picture
 use Rattle.rfb_wire.specs.stream.Sequel.{past_in}
 use Rattle.rfb_viewer.proofs.ViewerLaws.{viewer_machine, server_bytes_laws}
 use Rattle.rfb_session.specs.declared.engine.fault.EngineFault.{EngineFault}
-use Rattle.rfb_session.specs.declared.engine.fault.EngineFault.TheVariants.{Server as ServerEnded, Viewer as ViewerEnded, Truncated, Device, NoMemory as EngineNoMemory}
+use Rattle.rfb_session.specs.declared.engine.fault.EngineFault.TheVariants.{Server as ServerEnded}
+use Rattle.rfb_session.specs.declared.engine.fault.EngineFault.TheVariants.{Viewer as ViewerEnded, Truncated, Device}
+use Rattle.rfb_session.specs.declared.engine.fault.EngineFault.TheVariants.{NoMemory as EngineNoMemory}
 use Rattle.rfb_session.specs.EngineRun.{Step, Fed, Did, Runs, Ran, fed_in, updates_in}
 use Rattle.rfb_session.specs.Watching.{ViewerAct, Asked, PassedOver, Asks, viewer_driven, ends_told, StandsBetween}
 use Rattle.rfb_session.specs.Playing.{AllPlayed, PlayedUntil, StopsPlaying}
@@ -191,7 +194,8 @@ same_fault f h e = sym e
 -- ---- the verdict
 
 -- the bytes have no fault, and `told` updates
-judged_end : (unread left : Option (List ℕ)) (old : Viewer) (told : ℕ) (new : Viewer) (all : AllPlayed unread left old told new)
+judged_end : (unread left : Option (List ℕ)) (old : Viewer) (told : ℕ) (new : Viewer)
+    (all : AllPlayed unread left old told new)
     (between : Bool) → StandsBetween new between → (answer : Result ℕ EngineFault) →
     answer ≡ answer_to None between all.updates → (bytes : List ℕ) → unread ≡ Some bytes → length bytes < 2 ^ 64 - 1 →
     IsJudged old bytes answer new
@@ -244,7 +248,8 @@ judged_fault unread left old fault new until enough bytes known =
     let reads : ReadsAll g s.point (until.fed ++ until.slice) (c.items ++ refused.items) refused.rest =
     reads_then m (viewer_machine viewing) s there [] r.rest until.fed until.slice refused.rest c.items refused.items
     refl c.reads
-    (subst (λ (p : ServerAt). ReadsAll g p (r.rest ++ until.slice) refused.items refused.rest) c.point_is refused.reads) in
+    (subst (λ (p : ServerAt). ReadsAll g p (r.rest ++ until.slice) refused.items refused.rest)
+    c.point_is refused.reads) in
     let point : (acts m r.state refused.items).point ≡ past_all g s.point (c.items ++ refused.items) =
     point_acts m (viewer_machine viewing) r.state refused.items
     ∙ ap (λ (p : ServerAt). past_all g p refused.items)
@@ -281,7 +286,8 @@ judges_cut unread left failing failed old told new all between = λ bytes known 
 counted_none : (failing failed : ℕ) → failed ≡ failing + 1 → failed ≡ failing → ⊥
 counted_none failing failed one none = omega (arith, one, none)
 
-pub judges_stop : (unread left : Option (List ℕ)) (failing failed : ℕ) (old : Viewer) (fault : EngineFault) (new : Viewer) →
+pub judges_stop : (unread left : Option (List ℕ)) (failing failed : ℕ) (old : Viewer)
+    (fault : EngineFault) (new : Viewer) →
     StopsPlaying unread left failing failed old fault new →
     JudgesAll unread failing failed old (Err fault) new
 judges_stop unread left failing failed old Truncated new stops =

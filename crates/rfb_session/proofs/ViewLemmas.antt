@@ -1,5 +1,7 @@
 -- What an engine does with a viewer that it asks for updates, call by call.
-use Rattle.std.proofs.Common.{◌≡◌, ℕ, zero, suc, ◌+◌, ◌<◌, Bool, true, List, [], ◌∷◌, ◌++◌, Option, Some, None, IfSome, Result, Ok, Err, OnOk, OnErr, take, drop, refl, sym, ap, ◌∙◌, subst, append-nil, take-append-drop, inl, inr, arith}
+use Rattle.std.proofs.Common.{◌≡◌, ℕ, zero, suc, ◌+◌, ◌<◌, Bool, true, List, [], ◌∷◌, ◌++◌, Option, Some, None, IfSome}
+use Rattle.std.proofs.Common.{Result, Ok, Err, OnOk, OnErr, take, drop, refl, sym, ap, ◌∙◌, subst, append-nil}
+use Rattle.std.proofs.Common.{take-append-drop, inl, inr, arith}
 use Rattle.std.specs.Io.KnownBytes.{Appends}
 use Rattle.std.proofs.KnownBytes.{Appends-nil}
 use Rattle.rfb_pixel.specs.declared.colour.Colour.{Colour}
@@ -18,7 +20,8 @@ use Rattle.rfb_session.specs.InFlight.{viewer_reply}
 use Rattle.rfb_session.specs.EngineRun.{Step, Fed, Did}
 use Rattle.rfb_session.specs.Watching.{ViewerAct, Asked, PassedOver, whole_area, viewer_driven, ends_told, WasFed}
 use Rattle.rfb_session.specs.ViewEngine.{due_after, due, AsksInTurn, RunsInTurn, KeepsLast}
-use Rattle.rfb_session.specs.Looking.{AsksForScreen, HasAsked, IsCutInAsking, due_until, IsAnswered, IsCutInAnswer, Looks, IsLookCutOff}
+use Rattle.rfb_session.specs.Looking.{AsksForScreen, HasAsked, IsCutInAsking, due_until, IsAnswered, IsCutInAnswer}
+use Rattle.rfb_session.specs.Looking.{Looks, IsLookCutOff}
 use Rattle.rfb_session.specs.Wire.{Writing}
 use Rattle.rfb_session.proofs.WrittenLemmas.{whole_beginning}
 use Rattle.rfb_session.proofs.EngineRunLemmas.{joined, only_one}

@@ -84,7 +84,9 @@ fresh_world e screen w going is link = record { goes_on = going; screen_is = is;
 pub fresh_parts : (e : Ends) (screen : Grid Colour) (server : Server) (viewer : Viewer) (session : Session) →
     AreFresh e server viewer screen → session ≡ session_of server → AreNew e session viewer screen
 fresh_parts e screen server viewer session fresh is = record {
-  session_is = subst (λ (x : Session). SessionStandsFor e.serving screen x (with_screen screen (first_server e.serving)) []) (sym is)
-      (session_over e.serving (screen_of server) screen (session_of server) (with_screen screen (first_server e.serving)) [] fresh.server_is);
+  session_is = subst (λ (x : Session). SessionStandsFor e.serving screen x
+      (with_screen screen (first_server e.serving)) []) (sym is)
+      (session_over e.serving (screen_of server) screen (session_of server)
+      (with_screen screen (first_server e.serving)) [] fresh.server_is);
   viewer_is = fresh.viewer_is;
 }

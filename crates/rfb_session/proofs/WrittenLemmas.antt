@@ -1,6 +1,8 @@
 -- What was written to a sink of some bytes, write by write.
-use Rattle.std.proofs.Common.{◌≡◌, ℕ, ◌-◌, List, [], ◌∷◌, ◌++◌, length, length-drop, take, drop, refl, ap, sym, ◌∙◌, arith}
-use Rattle.std.proofs.Common.{Option, Result, Ok, Err, OnErr, OnOk, true, ◌==◌, subst, append-nil, append_assoc, take-append-drop}
+use Rattle.std.proofs.Common.{◌≡◌, ℕ, ◌-◌, List, [], ◌∷◌, ◌++◌, length, length-drop, take, drop, refl, ap, sym, ◌∙◌}
+use Rattle.std.proofs.Common.{arith}
+use Rattle.std.proofs.Common.{Option, Result, Ok, Err, OnErr, OnOk, true, ◌==◌, subst, append-nil, append_assoc}
+use Rattle.std.proofs.Common.{take-append-drop}
 use Rattle.std.proofs.lemmas.List.{take_all}
 use Rattle.std.proofs.lemmas.Bool.Decides.{nat_tests}
 use Rattle.std.proofs.KnownBytes.{Appends-nil, Appends-trans, Appends-kept}
@@ -16,22 +18,30 @@ nothing_appended old new kept = Appends-kept old old new [] (Appends-nil old) ke
 pub nothing_written : (old new : Option (List ℕ)) (bytes : List ℕ) → Keeps old new → AppendsUpTo old new bytes bytes
 nothing_written old new bytes kept = record { done = []; parts = refl; appended = nothing_appended old new kept }
 
-pub some_written : (old new : Option (List ℕ)) (bytes : List ℕ) (n : ℕ) → Appends old new (take n bytes) → AppendsUpTo old new bytes (drop n bytes)
-some_written old new bytes n more = record { done = take n bytes; parts = sym (take-append-drop n bytes); appended = more }
+pub some_written : (old new : Option (List ℕ)) (bytes : List ℕ) (n : ℕ) → Appends old new (take n bytes) →
+    AppendsUpTo old new bytes (drop n bytes)
+some_written old new bytes n more =
+    record { done = take n bytes; parts = sym (take-append-drop n bytes); appended = more }
 
-pub then_written : (old mid new : Option (List ℕ)) (bytes rest now : List ℕ) → AppendsUpTo old mid bytes rest → AppendsUpTo mid new rest now → AppendsUpTo old new bytes now
+pub then_written : (old mid new : Option (List ℕ)) (bytes rest now : List ℕ) → AppendsUpTo old mid bytes rest →
+    AppendsUpTo mid new rest now → AppendsUpTo old new bytes now
 then_written old mid new bytes rest now so_far more = record {
   done = so_far.done ++ more.done;
-  parts = so_far.parts ∙ ap (λ (l : List ℕ). so_far.done ++ l) more.parts ∙ sym (append_assoc so_far.done more.done now);
+  parts =
+      so_far.parts ∙ ap (λ (l : List ℕ). so_far.done ++ l) more.parts ∙ sym (append_assoc so_far.done more.done now);
   appended = Appends-trans old mid new so_far.done more.done so_far.appended more.appended;
 }
 
-pub stopped_written : (old mid new : Option (List ℕ)) (bytes rest : List ℕ) → AppendsUpTo old mid bytes rest → Appends mid new [] → AppendsBeginning old new bytes
-stopped_written old mid new bytes rest so_far none = (rest, then_written old mid new bytes rest rest so_far (record { done = []; parts = refl; appended = none }))
+pub stopped_written : (old mid new : Option (List ℕ)) (bytes rest : List ℕ) → AppendsUpTo old mid bytes rest →
+    Appends mid new [] → AppendsBeginning old new bytes
+stopped_written old mid new bytes rest so_far none =
+    (rest, then_written old mid new bytes rest rest so_far (record { done = []; parts = refl; appended = none }))
 
-pub all_written : (old new : Option (List ℕ)) (bytes rest : List ℕ) → AppendsUpTo old new bytes rest → rest ≡ [] → Appends old new bytes
+pub all_written : (old new : Option (List ℕ)) (bytes rest : List ℕ) → AppendsUpTo old new bytes rest →
+    rest ≡ [] → Appends old new bytes
 all_written old new bytes rest so_far none =
-    subst (λ (l : List ℕ). Appends old new l) (sym (so_far.parts ∙ ap (λ (l : List ℕ). so_far.done ++ l) none ∙ append-nil so_far.done)) so_far.appended
+    subst (λ (l : List ℕ). Appends old new l)
+    (sym (so_far.parts ∙ ap (λ (l : List ℕ). so_far.done ++ l) none ∙ append-nil so_far.done)) so_far.appended
 
 -- all of a text is a beginning of it, and so is nothing
 pub whole_beginning : (old new : Option (List ℕ)) (text : List ℕ) → Appends old new text → AppendsBeginning old new text
@@ -42,7 +52,9 @@ no_beginning old text = (text, none_written old text)
 
 pub empty_rest : (bytes : List ℕ) → true ≡ (length bytes == 0) → bytes ≡ []
 empty_rest [] e = refl
-empty_rest (byte ∷ bytes) e = let zero : length (byte ∷ bytes) ≡ 0 = grind (arith, nat_tests) in absurd (omega (arith, zero))
+empty_rest (byte ∷ bytes) e =
+    let zero : length (byte ∷ bytes) ≡ 0 = grind (arith, nat_tests) in
+    absurd (omega (arith, zero))
 
 pub on_err : {A E : Type 0} (r : Result A E) (P : Type 0) → P → OnErr r P
 on_err (Ok a) P p = tt

@@ -4,7 +4,8 @@ use Rattle.std.specs.Io.KnownBytes.{Consumes}
 use Rattle.rfb_viewer.specs.declared.viewer.Viewer.{Viewer}
 use Rattle.rfb_viewer.specs.Told.{ViewerTold, UpdateDone}
 use Rattle.rfb_session.specs.declared.engine.fault.EngineFault.{EngineFault}
-use Rattle.rfb_session.specs.declared.engine.fault.EngineFault.TheVariants.{Server, Viewer as ViewerEnded, Truncated, Device, NoMemory}
+use Rattle.rfb_session.specs.declared.engine.fault.EngineFault.TheVariants.{Server, Viewer as ViewerEnded, Truncated}
+use Rattle.rfb_session.specs.declared.engine.fault.EngineFault.TheVariants.{Device, NoMemory}
 use Rattle.rfb_session.specs.Watching.{ViewerRuns, WasFed, StandsBetween, ends_told}
 use Rattle.rfb_session.specs.Playing.{Played, AllPlayed, PlayedUntil, StopsPlaying}
 

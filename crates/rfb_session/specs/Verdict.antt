@@ -1,6 +1,7 @@
 -- The verdict of a recording: what all of a server's bytes are, item by item, and what a viewer
 -- that is fed them comes to.
-use Rattle.std.specs.Prelude.{◌≡◌, ◌≢◌, ℕ, ◌<◌, ◌+◌, ◌-◌, ◌^◌, Bool, true, false, List, [], ◌∷◌, length, Option, Some, None, Result, Ok, Err}
+use Rattle.std.specs.Prelude.{◌≡◌, ◌≢◌, ℕ, ◌<◌, ◌+◌, ◌-◌, ◌^◌, Bool, true, false, List, [], ◌∷◌, length, Option, Some}
+use Rattle.std.specs.Prelude.{None, Result, Ok, Err}
 use Rattle.rfb_wire.specs.stream.Grammar.{HasVerdict, past_all}
 use Rattle.rfb_wire.specs.stream.End.{acts, told}
 use Rattle.rfb_viewer.specs.declared.fault.ViewerFault.{ViewerFault}

@@ -1,6 +1,7 @@
 -- What an engine did with a viewer that it asks for updates: bytes that it was fed, and requests in
 -- turn with them.
-use Rattle.std.specs.Prelude.{◌≡◌, ℕ, ◌<◌, ◌+◌, ◌-◌, ◌^◌, Bool, true, false, List, [], ◌∷◌, ◌++◌, length, Option, Some, None, ⊤, ◌⊎◌}
+use Rattle.std.specs.Prelude.{◌≡◌, ℕ, ◌<◌, ◌+◌, ◌-◌, ◌^◌, Bool, true, false, List, [], ◌∷◌, ◌++◌, length, Option, Some}
+use Rattle.std.specs.Prelude.{None, ⊤, ◌⊎◌}
 use Rattle.std.specs.Io.KnownBytes.{Appends, Consumes, IsAtEnd}
 use Rattle.rfb_viewer.specs.declared.fault.ViewerFault.{ViewerFault}
 use Rattle.rfb_viewer.specs.declared.viewer.Viewer.{Viewer}
@@ -8,7 +9,8 @@ use Rattle.rfb_viewer.specs.Told.{ViewerTold, Reply, Ready, UpdateDone, Bell, Cu
 use Rattle.rfb_viewer.specs.Viewer.{Viewing, ViewerState}
 use Rattle.rfb_viewer.specs.Standing.{StandsFor}
 use Rattle.rfb_session.specs.declared.engine.fault.EngineFault.{EngineFault}
-use Rattle.rfb_session.specs.declared.engine.fault.EngineFault.TheVariants.{Server, Viewer as ViewerEnded, Truncated, Device, NoMemory}
+use Rattle.rfb_session.specs.declared.engine.fault.EngineFault.TheVariants.{Server, Viewer as ViewerEnded, Truncated}
+use Rattle.rfb_session.specs.declared.engine.fault.EngineFault.TheVariants.{Device, NoMemory}
 use Rattle.rfb_session.specs.Devices.{AppendsBeginning}
 use Rattle.rfb_session.specs.EngineRun.{Step, Fed, Did, Ran}
 use Rattle.rfb_session.specs.Watching.{ViewerAct, Asked, PassedOver, viewer_driven, EndsBy}

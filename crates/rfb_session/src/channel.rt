@@ -133,9 +133,9 @@ impl Channel {
     }
 }
 
-// Lets go of the first bytes, which have arrived, as many as `arrived` says: their room is taken for
-// others, once they are as many as those in flight, and where none is in flight the memory is given
-// back. It tells how many of them are kept.
+// Lets go of the first bytes, which have arrived, as many as `arrived` says: their room is taken
+// for others, once they are as many as those in flight, and where none is in flight the memory is
+// given back. It tells how many of them are kept.
 fn let_go(alloc: Global, bytes: &mut Vec<u8>, arrived: usize) -> usize
     requires within { arrived ≤ length bytes.old.items }
     ensures same { drop result bytes.new.items ≡ drop arrived bytes.old.items }

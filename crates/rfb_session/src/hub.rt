@@ -71,8 +71,8 @@ impl Hub {
     ghost use Rattle.rfb_session.specs.Slots.{is_taken};
 
     /// A hub with a black screen and eight empty slots. Each session offers versions up to
-    /// `setup.offer`, names the screen, and keeps at most `setup.text_limit` bytes of each text that
-    /// its viewer cuts. Where there is no memory it gives the error, and nothing is kept.
+    /// `setup.offer`, names the screen, and keeps at most `setup.text_limit` bytes of each text
+    /// that its viewer cuts. Where there is no memory it gives the error, and nothing is kept.
     pub fn of(alloc: Global, setup: HubSetup) -> Result<Hub, AllocError>
         requires columns { setup.width ≤ 4096 }
         requires rows { setup.height ≤ 4096 }

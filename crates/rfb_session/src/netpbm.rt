@@ -1,7 +1,8 @@
 //! Reading a portable pixmap (PPM), a file of Netpbm's, as the picture that it spells.
 //!
 //! The caller owns the reader. What is taken are the places of the picture and no more: the size is
-//! judged before. A file that spells no picture is refused by the first thing that is wrong with it.
+//! judged before. A file that spells no picture is refused by the first thing that is wrong with
+//! it.
 
 ghost use Rattle.std.specs.Prelude.{◌≡◌, ◌*◌, length};
 ghost use Rattle.rfb_session.specs.netpbm.Side.{IsSide};

@@ -58,8 +58,8 @@ impl Share {
     ghost use Rattle.rfb_session.specs.Share.{fault_in};
 
     /// A share with a black screen and eight empty seats. Each session offers versions up to
-    /// `setup.offer`, names the screen, and keeps at most `setup.text_limit` bytes of each text that
-    /// its viewer cuts. Where there is no memory it gives the error, and nothing is kept.
+    /// `setup.offer`, names the screen, and keeps at most `setup.text_limit` bytes of each text
+    /// that its viewer cuts. Where there is no memory it gives the error, and nothing is kept.
     pub fn of(alloc: Global, setup: ShareSetup) -> Result<Share, AllocError>
         requires columns { setup.width ≤ 4096 }
         requires rows { setup.height ≤ 4096 }

@@ -30,7 +30,8 @@ pub(crate) trait Follower {
 
 // Every session is told of a drawing.
 pub(crate) fn notify_all<F: Follower>(slots: &mut [Option<F>; SLOTS], notice: &Notice)
-    requires held { All (λ slot. ForSome slot (λ seat. F.Notifiable (area_told notice.now) seat)) slots.old }
+    requires held { All (λ slot. ForSome slot (λ seat. F.Notifiable (area_told notice.now) seat))
+        slots.old }
     ensures size { length slots.new ≡ length slots.old }
     ensures notified { (k : ℕ) →
         OnSlot (λ a b. F.Notified notice.now a b) (seat_at k slots.old) (seat_at k slots.new) }

@@ -1,7 +1,8 @@
 -- What a loop did at one door, and at all of them.
 use Rattle.std.specs.Prelude.{◌≡◌, ◌≢◌, ℕ, ◌+◌, ◌<◌, ◌≤◌, Bool, List, Option, take, length}
 use Rattle.std.specs.Io.KnownBytes.{Appends, Consumes}
-use Rattle.rfb_session.specs.doors.Events.{Event, Wrote, Turned, Stepping, Runs, Brings, IsQuiet, came, left, ends, faults}
+use Rattle.rfb_session.specs.doors.Events.{Event, Wrote, Turned, Stepping, Runs, Brings, IsQuiet, came, left, ends}
+use Rattle.rfb_session.specs.doors.Events.{faults}
 use Rattle.rfb_session.specs.doors.Events.{Ended as TheEnd, Failed as Fault}
 use Rattle.rfb_session.specs.doors.Devices.{HasEnded, known_at, number_at, flag_at}
 use Rattle.rfb_session.specs.declared.doors.device.Answer.{Answer}

@@ -1,5 +1,6 @@
 -- A number in the head of a portable pixmap: blanks and comments, and then decimal digits.
-use Rattle.std.specs.Prelude.{◌≡◌, ◌≤◌, ◌⊎◌, ◌+◌, ◌-◌, ◌*◌, ◌++◌, ⊤, ℕ, Bool, true, false, not, ◌||◌, ◌==◌, List, [], ◌∷◌, length}
+use Rattle.std.specs.Prelude.{◌≡◌, ◌≤◌, ◌⊎◌, ◌+◌, ◌-◌, ◌*◌, ◌++◌, ⊤, ℕ, Bool, true, false, not, ◌||◌, ◌==◌, List, []}
+use Rattle.std.specs.Prelude.{◌∷◌, length}
 use Rattle.std.specs.Int.{IsInRange}
 
 -- ---- blanks and comments

@@ -22,11 +22,11 @@ use std::alloc::Global;
 
 /// Runs a fresh server, whose screen may be drawn on: writes its greeting, and then reads, feeds it
 /// what comes and writes its answers, until `source` ends. After each read, of 4,096 bytes at most,
-/// it composes once; an update is written, and then the scene draws. It tells how many updates there
-/// were, as many as a `u64` has. It gives `Truncated` where the bytes end inside a message or the
-/// handshake, `Device` where a read or a write fails, `NoMemory` where there is none for an update,
-/// and the server's fault where that ends. But for that the server stands as the bytes and drawings
-/// left it.
+/// it composes once; an update is written, and then the scene draws. It tells how many updates
+/// there were, as many as a `u64` has. It gives `Truncated` where the bytes end inside a message or
+/// the handshake, `Device` where a read or a write fails, `NoMemory` where there is none for an
+/// update, and the server's fault where that ends. But for that the server stands as the bytes and
+/// drawings left it.
 pub fn serve<R: Source, W: Sink, S: Scene>(
     alloc: Global,
     source: &mut R,

@@ -1,6 +1,7 @@
 //! Pictures as portable pixmaps (PPM), the files of Netpbm.
 
-ghost use Rattle.std.specs.Prelude.{◌≡◌, ◌≤◌, ◌<◌, ◌+◌, ◌-◌, ◌*◌, ◌^◌, ◌++◌, ℕ, List, [], ◌∷◌, length, take, OnOk, OnErr};
+ghost use Rattle.std.specs.Prelude.{◌≡◌, ◌≤◌, ◌<◌, ◌+◌, ◌-◌, ◌*◌, ◌^◌, ◌++◌, ℕ, List, [], ◌∷◌};
+ghost use Rattle.std.specs.Prelude.{length, take, OnOk, OnErr};
 ghost use Rattle.std.specs.Io.KnownBytes.{Appends};
 ghost use Rattle.rfb_session.specs.Devices.{AppendsBeginning, AppendsUpTo};
 ghost use Rattle.rfb_session.specs.Pixmap.{components, header_of, pixmap};

@@ -70,9 +70,9 @@ pub fn play_some<R: Source>(
     play_watched(source, viewer, Some(updates), &mut Unwatched)
 }
 
-/// `play` with somebody who watches; or `play_some`, where a number of updates is given. The watcher
-/// hears of every event that the viewer tells it of, before its next byte is fed, also of those
-/// before a fault.
+/// `play` with somebody who watches; or `play_some`, where a number of updates is given. The
+/// watcher hears of every event that the viewer tells it of, before its next byte is fed, also of
+/// those before a fault.
 pub fn play_watched<R: Source, A: Watcher>(
     source: &mut R,
     viewer: &mut Viewer,

@@ -1,6 +1,7 @@
 //! A server run over a wire.
 
-ghost use Rattle.std.specs.Prelude.{◌≡◌, ◌<◌, ◌+◌, ◌-◌, ◌^◌, ◌≤◌, [], length, take, true, false, None};
+ghost use Rattle.std.specs.Prelude.{◌≡◌, ◌<◌, ◌+◌, ◌-◌, ◌^◌, ◌≤◌, [], length, take, true, false};
+ghost use Rattle.std.specs.Prelude.{None};
 ghost use Rattle.std.specs.Prelude.{IfOk, IfErr, IfSome, OnOk, OnErr};
 ghost use Rattle.rfb_server.specs.Standing.{fault_of};
 ghost use Rattle.rfb_session.specs.Failed.{FailsAgain};
@@ -24,7 +25,8 @@ use rfb_server::Server;
 use std::alloc::Global;
 
 /// `serve` over a wire. It has written its greeting before it reads, and all that a read asks for
-/// before it reads again: the answers, and then the update. Only its last turn may stop before that.
+/// before it reads again: the answers, and then the update. Only its last turn may stop before
+/// that.
 pub fn serve_over<W: Wire, S: Scene>(
     alloc: Global,
     wire: &mut W,

@@ -1,14 +1,17 @@
 //! Words of a line that stand for a value.
 
-ghost use Rattle.std.specs.Prelude.{◌≡◌, ◌≢◌, ◌<◌, ◌↔◌, ◌∷◌, ◌+◌, ◌*◌, [], ℕ, Ok, IfSome, IsSome, List, MatchOption, length};
+ghost use Rattle.std.specs.Prelude.{◌≡◌, ◌≢◌, ◌<◌, ◌↔◌, ◌∷◌, ◌+◌, ◌*◌, [], ℕ, Ok, IfSome, IsSome};
+ghost use Rattle.std.specs.Prelude.{List, MatchOption, length};
 ghost use Rattle.std.specs.List.{AllPass};
 ghost use Rattle.std.specs.Str.Parse.{digits_value};
 ghost use Rattle.hex.specs.Hex.{is_hex_digit};
 ghost use Rattle.rfb_pixel.specs.Format.{PixelFormat};
 ghost use Rattle.rfb_wire.specs.declared.encoding.Encoding.{Encoding};
-ghost use Rattle.rfb_session.specs.language.Words.{AreEncodings, AreNumbers, AreRect, IsFormatWord, IsSide, IsSlotWord};
+ghost use Rattle.rfb_session.specs.language.Words.{AreEncodings, AreNumbers, AreRect, IsFormatWord};
+ghost use Rattle.rfb_session.specs.language.Words.{IsSide, IsSlotWord};
 ghost use Rattle.rfb_session.specs.language.Words.{name_of, parts_of, texts};
-ghost use Rattle.rfb_session.specs.language.Words.{IsColourText, SaysBytes, SaysColour, SaysComponents};
+ghost use Rattle.rfb_session.specs.language.Words.{IsColourText, SaysBytes, SaysColour};
+ghost use Rattle.rfb_session.specs.language.Words.{SaysComponents};
 
 use crate::language::{pieces, read_number};
 use arrayvec::ArrayVec;

@@ -15,9 +15,9 @@ impl Link {
     ghost use Rattle.rfb_session.specs.LinkCalls.{DoesCall, CallsOnBytes, IsRefusedCall};
     ghost use Rattle.rfb_session.specs.LinkCalls.{call_refusal_on};
 
-    /// A call of the viewer's: its message is in flight to the session. Where the viewer refuses it,
-    /// `Told` has the refusal, and nothing changes. Memory can be wanting for the message. A text
-    /// has at most 1,048,576 bytes.
+    /// A call of the viewer's: its message is in flight to the session. Where the viewer refuses
+    /// it, `Told` has the refusal, and nothing changes. Memory can be wanting for the message. A
+    /// text has at most 1,048,576 bytes.
     pub fn call(&mut self, call: &Call<'_>) -> Result<Told, NoMemory>
         requires few { length (text_in call.now) ≤ 1048576 }
         ensures bytes { IfOk result (λ told. CallsOnBytes self.old call.now told self.new) }

@@ -2,7 +2,8 @@
 
 ghost use Rattle.std.specs.Prelude.{◌≡◌, ◌≤◌, List, ℕ, MatchOption, MatchResult};
 ghost use Rattle.rfb_session.specs.netpbm.Head.{BlankNext, HasHeadFlaw, HasLateFlaw, IsHead};
-ghost use Rattle.rfb_session.specs.netpbm.Head.{MagicNext, MaximumNext, NoMaximumNext, NoSideNext, SideNext, maximum_of};
+ghost use Rattle.rfb_session.specs.netpbm.Head.{MagicNext, MaximumNext, NoMaximumNext, NoSideNext};
+ghost use Rattle.rfb_session.specs.netpbm.Head.{SideNext, maximum_of};
 ghost use Rattle.rfb_session.specs.netpbm.Number.{AreDigits, value_of};
 ghost use Rattle.rfb_session.specs.netpbm.Side.{IsSide};
 

@@ -1,7 +1,8 @@
 //! A number of a head, after blanks and comments.
 
 ghost use Rattle.std.specs.Prelude.{◌≡◌, min, false, MatchOption};
-ghost use Rattle.rfb_session.specs.netpbm.Number.{AreDigits, NextNumber, NoNumberNext, ends_line, is_blank, value_of};
+ghost use Rattle.rfb_session.specs.netpbm.Number.{AreDigits, NextNumber, NoNumberNext, ends_line};
+ghost use Rattle.rfb_session.specs.netpbm.Number.{is_blank, value_of};
 ghost use Rattle.rfb_session.specs.netpbm.inside.Gaps.{FirstDigits, after_gap};
 
 // A number that is larger is as good as this one: both are too large.

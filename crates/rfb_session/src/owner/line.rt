@@ -3,7 +3,8 @@
 ghost use Rattle.std.specs.Prelude.{◌≡◌, ◌≢◌, ◌∷◌, [], ℕ, ℤ, pos, codes, MatchOption};
 ghost use Rattle.rfb_picture.specs.declared.rect.Rect.{Rect};
 ghost use Rattle.rfb_session.specs.language.Words.{words_of, texts};
-ghost use Rattle.rfb_session.specs.owner.Lines.{ArePlaces, AreScroll, IsShift, IsStep, SaysNoOwner, SaysOwner};
+ghost use Rattle.rfb_session.specs.owner.Lines.{ArePlaces, AreScroll, IsShift, IsStep, SaysNoOwner};
+ghost use Rattle.rfb_session.specs.owner.Lines.{SaysOwner};
 ghost use Rattle.rfb_session.specs.declared.owner.order.OwnerLine.{OwnerLine};
 
 use crate::language::{

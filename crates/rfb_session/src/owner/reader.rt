@@ -4,7 +4,8 @@ mod ending;
 
 ghost use Rattle.std.specs.Prelude.{◌≡◌, ◌≤◌, ◌<◌, ◌∷◌, ℕ, List, [], true, ◌↔◌, drop, length, take};
 ghost use Rattle.rfb_session.specs.owner.Lines.{IsOneLine, LiesOnKnown, data_length};
-ghost use Rattle.rfb_session.specs.owner.Reader.{Feeds, FeedsFrom, IsFresh, IsFreshReader, Places, StartsData};
+ghost use Rattle.rfb_session.specs.owner.Reader.{Feeds, FeedsFrom, IsFresh, IsFreshReader, Places};
+ghost use Rattle.rfb_session.specs.owner.Reader.{StartsData};
 ghost use Rattle.rfb_session.specs.declared.owner.stage.Stage.TheVariants as Stage;
 
 use crate::language::Screen;

@@ -59,7 +59,8 @@ impl ShareSeat {
         }
     }
 
-    /// Takes bytes of the viewer's, as `LateSession::feed` does. The answer waits after what waited.
+    /// Takes bytes of the viewer's, as `LateSession::feed` does. The answer waits after what
+    /// waited.
     pub(crate) fn hear(&mut self, bytes: &[u8]) -> Result<Fed<ServerEvent>, ShareFault>
         ensures taken { IfOk result (AreTaken bytes.now) }
         ensures heard { IfOk result (λ fed.

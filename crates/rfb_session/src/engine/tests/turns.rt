@@ -12,8 +12,8 @@ use std::alloc::{AllocError, Global};
 use std::io;
 use std::io::ErrorKind;
 
-// How many bytes a server reads, and how many it writes then, by RFC 6143: its version; the security
-// types; SecurityResult; ServerInit; and an update.
+// How many bytes a server reads, and how many it writes then, by RFC 6143: its version; the
+// security types; SecurityResult; ServerInit; and an update.
 const SERVER_TURNS: [(usize, usize); 5] = [(0, 12), (12, 2), (1, 4), (1, 27), (10, 24)];
 
 // The same of a viewer: its version; the security type; ClientInit; its format, its encodings and a

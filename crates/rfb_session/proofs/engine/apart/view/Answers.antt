@@ -1,6 +1,6 @@
 use Rattle.std.proofs.Common.{◌+◌, None}
 use Rattle.rfb_session.proofs.WrittenLemmas.{ok_so}
-use Rattle.rfb_session.proofs.LookLemmas.{err_each, and_nothing, stops_as}
+use Rattle.rfb_session.proofs.ViewedLemmas.{err_each, and_nothing, stops_as}
 use Rattle.rfb_session.proofs.engine.apart.view.Goals as goal
 
 pub returns-clause-none_failed : goal.returns-clause-none_failed

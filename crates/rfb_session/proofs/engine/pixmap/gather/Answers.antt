@@ -1,7 +1,8 @@
 use Rattle.std.proofs.Common.{◌∙◌, List, ℕ, sym, refl, subst, take, arith}
 use Rattle.rfb_session.specs.Devices.{AppendsUpTo}
 use Rattle.rfb_session.proofs.WrittenLemmas.{none_written, on_err}
-use Rattle.rfb_session.proofs.PixmapLemmas.{no_components, gathered_block, gathering_stopped, block_more, room_for_block}
+use Rattle.rfb_session.proofs.PixmapLemmas.{no_components, gathered_block, gathering_stopped, block_more}
+use Rattle.rfb_session.proofs.PixmapLemmas.{room_for_block}
 use Rattle.rfb_session.proofs.engine.pixmap.gather.Goals as goal
 
 pub loop-start-init : goal.loop-start-init

@@ -29,5 +29,6 @@ loop-place-preserved c =
     record {
       len = search (rules, overwrites);
       put = put_more c.args.colours.now l.bytes _ l.place 1 _ (omega arith) (omega arith) l.invariant.put
-          (c.copy_from_slice.ensures.after ∙ c.bytes_of.ensures ∙ ap components (one_taken c.args.colours.now l.place _ (omega arith)));
+          (c.copy_from_slice.ensures.after ∙ c.bytes_of.ensures
+          ∙ ap components (one_taken c.args.colours.now l.place _ (omega arith)));
     }

@@ -12,9 +12,9 @@ use Rattle.rfb_session.specs.Watcher.{EndsLooking, EndsViewing}
 use Rattle.rfb_session.specs.Wire.{Came, Ended, Missed, by_steps}
 use Rattle.rfb_session.proofs.FailedLemmas.{err_as, no_answer, none_kept, none_then, some_turns}
 use Rattle.rfb_session.proofs.PlayLemmas.{some_taken}
-use Rattle.rfb_session.proofs.LookLemmas.{few_taken, viewing_none, viewing_more, viewing_ends}
-use Rattle.rfb_session.proofs.LookLemmas.{viewing_misses, viewing_out, viewing_unread}
-use Rattle.rfb_session.proofs.LookLemmas.{fewer_than, looking_fails, more_counted, then_viewed}
+use Rattle.rfb_session.proofs.ViewedLemmas.{few_taken, viewing_none, viewing_more, viewing_ends, viewing_misses}
+use Rattle.rfb_session.proofs.ViewedLemmas.{viewing_out, viewing_unread, fewer_than, looking_fails, then_viewed}
+use Rattle.rfb_session.proofs.LookLemmas.{more_counted}
 use Rattle.rfb_session.proofs.EngineRunLemmas.{only_one}
 use Rattle.rfb_session.proofs.WatcherLemmas.{over_ends, over_more, over_none, over_stops}
 use Rattle.rfb_session.proofs.ServeOrderLemmas.{none_failed_then}

@@ -4,7 +4,7 @@ use Rattle.std.specs.Io.KnownBytes.{Consumes}
 use Rattle.rfb_viewer.specs.declared.fault.ViewerFault.{ViewerFault}
 use Rattle.rfb_viewer.specs.Standing.{fault_of}
 use Rattle.rfb_session.specs.ViewOrder.{LooksOver}
-use Rattle.rfb_session.proofs.LookLemmas.{ViewedSoFar}
+use Rattle.rfb_session.proofs.ViewedLemmas.{ViewedSoFar}
 use Rattle.rfb_session.proofs.ServeOrderLemmas.{NoneFailed}
 use Rattle.rfb_session.proofs.WatcherLemmas.{HeardOver}
 use Rattle.rfb_session.proofs.engine.viewing.view_watched.Given as goal

@@ -6,7 +6,8 @@ use Rattle.rfb_session.specs.declared.hub.seat.HubSeat.{HubSeat}
 use Rattle.rfb_session.proofs.HubDrawLemmas.{set_follow, emptied_follow}
 use Rattle.rfb_session.proofs.HubSameLemmas.{hub_back}
 use Rattle.rfb_session.proofs.HubSlotLemmas.{does_in}
-use Rattle.rfb_session.proofs.SlotLemmas.{stays_clear, at_slot, each_seat, ends_sole, ends_none, stays_emptied, flag_others, set_back, seat_set_same, seat_set_other}
+use Rattle.rfb_session.proofs.SlotLemmas.{stays_clear, at_slot, each_seat, ends_sole, ends_none, stays_emptied}
+use Rattle.rfb_session.proofs.SlotLemmas.{flag_others, set_back, seat_set_same, seat_set_other}
 use Rattle.rfb_session.proofs.HubStepLemmas.{happened_steps, not_refused, refused_there}
 use Rattle.rfb_session.proofs.hub.Hub.of_slot.Goals as goal
 

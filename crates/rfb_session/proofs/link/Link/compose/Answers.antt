@@ -3,7 +3,8 @@ use Rattle.rfb_pixel.specs.Format.{PixelFormat}
 use Rattle.rfb_picture.specs.Area.{Places}
 use Rattle.rfb_server.specs.Standing.{notes_in}
 use Rattle.rfb_session.specs.Latest.{noted}
-use Rattle.rfb_session.proofs.ComposedLemmas.{idle_not_due, idle_over, composed_over, composed_does, idle_does, asks_noted}
+use Rattle.rfb_session.proofs.ComposedLemmas.{idle_not_due, idle_over, composed_over, composed_does, idle_does}
+use Rattle.rfb_session.proofs.ComposedLemmas.{asks_noted}
 use Rattle.rfb_session.proofs.link.Link.compose.Goals as goal
 
 pub returns-then-not-composed : goal.returns-then-not-composed

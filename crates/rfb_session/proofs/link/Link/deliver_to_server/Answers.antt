@@ -46,7 +46,8 @@ loop-left-preserved c =
       some = omega (arith, was.some);
       before = was.before;
       reached = rw c.either-sole.ensures (heard_goes_on c.args.self.now c.loop-left.self c.feed_server.new.self used
-          c.loop-left.left c.args.count c.loop-left.sole c.in_ok-used.asked part.0 part.1 was.some was.reached c.in_ok-used.ensures.reached);
+          c.loop-left.left c.args.count c.loop-left.sole c.in_ok-used.asked part.0 part.1 was.some was.reached
+          c.in_ok-used.ensures.reached);
       delivered = subst (λ (k : ℕ). DeliversToServer c.args.self.now k c.feed_server.new.self) all
           (server_more c.args.self.now c.loop-left.self c.feed_server.new.self
           (c.args.count - c.loop-left.left) used first was.delivered
@@ -66,7 +67,8 @@ returns c =
     let was = c.loop-left.invariant in
     let all : c.args.count - c.loop-left.left ≡ c.args.count = omega arith in
     record {
-      reached = heard_done c.args.self.now c.loop-left.self c.loop-left.left c.args.count c.loop-left.sole all was.reached;
+      reached =
+          heard_done c.args.self.now c.loop-left.self c.loop-left.left c.args.count c.loop-left.sole all was.reached;
       delivered = subst (λ (k : ℕ). DeliversToServer c.args.self.now k c.loop-left.self) all
           was.delivered;
       lost = λ fault is. subst (λ (k : ℕ). LosesToServer c.args.self.now k c.loop-left.self) all

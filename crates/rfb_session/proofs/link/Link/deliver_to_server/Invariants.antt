@@ -10,7 +10,8 @@ invariant-loop-left l = record {
   within : l.left ≤ length l.self.to_server;
   some : l.left ≤ l.count;
   before : l.count ≤ length l.fn.self.to_server;
-  reached : HasHeard l.fn.self (l.count - l.left) l.sole l.self ⊎ ((l.left ≡ 0) × EndsHearing l.fn.self l.count l.sole l.self);
+  reached : HasHeard l.fn.self (l.count - l.left) l.sole l.self
+      ⊎ ((l.left ≡ 0) × EndsHearing l.fn.self l.count l.sole l.self);
   delivered : DeliversToServer l.fn.self (l.count - l.left) l.self;
   lost : (fault : ServerFault) → server_fault_of l.fn.self ≡ Some fault →
       LosesToServer l.fn.self (l.count - l.left) l.self;

@@ -10,7 +10,11 @@ returns-in_err-height c =
 pub returns-in_err-sample : goal.returns-in_err-sample
 returns-in_err-sample c =
     let p = err_from_is_err_and c.from_residual-in_err-sample.result c.from_residual-in_err-sample.ensures.1 in
-    rw (p.1, p.2) (inr (_, c.in-Some.ensures, inr (_, _, c.in_ok-width.ensures, inr (_, _, c.in_ok-height.ensures, c.in_err-sample.ensures))))
+    rw (p.1, p.2) (inr (
+      _,
+      c.in-Some.ensures,
+      inr (_, _, c.in_ok-width.ensures, inr (_, _, c.in_ok-height.ensures, c.in_err-sample.ensures)),
+    ))
 
 pub returns : goal.returns
 returns c = record {

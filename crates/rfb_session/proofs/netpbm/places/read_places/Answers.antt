@@ -10,7 +10,8 @@ loop-left-preserved g c =
     record {
       done = l.invariant.done + c.min-wanted.result;
       all = omega (arith, l.invariant.all, c.min-wanted.ensures);
-      came = more_read c.args.sample l.invariant.done c.min-wanted.result _ _ _ l.places.items more.0 c.read_piece.new.places.items
+      came = more_read c.args.sample l.invariant.done c.min-wanted.result _ _ _ l.places.items more.0
+          c.read_piece.new.places.items
           l.invariant.came more.2 more.1;
     }
 

@@ -6,9 +6,15 @@ use Rattle.rfb_session.proofs.ConsoleLemmas.{by_owner, by_seat, by_lines, by_not
 use Rattle.rfb_session.proofs.ConsoleLemmas.{stays_then}
 use Rattle.rfb_session.proofs.console.entrances.ConsoleCore.failed.Goals.{then-door-eq-OWNER}
 use Rattle.rfb_session.proofs.console.entrances.ConsoleCore.failed.Goals.{else-door-eq-OWNER+then-door-eq-LINES}
-use Rattle.rfb_session.proofs.console.entrances.ConsoleCore.failed.Goals.{else-door-eq-OWNER+else-door-eq-LINES+then-door-eq-NOTES}
-use Rattle.rfb_session.proofs.console.entrances.ConsoleCore.failed.Goals.{else-door-eq-OWNER+else-door-eq-LINES+else-door-eq-NOTES+in-Some}
-use Rattle.rfb_session.proofs.console.entrances.ConsoleCore.failed.Goals.{else-door-eq-OWNER+else-door-eq-LINES+else-door-eq-NOTES+in_default}
+use Rattle.rfb_session.proofs.console.entrances.ConsoleCore.failed.Goals.{
+  else-door-eq-OWNER+else-door-eq-LINES+then-door-eq-NOTES,
+}
+use Rattle.rfb_session.proofs.console.entrances.ConsoleCore.failed.Goals.{
+  else-door-eq-OWNER+else-door-eq-LINES+else-door-eq-NOTES+in-Some,
+}
+use Rattle.rfb_session.proofs.console.entrances.ConsoleCore.failed.Goals.{
+  else-door-eq-OWNER+else-door-eq-LINES+else-door-eq-NOTES+in_default,
+}
 use Rattle.rfb_session.proofs.console.entrances.ConsoleCore.failed.Goals as goal
 
 some_none : (ends : Outcome) → Some ends ≡ None → ⊥

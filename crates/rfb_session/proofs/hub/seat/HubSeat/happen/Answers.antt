@@ -71,7 +71,8 @@ pub returns-in_ok-move_to_viewer-in-ToViewer-clause-does : goal.returns-in_ok-mo
 returns-in_ok-move_to_viewer-in-ToViewer-clause-does c =
     let ok = c.in_ok-move_to_viewer-in-ToViewer in
     seat_happens c.args.screen.now c.args.self.now _ _ ok.field-0 c.alone-in-ToViewer.result _ c.in-ToViewer.is
-    c.alone-in-ToViewer.ensures.told ok.ensures.arrives.bytes ok.ensures.arrives.tells (over _ _ _ _ _ ok.ensures.arrives.does) ok.ensures.arrives.lost
+    c.alone-in-ToViewer.ensures.told ok.ensures.arrives.bytes ok.ensures.arrives.tells
+    (over _ _ _ _ _ ok.ensures.arrives.does) ok.ensures.arrives.lost
     (ap (λ (s : Session). hints_in s) ok.ensures.session) c.alone-in-ToViewer.ensures.sole
     (not_sole c.alone-in-ToViewer.result ok.field-0 c.alone-in-ToViewer.ensures.sole)
     (not_refused ok.field-0 _ _ ok.ensures.arrives.taken)

@@ -1,6 +1,6 @@
 use Rattle.std.proofs.Common.{rules}
 use Rattle.rfb_session.specs.declared.share.waiting.Waiting.TheVariants.{Update}
-use Rattle.rfb_session.proofs.ShareSeatLemmas.{fits_sent, fits_kept}
+use Rattle.rfb_session.proofs.ShareFitLemmas.{fits_sent, fits_kept}
 use Rattle.rfb_session.proofs.share.seat.ShareSeat.compose.Goals as goal
 
 -- there was no memory

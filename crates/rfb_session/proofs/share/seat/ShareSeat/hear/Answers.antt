@@ -6,9 +6,8 @@ use Rattle.rfb_session.specs.declared.share.waiting.Waiting.{Waiting}
 use Rattle.rfb_session.specs.declared.share.waiting.Waiting.TheVariants.{Answers}
 use Rattle.rfb_session.specs.ShareRoom.{kept_in, HasRoomForAnswers}
 use Rattle.rfb_session.specs.ShareSeats.{Hears, holds_update}
-use Rattle.rfb_session.proofs.ShareSeatLemmas.{not_ended, refused_late, fits_refused, seat_kept}
-use Rattle.rfb_session.proofs.ShareSeatLemmas.{answer_fits, none_after, fits_after}
-use Rattle.rfb_session.proofs.ShareSeatLemmas.{answers_after, heard_answer, heard_after}
+use Rattle.rfb_session.proofs.ShareFitLemmas.{fits_refused, answer_fits, none_after, fits_after, answers_after}
+use Rattle.rfb_session.proofs.ShareSeatLemmas.{not_ended, refused_late, seat_kept, heard_answer, heard_after}
 use Rattle.rfb_session.proofs.ShareSeatLemmas.{update_has_none, update_stays}
 use Rattle.rfb_session.proofs.share.seat.ShareSeat.hear.Goals as goal
 use Rattle.rfb_session.proofs.share.seat.ShareSeat.hear.Goals.{in-Answers, in-Update}

@@ -1,4 +1,4 @@
-use Rattle.rfb_session.proofs.ShareSeatLemmas.{few_waiting}
+use Rattle.rfb_session.proofs.ShareFitLemmas.{few_waiting}
 use Rattle.rfb_session.proofs.share.seat.ShareSeat.waiting.Goals as goal
 
 pub returns-clause-few : goal.returns-clause-few

@@ -1,5 +1,5 @@
 use Rattle.std.proofs.Common.{length, refl, ap, arith}
-use Rattle.rfb_session.proofs.ShareSeatLemmas.{fits_empty, cut_few, cut_fits}
+use Rattle.rfb_session.proofs.ShareFitLemmas.{fits_empty, cut_few, cut_fits}
 use Rattle.rfb_session.proofs.ShareMemoryLemmas.{writes_some}
 use Rattle.rfb_session.proofs.share.seat.ShareSeat.write.Goals as goal
 

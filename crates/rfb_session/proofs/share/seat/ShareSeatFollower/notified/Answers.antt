@@ -1,4 +1,4 @@
-use Rattle.rfb_session.proofs.ShareSeatLemmas.{fits_kept}
+use Rattle.rfb_session.proofs.ShareFitLemmas.{fits_kept}
 use Rattle.rfb_session.proofs.share.seat.ShareSeatFollower.notified.Goals as goal
 
 pub invariant_of-self-clause-roomy : goal.invariant_of-self-clause-roomy
