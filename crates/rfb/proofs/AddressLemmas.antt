@@ -1,5 +1,6 @@
 -- A word that names a server, from its parts.
-use Rattle.std.proofs.Common.{Result, Ok, Err, Option, Some, None, MatchResult, codes, ◌≡◌, ◌∙◌, ◌++◌, inl, inr, ◌==◌, ap, sym, subst, ℕ, List, true, false, ◌∷◌}
+use Rattle.std.proofs.Common.{Result, Ok, Err, Option, Some, None, MatchResult, codes, ◌≡◌, ◌∙◌, ◌++◌, inl, inr, ◌==◌}
+use Rattle.std.proofs.Common.{ap, sym, subst, ℕ, List, true, false, ◌∷◌}
 use Rattle.std.specs.List.{after_first, list_any}
 use Rattle.clap.specs.Words.{Row, Text, first_of}
 use Rattle.clap.proofs.CutLemmas.{after_first-at, list_any-Lacks, list_any-at}
@@ -18,21 +19,25 @@ no_address word named after is lacks none host port (inl (lack, named_so, at)) =
     let both : true ≡ false = sym there ∙ away in cc
 no_address word named after is lacks none host port (inr (other, rest, same, lack, named_so, names)) =
     let e : rest ≡ after =
-    sym (after_first-at 58 other rest lack) ∙ (ap (after_first (λ x. x == 58)) (sym same ∙ is) ∙ after_first-at 58 named after lacks) in
+    sym (after_first-at 58 other rest lack)
+    ∙ (ap (after_first (λ x. x == 58)) (sym same ∙ is) ∙ after_first-at 58 named after lacks) in
     none port (subst (λ (t : Text). NamesPort t port) e names)
 
 -- a server that is named by a word alone
 pub address_by_word : (w h : Option Text) (p : Option ℕ) (word : Text) (r : Result Address BadValue) →
     w ≡ Some word → h ≡ None → p ≡ None →
-    MatchResult r (λ a. IsAddress word a.host.now a.port) (λ _. (host : Text) (port : ℕ) → ¬ (IsAddress word host port)) →
-    MatchResult r (λ a. GivesServer w h p a.host.now a.port) (λ _. (host : Text) (port : ℕ) → ¬ (GivesServer w h p host port))
+    MatchResult r (λ a. IsAddress word a.host.now a.port)
+    (λ _. (host : Text) (port : ℕ) → ¬ (IsAddress word host port)) →
+    MatchResult r (λ a. GivesServer w h p a.host.now a.port)
+    (λ _. (host : Text) (port : ℕ) → ¬ (GivesServer w h p host port))
 address_by_word w h p word r is away none given = rw (is, away, none) given
 
 -- and one that words give
 pub address_given : (rows : List Row) (w h : Option Text) (p : Option ℕ) (r : Result Address BadValue) →
     w ≡ first_of (codes "server") rows → h ≡ first_of (codes "host") rows →
     MayGiveNumber (codes "port") 1 65535 rows p →
-    MatchResult r (λ a. GivesServer w h p a.host.now a.port) (λ _. (host : Text) (port : ℕ) → ¬ (GivesServer w h p host port)) →
+    MatchResult r (λ a. GivesServer w h p a.host.now a.port)
+    (λ _. (host : Text) (port : ℕ) → ¬ (GivesServer w h p host port)) →
     MatchResult r (λ a. GivesAddress rows a.host.now a.port) (λ _. HasBadAddress rows)
 address_given rows w h p (Ok a) word host may given = (
   p,

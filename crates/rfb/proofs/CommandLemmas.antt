@@ -1,5 +1,6 @@
 -- What a command has done, from its parts.
-use Rattle.std.proofs.Common.{◌≡◌, ◌∙◌, ◌⊎◌, ap, sym, subst, inl, inr, ℕ, Bool, true, false, [], List, Option, OnOk, OnErr, Result, Ok, Err}
+use Rattle.std.proofs.Common.{◌≡◌, ◌∙◌, ◌⊎◌, ap, sym, subst, inl, inr, ℕ, Bool, true, false, [], List, Option, OnOk}
+use Rattle.std.proofs.Common.{OnErr, Result, Ok, Err}
 use Rattle.clap.specs.Values.{kind_of}
 use Rattle.clap.specs.Words.{HasKind, IsAmong, Kinds, Text}
 use Rattle.clap.specs.declared.error.Error.{Error}
@@ -22,7 +23,8 @@ does_asked words order read before after status (Ok u) asked does failed zero = 
 does_asked words order read before after status (Err failure) asked does failed zero =
     absurd (zero_not_one status zero failed)
 
-pub leaves_asked : {W : Type 0} (contents : W → Option (List ℕ)) (words : List Text) (order : Order) (read : Option (List ℕ))
+pub leaves_asked : {W : Type 0} (contents : W → Option (List ℕ)) (words : List Text)
+    (order : Order) (read : Option (List ℕ))
     (old new : W) (status : ℕ) (r : Result (Unit {0}) Failure) → AreOrdered words order →
     OnErr r ((new ≡ old) ⊎ Through order.paths (Leaves order.task) read (contents old) (contents new)) →
     OnOk r (status ≡ 0) → status ≡ 1 → LeavesAsked words read (contents old) (contents new)

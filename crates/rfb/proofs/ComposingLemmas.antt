@@ -1,5 +1,6 @@
 -- A composed update that joins what is in flight.
-use Rattle.std.proofs.Common.{◌≡◌, ◌≢◌, inl, inr, ℕ, Bool, true, false, List, [], ◌++◌, None, Result, Ok, refl, ap, ◌∙◌, append-nil}
+use Rattle.std.proofs.Common.{◌≡◌, ◌≢◌, inl, inr, ℕ, Bool, true, false, List, [], ◌++◌, None, Result, Ok, refl, ap, ◌∙◌}
+use Rattle.std.proofs.Common.{append-nil}
 use Rattle.rfb_server.specs.declared.server.Server.{Server}
 use Rattle.rfb_server.specs.Hints.{hints_of}
 use Rattle.rfb_server.specs.Standing.{fault_of}

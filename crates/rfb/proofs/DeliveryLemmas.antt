@@ -1,5 +1,7 @@
 -- Bytes that cross a connection in parts, and what each part does to the end that it comes to.
-use Rattle.std.proofs.Common.{◌≡◌, ◌≢◌, ◌∙◌, ◌+◌, ◌-◌, sym, ap, refl, subst, inl, inr, ℕ, [], ◌++◌, List, length, take, drop, append_assoc, append-nil, length-append, Option, Some, None, Result, Ok, Err, OnOk, arith}
+use Rattle.std.proofs.Common.{◌≡◌, ◌≢◌, ◌∙◌, ◌+◌, ◌-◌, sym, ap, refl, subst, inl, inr, ℕ, [], ◌++◌, List, length, take}
+use Rattle.std.proofs.Common.{drop, append_assoc, append-nil, length-append, Option, Some, None, Result, Ok, Err, OnOk}
+use Rattle.std.proofs.Common.{arith}
 use Rattle.std.proofs.KnownBytes.{Appends-nil, Appends-trans, Consumes-nil, Consumes-trans}
 use lib.Seq.{take-add, take-append_seam, take_all}
 use Rattle.rfb_wire.specs.stream.End.{StaysFailed, RefusedBy, RunsOutBy}
@@ -32,7 +34,8 @@ pub took_some : {V A F : Type 0} (o : Option F) (old new : V) (a : A) → StaysF
 took_some None old new a stays = refl
 took_some (Some f) old new a stays = let bad = (stays f refl).0 in absurd (cc)
 
-pub stays_so : {V A F : Type 0} (o : Option F) (old new : V) (r : Result A F) → StaysFailed o old r new → o ≢ None → new ≡ old
+pub stays_so : {V A F : Type 0} (o : Option F) (old new : V) (r : Result A F) →
+    StaysFailed o old r new → o ≢ None → new ≡ old
 stays_so None old new r stays failed = absurd (failed refl)
 stays_so (Some f) old new r stays failed = (stays f refl).1
 
@@ -61,7 +64,8 @@ hearing_none old bytes before = record {
   failed = λ failed. (refl, refl);
 }
 
-pub hearing_more : {A : Type 0} (old : Server) (bytes rest before mid after : List ℕ) (last : Server) (used : ℕ) (new : Server) (a : A) →
+pub hearing_more : {A : Type 0} (old : Server) (bytes rest before mid after : List ℕ) (last : Server)
+    (used : ℕ) (new : Server) (a : A) →
     Hearing old bytes rest before mid last → IsAnswered last (take used rest) (Some mid) (Some after) new →
     StaysFailed (server_fault last) last (Ok a) new →
     Hearing old bytes (take (length rest - used) (drop used rest)) before after new
@@ -80,10 +84,13 @@ hears_all old bytes rest before after now was none =
       failed = was.failed;
     }
 
-pub hears_until : {A : Type 0} (old : Server) (bytes rest before mid : List ℕ) (last : Server) (fault : ServerFault) (new : Server) (r : Result A ServerFault) →
+pub hears_until : {A : Type 0} (old : Server) (bytes rest before mid : List ℕ) (last : Server) (fault : ServerFault)
+    (new : Server) (r : Result A ServerFault) →
     Hearing old bytes rest before mid last → server_fault new ≡ Some fault →
-    (fault ≢ ServerWantsMemory → (serving : Serving) → RefusedBy (server serving) (ServerStandsFor serving) last rest fault) →
-    (fault ≡ ServerWantsMemory → (serving : Serving) → RunsOutBy (server serving) ServerAsks (ServerStandsFor serving) last rest) →
+    (fault ≢ ServerWantsMemory → (serving : Serving) →
+    RefusedBy (server serving) (ServerStandsFor serving) last rest fault) →
+    (fault ≡ ServerWantsMemory → (serving : Serving) →
+    RunsOutBy (server serving) ServerAsks (ServerStandsFor serving) last rest) →
     KeepsNotes fault last rest new → StaysFailed (server_fault last) last r new → fault ≢ ServerWantsMemory →
     Hears old bytes before mid new
 hears_until old bytes rest before mid last fault new r was fails refused starved kept stays memory = record {
@@ -93,17 +100,21 @@ hears_until old bytes rest before mid last fault new r was fails refused starved
     read = bytes;
     later = [];
     bytes_are = sym (append-nil bytes);
-    ended = hearing_stops old bytes rest (Some before) (Some mid) (Some mid) last 0 0 0 (ServerEnded fault) new was.heard refl
+    ended = hearing_stops old bytes rest (Some before) (Some mid) (Some mid) last 0 0 0
+        (ServerEnded fault) new was.heard refl
         (call_ended last new rest (Some mid) fault fails refused starved kept);
     has_memory = memory;
   });
   failed = λ failed.
-      let same = was.failed failed in
-      (stays_so (server_fault last) last new r stays (λ none. failed (sym (ap server_fault same.0) ∙ none)) ∙ same.0, same.1);
+      let same = was.failed failed in (
+        stays_so (server_fault last) last new r stays (λ none. failed (sym (ap server_fault same.0) ∙ none)) ∙ same.0,
+        same.1,
+      );
 }
 
 -- parts one after another
-heard_first : (old mid : Server) (bytes more before between : List ℕ) → IsAnswered old bytes (Some before) (Some between) mid →
+heard_first : (old mid : Server) (bytes more before between : List ℕ) →
+    IsAnswered old bytes (Some before) (Some between) mid →
     Heard old (bytes ++ more) more (Some before) (Some between) mid
 heard_first old mid bytes more before between one = record {
   fed = bytes;
@@ -121,7 +132,8 @@ ends_hearing_then old mid new bytes more before between after one two = record {
   read = bytes ++ two.read;
   later = two.later;
   bytes_are = ap (λ (l : List ℕ). bytes ++ l) two.bytes_are ∙ sym (append_assoc bytes two.read two.later);
-  ended = hearing_stops old (bytes ++ two.read) two.read (Some before) (Some between) (Some after) mid 0 0 0 (ServerEnded two.fault) new
+  ended = hearing_stops old (bytes ++ two.read) two.read (Some before) (Some between) (Some after) mid 0
+      0 0 (ServerEnded two.fault) new
       (heard_first old mid bytes two.read before between one) refl two.ended;
   has_memory = two.has_memory;
 }
@@ -136,7 +148,8 @@ heard_then old mid new bytes more before between after one two =
     let rest : take (length more - length more) (drop (length more) more) ≡ [] =
     ap (λ (n : ℕ). take n (drop (length more) more)) none in
     heard_all old (bytes ++ more) _ (Some before) (Some after) new
-    (heard_more old (bytes ++ more) more (Some before) (Some between) (Some after) mid (length more) new (heard_first old mid bytes more before between one) two_taken)
+    (heard_more old (bytes ++ more) more (Some before) (Some between) (Some after) mid (length more) new
+    (heard_first old mid bytes more before between one) two_taken)
     rest
 
 pub ends_hearing_later : (old new : Server) (bytes more before after : List ℕ) →
@@ -150,10 +163,12 @@ ends_hearing_later old new bytes more before after one = record {
   has_memory = one.has_memory;
 }
 
-not_failed : (mid new : Server) → (server_fault mid ≢ None → new ≡ mid) → server_fault new ≡ None → (o : Option ServerFault) → server_fault mid ≡ o → server_fault mid ≡ None
+not_failed : (mid new : Server) → (server_fault mid ≢ None → new ≡ mid) → server_fault new ≡ None →
+    (o : Option ServerFault) → server_fault mid ≡ o → server_fault mid ≡ None
 not_failed mid new kept fine None is = is
 not_failed mid new kept fine (Some f) is =
-    absurd (never_some (server_fault mid) f is (sym (ap server_fault (kept (has_failed (server_fault mid) f is))) ∙ fine))
+    absurd (never_some (server_fault mid) f is
+    (sym (ap server_fault (kept (has_failed (server_fault mid) f is))) ∙ fine))
 
 pub hears_then : (old mid new : Server) (bytes more before between after : List ℕ) →
     Hears old bytes before between mid → Hears mid more between after new →
@@ -193,7 +208,8 @@ watching_none old bytes before = record {
   failed = λ failed. (refl, refl);
 }
 
-pub watching_more : {A : Type 0} (old : Viewer) (bytes rest before mid after : List ℕ) (last : Viewer) (used : ℕ) (new : Viewer) (a : A) →
+pub watching_more : {A : Type 0} (old : Viewer) (bytes rest before mid after : List ℕ) (last : Viewer)
+    (used : ℕ) (new : Viewer) (a : A) →
     WatchingOn old bytes rest before mid last → IsFed last (take used rest) (Some mid) (Some after) new →
     StaysFailed (viewer_fault last) last (Ok a) new →
     WatchingOn old bytes (take (length rest - used) (drop used rest)) before after new
@@ -212,38 +228,45 @@ watches_all old bytes rest before after now was none =
       failed = was.failed;
     }
 
-pub watches_until : {A : Type 0} (old : Viewer) (bytes rest before mid : List ℕ) (last : Viewer) (fault : ViewerFault) (new : Viewer) (r : Result A ViewerFault) →
+pub watches_until : {A : Type 0} (old : Viewer) (bytes rest before mid : List ℕ) (last : Viewer) (fault : ViewerFault)
+    (new : Viewer) (r : Result A ViewerFault) →
     WatchingOn old bytes rest before mid last → viewer_fault new ≡ Some fault →
-    (fault ≢ ViewerWantsMemory → (viewing : Viewing) → RefusedBy (viewer viewing) (ViewerStandsFor viewing) last rest fault) →
-    (fault ≡ ViewerWantsMemory → (viewing : Viewing) → RunsOutBy (viewer viewing) (ViewerAsks viewing) (ViewerStandsFor viewing) last rest) →
+    (fault ≢ ViewerWantsMemory → (viewing : Viewing) →
+    RefusedBy (viewer viewing) (ViewerStandsFor viewing) last rest fault) →
+    (fault ≡ ViewerWantsMemory → (viewing : Viewing) →
+    RunsOutBy (viewer viewing) (ViewerAsks viewing) (ViewerStandsFor viewing) last rest) →
     (viewer_fault last ≡ None → KeepsPicture fault last rest new) →
     (viewer_fault last ≡ None → KeepsReason fault last rest new) →
     StaysFailed (viewer_fault last) last r new → fault ≢ ViewerWantsMemory →
     Watches old bytes before mid new
-watches_until old bytes rest before mid last fault new r was fails refused starved picture reason stays memory = record {
-  fed = λ fine. absurd (never_some (viewer_fault new) fault fails fine);
-  either = λ viewing s prefix stands. inr (record {
-    fault = fault;
-    read = bytes;
-    later = [];
-    bytes_are = sym (append-nil bytes);
-    ended = record {
-      fed = was.fed.fed;
-      slice = rest;
-      sent = was.fed.sent;
-      updates = was.fed.updates;
-      last = last;
-      bytes_are = was.fed.bytes_are;
-      runs = was.fed.runs;
-      wrote = was.fed.wrote;
-      ends = record { fails = fails; refused = refused; starved = starved; picture = picture; reason = reason };
-    };
-    has_memory = memory;
-  });
-  failed = λ failed.
-      let same = was.failed failed in
-      (stays_so (viewer_fault last) last new r stays (λ none. failed (sym (ap viewer_fault same.0) ∙ none)) ∙ same.0, same.1);
-}
+watches_until old bytes rest before mid last fault new r was fails refused starved picture reason stays memory =
+    record {
+      fed = λ fine. absurd (never_some (viewer_fault new) fault fails fine);
+      either = λ viewing s prefix stands. inr (record {
+        fault = fault;
+        read = bytes;
+        later = [];
+        bytes_are = sym (append-nil bytes);
+        ended = record {
+          fed = was.fed.fed;
+          slice = rest;
+          sent = was.fed.sent;
+          updates = was.fed.updates;
+          last = last;
+          bytes_are = was.fed.bytes_are;
+          runs = was.fed.runs;
+          wrote = was.fed.wrote;
+          ends = record { fails = fails; refused = refused; starved = starved; picture = picture; reason = reason };
+        };
+        has_memory = memory;
+      });
+      failed = λ failed.
+          let same = was.failed failed in (
+            stays_so (viewer_fault last) last new r stays (λ none. failed (sym (ap viewer_fault same.0) ∙ none))
+                ∙ same.0,
+            same.1,
+          );
+    }
 
 -- parts one after another
 pub ends_watching_then : (old mid new : Viewer) (bytes more before between after : List ℕ) →
@@ -260,8 +283,10 @@ ends_watching_then old mid new bytes more before between after one two = record 
     sent = one.sent ++ two.ended.sent;
     updates = one.updates + two.ended.updates;
     last = two.ended.last;
-    bytes_are = ap (λ (l : List ℕ). bytes ++ l) two.ended.bytes_are ∙ sym (append_assoc bytes two.ended.fed two.ended.slice);
-    runs = ran_then viewer_driven old mid two.ended.last bytes one.sent two.ended.fed two.ended.sent one.updates two.ended.updates one.runs two.ended.runs;
+    bytes_are =
+        ap (λ (l : List ℕ). bytes ++ l) two.ended.bytes_are ∙ sym (append_assoc bytes two.ended.fed two.ended.slice);
+    runs = ran_then viewer_driven old mid two.ended.last bytes one.sent two.ended.fed two.ended.sent one.updates
+        two.ended.updates one.runs two.ended.runs;
     wrote = Appends-trans (Some before) (Some between) (Some after) one.sent two.ended.sent one.wrote two.ended.wrote;
     ends = two.ended.ends;
   };
@@ -289,10 +314,12 @@ ends_watching_later old new bytes more before after one = record {
   has_memory = one.has_memory;
 }
 
-viewer_not_failed : (mid new : Viewer) → (viewer_fault mid ≢ None → new ≡ mid) → viewer_fault new ≡ None → (o : Option ViewerFault) → viewer_fault mid ≡ o → viewer_fault mid ≡ None
+viewer_not_failed : (mid new : Viewer) → (viewer_fault mid ≢ None → new ≡ mid) → viewer_fault new ≡ None →
+    (o : Option ViewerFault) → viewer_fault mid ≡ o → viewer_fault mid ≡ None
 viewer_not_failed mid new kept fine None is = is
 viewer_not_failed mid new kept fine (Some f) is =
-    absurd (never_some (viewer_fault mid) f is (sym (ap viewer_fault (kept (has_failed (viewer_fault mid) f is))) ∙ fine))
+    absurd (never_some (viewer_fault mid) f is
+    (sym (ap viewer_fault (kept (has_failed (viewer_fault mid) f is))) ∙ fine))
 
 pub watches_then : (old mid new : Viewer) (bytes more before between after : List ℕ) →
     Watches old bytes before between mid → Watches mid more between after new →
@@ -339,12 +366,14 @@ crosses_then bytes more before mid after unread between left came next one two =
 pub next_part : (all now part rest : List ℕ) (n k m : ℕ) → now ≡ drop n all → now ≡ part ++ rest → length part ≡ k →
     n + k ≡ m → take n all ++ part ≡ take m all
 next_part all now part rest n k m is parts size sum =
-    let seam : take k now ≡ part = ap (take k) parts ∙ ap (λ (m : ℕ). take m (part ++ rest)) (sym size) ∙ take-append_seam part rest in
+    let seam : take k now ≡ part =
+    ap (take k) parts ∙ ap (λ (m : ℕ). take m (part ++ rest)) (sym size) ∙ take-append_seam part rest in
     ap (λ (l : List ℕ). take n all ++ l) (sym seam ∙ ap (take k) is) ∙ sym (take-add n k all)
     ∙ ap (λ (i : ℕ). take i all) sum
 
 -- no part yet
-pub reaches_server_none : (all : List ℕ) (n : ℕ) (unsent unread : Option (List ℕ)) (old : Server) (before : List ℕ) → 0 ≡ n →
+pub reaches_server_none : (all : List ℕ) (n : ℕ) (unsent unread : Option (List ℕ)) (old : Server) (before : List ℕ) →
+    0 ≡ n →
     ReachesServer (take n all) unsent unsent unread unread old before before old
 reaches_server_none all n unsent unread old before none =
     subst (λ (k : ℕ). ReachesServer (take k all) unsent unsent unread unread old before before old) none
@@ -354,7 +383,8 @@ reaches_server_none all n unsent unread old before none =
       hears = hears_all old [] [] before before old (hearing_none old [] before) refl;
     })
 
-pub reaches_viewer_none : (all : List ℕ) (n : ℕ) (unsent unread : Option (List ℕ)) (old : Viewer) (before : List ℕ) → 0 ≡ n →
+pub reaches_viewer_none : (all : List ℕ) (n : ℕ) (unsent unread : Option (List ℕ)) (old : Viewer) (before : List ℕ) →
+    0 ≡ n →
     ReachesViewer (take n all) unsent unsent unread unread old before before old
 reaches_viewer_none all n unsent unread old before none =
     subst (λ (k : ℕ). ReachesViewer (take k all) unsent unsent unread unread old before before old) none
@@ -365,30 +395,38 @@ reaches_viewer_none all n unsent unread old before none =
     })
 
 -- one part more
-pub reaches_server_more : (all now part rest : List ℕ) (n k m : ℕ) (unsent mid sent unread between left : Option (List ℕ))
+pub reaches_server_more : (all now part rest : List ℕ) (n k m : ℕ)
+    (unsent mid sent unread between left : Option (List ℕ))
     (old last new : Server) (before after later : List ℕ) →
     now ≡ drop n all → now ≡ part ++ rest → length part ≡ k →
     n + k ≡ m → ReachesServer (take n all) unsent mid unread between old before after last →
     ReachesServer part mid sent between left last after later new →
     ReachesServer (take m all) unsent sent unread left old before later new
-reaches_server_more all now part rest n k m unsent mid sent unread between left old last new before after later is parts size sum was more =
-    subst (λ (l : List ℕ). ReachesServer l unsent sent unread left old before later new) (next_part all now part rest n k m is parts size sum)
+reaches_server_more all now part rest n k m unsent mid sent unread between left old last new before after
+    later is parts size sum was more =
+    subst (λ (l : List ℕ). ReachesServer l unsent sent unread left old before later new)
+    (next_part all now part rest n k m is parts size sum)
     (record {
       came = was.came ++ more.came;
-      crosses = crosses_then (take n all) part unsent mid sent unread between left was.came more.came was.crosses more.crosses;
+      crosses = crosses_then (take n all) part unsent mid sent unread between left was.came
+          more.came was.crosses more.crosses;
       hears = hears_then old last new was.came more.came before after later was.hears more.hears;
     })
 
-pub reaches_viewer_more : (all now part rest : List ℕ) (n k m : ℕ) (unsent mid sent unread between left : Option (List ℕ))
+pub reaches_viewer_more : (all now part rest : List ℕ) (n k m : ℕ)
+    (unsent mid sent unread between left : Option (List ℕ))
     (old last new : Viewer) (before after later : List ℕ) →
     now ≡ drop n all → now ≡ part ++ rest → length part ≡ k →
     n + k ≡ m → ReachesViewer (take n all) unsent mid unread between old before after last →
     ReachesViewer part mid sent between left last after later new →
     ReachesViewer (take m all) unsent sent unread left old before later new
-reaches_viewer_more all now part rest n k m unsent mid sent unread between left old last new before after later is parts size sum was more =
-    subst (λ (l : List ℕ). ReachesViewer l unsent sent unread left old before later new) (next_part all now part rest n k m is parts size sum)
+reaches_viewer_more all now part rest n k m unsent mid sent unread between left old last new before after
+    later is parts size sum was more =
+    subst (λ (l : List ℕ). ReachesViewer l unsent sent unread left old before later new)
+    (next_part all now part rest n k m is parts size sum)
     (record {
       came = was.came ++ more.came;
-      crosses = crosses_then (take n all) part unsent mid sent unread between left was.came more.came was.crosses more.crosses;
+      crosses = crosses_then (take n all) part unsent mid sent unread between left was.came
+          more.came was.crosses more.crosses;
       watches = watches_then old last new was.came more.came before after later was.watches more.watches;
     })

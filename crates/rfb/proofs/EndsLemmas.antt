@@ -1,5 +1,6 @@
 -- What an event does to both ends, from what the calls and the queues promise.
-use Rattle.std.proofs.Common.{◌≡◌, ◌≢◌, ◌⊎◌, inl, inr, ◌↔◌, ℕ, true, false, List, ◌++◌, Option, None, Some, Result, Ok, Err, IsErr, IfOk, IfErr, OnOk, OnErr, refl, sym, ap, ◌∙◌}
+use Rattle.std.proofs.Common.{◌≡◌, ◌≢◌, ◌⊎◌, inl, inr, ◌↔◌, ℕ, true, false, List, ◌++◌, Option, None, Some, Result, Ok}
+use Rattle.std.proofs.Common.{Err, IsErr, IfOk, IfErr, OnOk, OnErr, refl, sym, ap, ◌∙◌}
 use Rattle.rfb_pixel.specs.declared.colour.Colour.{Colour}
 use Rattle.rfb_picture.specs.Grid.{Grid}
 use Rattle.rfb_server.specs.declared.fault.Outside.{Outside as OutsideFault}
@@ -124,7 +125,8 @@ sends {A = A} items refusal_in message old new (Err fault) (Ok refused) call sen
     record {
       refusal = λ viewing s prefix stands.
           told ∙ ap (λ o. refused_as o) (call.refusal viewing s prefix stands);
-      failed = λ fails. told ∙ ap (λ o. refused_as o) (ap (λ (r : Result A CallFault). refusal_of r) (call.failed fails));
+      failed =
+          λ fails. told ∙ ap (λ o. refused_as o) (ap (λ (r : Result A CallFault). refusal_of r) (call.failed fails));
       kept = λ some. others
           ∙ ap (λ (v : Viewer). record old { viewer = v; to_server = new.to_server }) call.kept
           ∙ ap (λ q. record old { to_server = q }) kept;

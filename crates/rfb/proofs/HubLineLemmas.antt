@@ -1,5 +1,7 @@
 -- Lines of a hub's script, read one after another.
-use Rattle.std.proofs.Common.{◌==◌, Bool, true, false, is_some, ◌≡◌, ◌≢◌, ◌<◌, ◌+◌, ◌∙◌, ℕ, Option, Some, None, MatchOption, codes, subst, List, [], ◌∷◌, ◌++◌, Bor, ap, sym, refl, inl, inr, ◌⊎◌, length, take, drop, get_or, arith, append_assoc, length-append}
+use Rattle.std.proofs.Common.{◌==◌, Bool, true, false, is_some, ◌≡◌, ◌≢◌, ◌<◌, ◌+◌, ◌∙◌, ℕ, Option, Some, None}
+use Rattle.std.proofs.Common.{MatchOption, codes, subst, List, [], ◌∷◌, ◌++◌, Bor, ap, sym, refl, inl, inr, ◌⊎◌, length}
+use Rattle.std.proofs.Common.{take, drop, get_or, arith, append_assoc, length-append}
 use Rattle.std.specs.Iterator.{Yields}
 use Rattle.std.proofs.lemmas.Iterator.{YieldsList}
 use Rattle.std.proofs.lemmas.Iterator.Consumers.{YieldsList-turn, YieldsList-so_far}
@@ -7,7 +9,9 @@ use Rattle.std.proofs.lemmas.List.Splits.{slice_split_none}
 use Rattle.std.proofs.lemmas.List.Elements.{All-nil, All-cons, All-head, All-tail}
 use Rattle.rfb.specs.declared.script.hub.hub_step.HubNumbered.{HubNumbered}
 use Rattle.rfb_session.specs.declared.language.screen.Screen.{Screen as Size}
-use Rattle.rfb.specs.HubScript.{AreHubScript, AreOpenHub, AskInHub, AsksInHub, BeginHub, GivesHub, IsBadInHub, IsFirstBadInHub, IsWithoutShow, NamesShown, SaysHub, SaysHubStep, SaysShow, first_line, line_after}
+use Rattle.rfb.specs.HubScript.{AreHubScript, AreOpenHub, AskInHub, AsksInHub, BeginHub, GivesHub, IsBadInHub}
+use Rattle.rfb.specs.HubScript.{IsFirstBadInHub, IsWithoutShow, NamesShown, SaysHub, SaysHubStep, SaysShow, first_line}
+use Rattle.rfb.specs.HubScript.{line_after}
 use Rattle.rfb.specs.Script.{AreEmpty}
 use Rattle.rfb_session.specs.language.Words.{words_of, texts}
 use Rattle.rfb.proofs.LinesLemmas.{parted, texts_more}
@@ -25,32 +29,41 @@ IsEmpty line = line ≡ []
 empty_more : (lines : List (List ℕ)) (line : List ℕ) → AreEmpty lines → line ≡ [] → AreEmpty (lines ++ line ∷ [])
 empty_more [] line all none = All-cons IsEmpty line [] none (All-nil IsEmpty)
 empty_more (l ∷ lines) line all none =
-    All-cons IsEmpty l (lines ++ line ∷ []) (All-head IsEmpty l lines all) (empty_more lines line (All-tail IsEmpty l lines all) none)
+    All-cons IsEmpty l (lines ++ line ∷ []) (All-head IsEmpty l lines all)
+    (empty_more lines line (All-tail IsEmpty l lines all) none)
 
-later_more : (lines blank later : List (List ℕ)) (first line : List ℕ) → lines ≡ blank ++ first ∷ later → lines ++ line ∷ [] ≡ blank ++ first ∷ (later ++ line ∷ [])
-later_more lines blank later first line whole = ap (λ (l : List (List ℕ)). l ++ line ∷ []) whole ∙ append_assoc blank (first ∷ later) (line ∷ [])
+later_more : (lines blank later : List (List ℕ)) (first line : List ℕ) → lines ≡ blank ++ first ∷ later →
+    lines ++ line ∷ [] ≡ blank ++ first ∷ (later ++ line ∷ [])
+later_more lines blank later first line whole =
+    ap (λ (l : List (List ℕ)). l ++ line ∷ []) whole ∙ append_assoc blank (first ∷ later) (line ∷ [])
 
 -- ---- the lines after the first
 
-asks_blank : (n : ℕ) (lines : List (List ℕ)) (line : List ℕ) (steps : List HubNumbered) → line ≡ [] → AskInHub n lines steps → AskInHub n (lines ++ line ∷ []) steps
+asks_blank : (n : ℕ) (lines : List (List ℕ)) (line : List ℕ) (steps : List HubNumbered) → line ≡ [] →
+    AskInHub n lines steps → AskInHub n (lines ++ line ∷ []) steps
 asks_blank n [] line [] none asks = rw none tt
 asks_blank n [] line (step ∷ steps) none asks = absurd asks
 asks_blank n ([] ∷ lines) line steps none asks = asks_blank (n + 1) lines line steps none asks
 asks_blank n ((char ∷ l) ∷ lines) line [] none asks = absurd asks
-asks_blank n ((char ∷ l) ∷ lines) line (step ∷ steps) none asks = (asks.0, asks.1, asks_blank (n + 1) lines line steps none asks.2)
+asks_blank n ((char ∷ l) ∷ lines) line (step ∷ steps) none asks =
+    (asks.0, asks.1, asks_blank (n + 1) lines line steps none asks.2)
 
-asks_more : (n m : ℕ) (lines : List (List ℕ)) (line : List ℕ) (steps : List HubNumbered) (step : HubNumbered) → AskInHub n lines steps → m ≡ n + length lines → step.line ≡ m → line ≢ [] → SaysHubStep (words_of line) step.step → AskInHub n (lines ++ line ∷ []) (steps ++ step ∷ [])
+asks_more : (n m : ℕ) (lines : List (List ℕ)) (line : List ℕ) (steps : List HubNumbered) (step : HubNumbered) →
+    AskInHub n lines steps → m ≡ n + length lines → step.line ≡ m → line ≢ [] → SaysHubStep (words_of line) step.step →
+    AskInHub n (lines ++ line ∷ []) (steps ++ step ∷ [])
 asks_more n m [] [] [] step asks count at some says = absurd (some refl)
 asks_more n m [] (char ∷ line) [] step asks count at some says = (at ∙ (omega (arith, count)), says, tt)
 asks_more n m [] line (e ∷ steps) step asks count at some says = absurd asks
-asks_more n m ([] ∷ lines) line steps step asks count at some says = asks_more (n + 1) m lines line steps step asks (omega (arith, count)) at some says
+asks_more n m ([] ∷ lines) line steps step asks count at some says =
+    asks_more (n + 1) m lines line steps step asks (omega (arith, count)) at some says
 asks_more n m ((char ∷ l) ∷ lines) line [] step asks count at some says = absurd asks
 asks_more n m ((char ∷ l) ∷ lines) line (e ∷ steps) step asks count at some says =
     (asks.0, asks.1, asks_more (n + 1) m lines line steps step asks.2 (omega (arith, count)) at some says)
 
 -- ---- one line more
 
-open_blank : (lines : List (List ℕ)) (line : List ℕ) (size : Size) (steps : List HubNumbered) → line ≡ [] → AreOpenHub lines size steps → AreOpenHub (lines ++ line ∷ []) size steps
+open_blank : (lines : List (List ℕ)) (line : List ℕ) (size : Size) (steps : List HubNumbered) → line ≡ [] →
+    AreOpenHub lines size steps → AreOpenHub (lines ++ line ∷ []) size steps
 open_blank lines line size steps none read = record {
   blank = read.blank;
   first = read.first;
@@ -61,7 +74,8 @@ open_blank lines line size steps none read = record {
   later_are = asks_blank (length read.blank + 2) read.later line steps none read.later_are;
 }
 
-blank_read : (lines : List (List ℕ)) (line : List ℕ) (screen : Option Size) (steps : List HubNumbered) (shown : Option ℕ) → line ≡ [] → ReadHub lines screen steps shown → ReadHub (lines ++ line ∷ []) screen steps shown
+blank_read : (lines : List (List ℕ)) (line : List ℕ) (screen : Option Size) (steps : List HubNumbered)
+    (shown : Option ℕ) → line ≡ [] → ReadHub lines screen steps shown → ReadHub (lines ++ line ∷ []) screen steps shown
 blank_read lines line None steps shown none read = (empty_more lines line read.0 none, read.1, read.2)
 blank_read lines line (Some size) steps None none read = open_blank lines line size steps none read
 blank_read lines line (Some size) steps (Some slot) none read = record {
@@ -74,7 +88,8 @@ blank_read lines line (Some size) steps (Some slot) none read = record {
   after_is = empty_more read.after line read.after_is none;
 }
 
-size_read : (lines : List (List ℕ)) (line : List ℕ) (size : Size) (steps : List HubNumbered) → AreEmpty lines → steps ≡ [] → SaysHub (words_of line) size → AreOpenHub (lines ++ line ∷ []) size steps
+size_read : (lines : List (List ℕ)) (line : List ℕ) (size : Size) (steps : List HubNumbered) → AreEmpty lines →
+    steps ≡ [] → SaysHub (words_of line) size → AreOpenHub (lines ++ line ∷ []) size steps
 size_read lines line size steps empty none says = record {
   blank = lines;
   first = line;
@@ -85,7 +100,8 @@ size_read lines line size steps empty none says = record {
   later_are = rw none tt;
 }
 
-show_read : (lines : List (List ℕ)) (line : List ℕ) (size : Size) (steps : List HubNumbered) (slot : ℕ) → AreOpenHub lines size steps → SaysShow (words_of line) slot → AreHubScript (lines ++ line ∷ []) size steps slot
+show_read : (lines : List (List ℕ)) (line : List ℕ) (size : Size) (steps : List HubNumbered) (slot : ℕ) →
+    AreOpenHub lines size steps → SaysShow (words_of line) slot → AreHubScript (lines ++ line ∷ []) size steps slot
 show_read lines line size steps slot read says = record {
   before = lines;
   last = line;
@@ -96,9 +112,12 @@ show_read lines line size steps slot read says = record {
   after_is = All-nil IsEmpty;
 }
 
-step_read : (lines : List (List ℕ)) (line : List ℕ) (size : Size) (steps : List HubNumbered) (step : HubNumbered) → AreOpenHub lines size steps → step.line ≡ length lines + 1 → line ≢ [] → SaysHubStep (words_of line) step.step → AreOpenHub (lines ++ line ∷ []) size (steps ++ step ∷ [])
+step_read : (lines : List (List ℕ)) (line : List ℕ) (size : Size) (steps : List HubNumbered) (step : HubNumbered) →
+    AreOpenHub lines size steps → step.line ≡ length lines + 1 → line ≢ [] → SaysHubStep (words_of line) step.step →
+    AreOpenHub (lines ++ line ∷ []) size (steps ++ step ∷ [])
 step_read lines line size steps step read at some says =
-    let size_of = ap (λ (l : List (List ℕ)). length l) read.whole ∙ length-append read.blank (read.first ∷ read.later) in
+    let size_of =
+    ap (λ (l : List (List ℕ)). length l) read.whole ∙ length-append read.blank (read.first ∷ read.later) in
     record {
       blank = read.blank;
       first = read.first;
@@ -106,50 +125,72 @@ step_read lines line size steps step read at some says =
       whole = later_more lines read.blank read.later read.first line read.whole;
       blank_is = read.blank_is;
       size_is = read.size_is;
-      later_are = asks_more (length read.blank + 2) (length lines + 1) read.later line steps step read.later_are (omega (arith, size_of)) at some says;
+      later_are = asks_more (length read.blank + 2) (length lines + 1) read.later line steps step read.later_are
+          (omega (arith, size_of)) at some says;
     }
 
 -- ---- a turn of the reading
 
-pub hub_blank : (words : List (Bor (List ℕ))) (word : Bor (List ℕ)) (screen : Option Size) (steps : List HubNumbered) (shown : Option ℕ) → ReadHub (texts words) screen steps shown → word.now ≡ [] → ReadHub (texts (words ++ word ∷ [])) screen steps shown
-hub_blank words word screen steps shown read none = rw (texts_more words word) (blank_read (texts words) word.now screen steps shown none read)
+pub hub_blank : (words : List (Bor (List ℕ))) (word : Bor (List ℕ)) (screen : Option Size)
+    (steps : List HubNumbered) (shown : Option ℕ) → ReadHub (texts words) screen steps shown → word.now ≡ [] →
+    ReadHub (texts (words ++ word ∷ [])) screen steps shown
+hub_blank words word screen steps shown read none =
+    rw (texts_more words word) (blank_read (texts words) word.now screen steps shown none read)
 
-pub hub_size : (words : List (Bor (List ℕ))) (word : Bor (List ℕ)) (screen : Option Size) (size : Size) (steps : List HubNumbered) (shown : Option ℕ) → ReadHub (texts words) screen steps shown → is_some screen ≡ false → SaysHub (words_of word.now) size → ReadHub (texts (words ++ word ∷ [])) (Some size) steps shown
-hub_size words word None size steps None read none says = rw (texts_more words word) (size_read (texts words) word.now size steps read.0 read.1 says)
+pub hub_size : (words : List (Bor (List ℕ))) (word : Bor (List ℕ)) (screen : Option Size) (size : Size)
+    (steps : List HubNumbered) (shown : Option ℕ) → ReadHub (texts words) screen steps shown → is_some screen ≡ false →
+    SaysHub (words_of word.now) size → ReadHub (texts (words ++ word ∷ [])) (Some size) steps shown
+hub_size words word None size steps None read none says =
+    rw (texts_more words word) (size_read (texts words) word.now size steps read.0 read.1 says)
 hub_size words word None size steps (Some slot) read none says = let e : Some slot ≡ None = read.2 in absurd (cc)
 hub_size words word (Some other) size steps shown read none says = absurd (cc)
 
-pub hub_show : (words : List (Bor (List ℕ))) (word : Bor (List ℕ)) (screen : Option Size) (steps : List HubNumbered) (shown : Option ℕ) (slot : ℕ) → ReadHub (texts words) screen steps shown → is_some screen ≡ true → is_some shown ≡ false → SaysShow (words_of word.now) slot → ReadHub (texts (words ++ word ∷ [])) screen steps (Some slot)
+pub hub_show : (words : List (Bor (List ℕ))) (word : Bor (List ℕ)) (screen : Option Size) (steps : List HubNumbered)
+    (shown : Option ℕ) (slot : ℕ) → ReadHub (texts words) screen steps shown → is_some screen ≡ true → is_some shown
+    ≡ false → SaysShow (words_of word.now) slot → ReadHub (texts (words ++ word ∷ [])) screen steps (Some slot)
 hub_show words word None steps shown slot read begun none says = absurd (cc)
-hub_show words word (Some size) steps None slot read begun none says = rw (texts_more words word) (show_read (texts words) word.now size steps slot read says)
+hub_show words word (Some size) steps None slot read begun none says =
+    rw (texts_more words word) (show_read (texts words) word.now size steps slot read says)
 hub_show words word (Some size) steps (Some other) slot read begun none says = absurd (cc)
 
-pub hub_step : (words : List (Bor (List ℕ))) (word : Bor (List ℕ)) (n : ℕ) (screen : Option Size) (steps : List HubNumbered) (step : HubNumbered) (shown : Option ℕ) → n ≡ length words → ReadHub (texts words) screen steps shown → is_some screen ≡ true → is_some shown ≡ false → word.now ≢ [] → step.line ≡ n + 1 → SaysHubStep (words_of word.now) step.step
+pub hub_step : (words : List (Bor (List ℕ))) (word : Bor (List ℕ)) (n : ℕ) (screen : Option Size)
+    (steps : List HubNumbered) (step : HubNumbered) (shown : Option ℕ) → n ≡ length words →
+    ReadHub (texts words) screen steps shown → is_some screen ≡ true → is_some shown ≡ false → word.now ≢ [] →
+    step.line ≡ n + 1 → SaysHubStep (words_of word.now) step.step
     → ReadHub (texts (words ++ word ∷ [])) screen (steps ++ step ∷ []) shown
 hub_step words word n None steps step shown count read begun none some at says = absurd (cc)
 hub_step words word n (Some size) steps step None count read begun none some at says =
-    rw (texts_more words word) (step_read (texts words) word.now size steps step read (at ∙ (omega (arith, count, texts_length words))) some says)
+    rw (texts_more words word) (step_read (texts words) word.now size steps step read
+    (at ∙ (omega (arith, count, texts_length words))) some says)
 hub_step words word n (Some size) steps step (Some slot) count read begun none some at says = absurd (cc)
 
 -- ---- what is answered to a line that is bad
 
-pub hub_bad_size : (lines : List (List ℕ)) (line : List ℕ) (screen : Option Size) (steps : List HubNumbered) (shown : Option ℕ) → line ≢ [] → ReadHub lines screen steps shown → is_some screen ≡ false → ¬ (GivesHub line) → IsBadInHub lines line
+pub hub_bad_size : (lines : List (List ℕ)) (line : List ℕ) (screen : Option Size) (steps : List HubNumbered)
+    (shown : Option ℕ) → line ≢ [] → ReadHub lines screen steps shown → is_some screen ≡ false →
+    ¬ (GivesHub line) → IsBadInHub lines line
 hub_bad_size lines line None steps shown some read none not = (some, inl (inl (read.0, not)))
 hub_bad_size lines line (Some size) steps shown some read none not = absurd (cc)
 
-pub hub_bad_step : (lines : List (List ℕ)) (line : List ℕ) (screen : Option Size) (steps : List HubNumbered) (shown : Option ℕ) → line ≢ [] → ReadHub lines screen steps shown → is_some screen ≡ true → is_some shown ≡ false → ¬ (AsksInHub line) → ¬ (NamesShown line) → IsBadInHub lines line
+pub hub_bad_step : (lines : List (List ℕ)) (line : List ℕ) (screen : Option Size) (steps : List HubNumbered)
+    (shown : Option ℕ) → line ≢ [] → ReadHub lines screen steps shown → is_some screen ≡ true → is_some shown ≡ false →
+    ¬ (AsksInHub line) → ¬ (NamesShown line) → IsBadInHub lines line
 hub_bad_step lines line None steps shown some read begun none asks names = absurd (cc)
-hub_bad_step lines line (Some size) steps None some read begun none asks names = (some, inl (inr ((size, steps, read), asks, names)))
+hub_bad_step lines line (Some size) steps None some read begun none asks names =
+    (some, inl (inr ((size, steps, read), asks, names)))
 hub_bad_step lines line (Some size) steps (Some slot) some read begun none asks names = absurd (cc)
 
-pub hub_bad_after : (lines : List (List ℕ)) (line : List ℕ) (screen : Option Size) (steps : List HubNumbered) (shown : Option ℕ) → line ≢ [] → ReadHub lines screen steps shown → is_some shown ≡ true → IsBadInHub lines line
+pub hub_bad_after : (lines : List (List ℕ)) (line : List ℕ) (screen : Option Size) (steps : List HubNumbered)
+    (shown : Option ℕ) → line ≢ [] → ReadHub lines screen steps shown → is_some shown ≡ true → IsBadInHub lines line
 hub_bad_after lines line None steps (Some slot) some read ended = let e : Some slot ≡ None = read.2 in absurd (cc)
 hub_bad_after lines line None steps None some read ended = absurd (cc)
 hub_bad_after lines line (Some size) steps None some read ended = absurd (cc)
 hub_bad_after lines line (Some size) steps (Some slot) some read ended = (some, inr (size, steps, slot, read))
 
 -- the line under way is the first bad one
-pub hub_first_bad : (all : List (List ℕ)) (words : List (Bor (List ℕ))) (word : Bor (List ℕ)) (n : ℕ) → texts words ≡ take (length words) all → (length words < length all) × (word.now ≡ get_or all (length words) word.now) → n ≡ length words → IsBadInHub (texts words) word.now → IsFirstBadInHub all (n + 1)
+pub hub_first_bad : (all : List (List ℕ)) (words : List (Bor (List ℕ))) (word : Bor (List ℕ)) (n : ℕ) → texts words
+    ≡ take (length words) all → (length words < length all) × (word.now ≡ get_or all (length words) word.now) →
+    n ≡ length words → IsBadInHub (texts words) word.now → IsFirstBadInHub all (n + 1)
 hub_first_bad all words word n front turn count bad =
     let size = texts_length words in
     record {
@@ -162,36 +203,45 @@ hub_first_bad all words word n front turn count bad =
     }
 
 -- the same of a line that a loop has under way
-pub hub_first_bad_line : {S : Type 0} {steps : S → Option (Bor (List ℕ)) → S → Type 0} {s t u : S} {r : Option (Bor (List ℕ))} (all : List (List ℕ)) (words : List (Bor (List ℕ))) (word : Bor (List ℕ)) (n : ℕ)
-    → YieldsList steps (λ x. x.now) s all → Yields steps s words t → r ≡ Some word → steps t r u → n ≡ length words → IsBadInHub (texts words) word.now → IsFirstBadInHub all (n + 1)
+pub hub_first_bad_line : {S : Type 0} {steps : S → Option (Bor (List ℕ)) → S → Type 0} {s t u : S}
+    {r : Option (Bor (List ℕ))} (all : List (List ℕ)) (words : List (Bor (List ℕ))) (word : Bor (List ℕ)) (n : ℕ)
+    → YieldsList steps (λ x. x.now) s all → Yields steps s words t → r ≡ Some word → steps t r u → n ≡ length words →
+    IsBadInHub (texts words) word.now → IsFirstBadInHub all (n + 1)
 hub_first_bad_line {t = t} {u = u} {r = r} all words word n yields so_far is step count bad =
-    hub_first_bad all words word n (YieldsList-so_far yields words t so_far) (YieldsList-turn yields words t so_far r u word is step) count bad
+    hub_first_bad all words word n (YieldsList-so_far yields words t so_far)
+    (YieldsList-turn yields words t so_far r u word is step) count bad
 
 -- ---- the line after the last
 
-line_after_blank : (lines : List (List ℕ)) (line : List ℕ) → line ≡ [] → line_after (lines ++ line ∷ []) ≡ length lines + 1
+line_after_blank : (lines : List (List ℕ)) (line : List ℕ) → line ≡ [] →
+    line_after (lines ++ line ∷ []) ≡ length lines + 1
 line_after_blank [] line none = rw none refl
 line_after_blank (l ∷ []) line none = rw none refl
 line_after_blank (l ∷ (m ∷ lines)) line none = let e = line_after_blank (m ∷ lines) line none in omega (arith, e)
 
-line_after_chars : (lines : List (List ℕ)) (line : List ℕ) → line ≢ [] → line_after (lines ++ line ∷ []) ≡ length lines + 2
+line_after_chars : (lines : List (List ℕ)) (line : List ℕ) → line ≢ [] →
+    line_after (lines ++ line ∷ []) ≡ length lines + 2
 line_after_chars [] [] some = absurd (some refl)
 line_after_chars [] (char ∷ line) some = refl
 line_after_chars (l ∷ []) [] some = absurd (some refl)
 line_after_chars (l ∷ []) (char ∷ line) some = refl
 line_after_chars (l ∷ (m ∷ lines)) line some = let e = line_after_chars (m ∷ lines) line some in omega (arith, e)
 
-pub line_after_more : (words : List (Bor (List ℕ))) (word : Bor (List ℕ)) (n : ℕ) → n ≡ length words → word.now ≡ [] → n + 1 ≡ line_after (texts (words ++ word ∷ []))
+pub line_after_more : (words : List (Bor (List ℕ))) (word : Bor (List ℕ)) (n : ℕ) → n ≡ length words → word.now ≡ [] →
+    n + 1 ≡ line_after (texts (words ++ word ∷ []))
 line_after_more words word n count none =
     let e = line_after_blank (texts words) word.now none in
     rw (texts_more words word) (omega (arith, e, count, texts_length words))
 
-pub line_after_more_chars : (words : List (Bor (List ℕ))) (word : Bor (List ℕ)) (n : ℕ) → n ≡ length words → word.now ≢ [] → (n + 1) + 1 ≡ line_after (texts (words ++ word ∷ []))
+pub line_after_more_chars : (words : List (Bor (List ℕ))) (word : Bor (List ℕ)) (n : ℕ) → n ≡ length words →
+    word.now ≢ [] → (n + 1) + 1 ≡ line_after (texts (words ++ word ∷ []))
 line_after_more_chars words word n count some =
     let e = line_after_chars (texts words) word.now some in
     rw (texts_more words word) (omega (arith, e, count, texts_length words))
 
-pub without_show : (lines : List (List ℕ)) (screen : Option Size) (steps : List HubNumbered) (shown : Option ℕ) (n : ℕ) → ReadHub lines screen steps shown → (screen ≡ None) ⊎ (shown ≡ None) → n ≡ line_after lines → IsWithoutShow lines n
+pub without_show : (lines : List (List ℕ)) (screen : Option Size) (steps : List HubNumbered)
+    (shown : Option ℕ) (n : ℕ) → ReadHub lines screen steps shown → (screen ≡ None) ⊎ (shown ≡ None) →
+    n ≡ line_after lines → IsWithoutShow lines n
 without_show lines None steps shown n read lacks is = (inl read.0, is)
 without_show lines (Some size) steps None n read lacks is = (inr (size, steps, read), is)
 without_show lines (Some size) steps (Some slot) n read (inl e) is = absurd (cc)
@@ -199,21 +249,28 @@ without_show lines (Some size) steps (Some slot) n read (inr e) is = absurd (cc)
 
 -- ---- the kind of a script
 
-pub first_line_at : (before : List (List ℕ)) (line : List ℕ) (after : List (List ℕ)) → AreEmpty before → line ≢ [] → first_line (before ++ line ∷ after) ≡ line
+pub first_line_at : (before : List (List ℕ)) (line : List ℕ) (after : List (List ℕ)) → AreEmpty before → line ≢ [] →
+    first_line (before ++ line ∷ after) ≡ line
 first_line_at [] [] after empty some = absurd (some refl)
 first_line_at [] (char ∷ line) after empty some = refl
-first_line_at ([] ∷ before) line after empty some = first_line_at before line after (All-tail IsEmpty [] before empty) some
-first_line_at ((char ∷ l) ∷ before) line after empty some = let e : char ∷ l ≡ [] = All-head IsEmpty (char ∷ l) before empty in absurd (cc)
+first_line_at ([] ∷ before) line after empty some =
+    first_line_at before line after (All-tail IsEmpty [] before empty) some
+first_line_at ((char ∷ l) ∷ before) line after empty some =
+    let e : char ∷ l ≡ [] = All-head IsEmpty (char ∷ l) before empty in
+    absurd (cc)
 
 pub first_line_none : (lines : List (List ℕ)) → AreEmpty lines → first_line lines ≡ []
 first_line_none [] empty = refl
 first_line_none ([] ∷ lines) empty = first_line_none lines (All-tail IsEmpty [] lines empty)
-first_line_none ((char ∷ l) ∷ lines) empty = let e : char ∷ l ≡ [] = All-head IsEmpty (char ∷ l) lines empty in absurd (cc)
+first_line_none ((char ∷ l) ∷ lines) empty =
+    let e : char ∷ l ≡ [] = All-head IsEmpty (char ∷ l) lines empty in
+    absurd (cc)
 
 -- an empty line gives nothing
 pub blank_gives : ¬ (GivesHub [])
 blank_gives gives =
-    let words : words_of [] ≡ [] ∷ [] = slice_split_none (λ byte. byte == 32) [] (All-nil (λ byte. (byte == 32) ≡ false)) in
+    let words : words_of [] ≡ [] ∷ [] =
+    slice_split_none (λ byte. byte == 32) [] (All-nil (λ byte. (byte == 32) ≡ false)) in
     let same : [] ∷ [] ≡ codes "hub" ∷ gives.1.0 = sym words ∙ gives.1.1 in
     let e : [] ≡ codes "hub" = heads [] (codes "hub") [] gives.1.0 same in
     absurd (cc)
@@ -222,13 +279,18 @@ pub none_begins : (lines : List (List ℕ)) → AreEmpty lines → ¬ (BeginHub 
 none_begins lines empty begins = blank_gives (subst (λ (l : List ℕ). GivesHub l) (first_line_none lines empty) begins)
 
 -- the line under way is the first one
-pub is_first_line : (all : List (List ℕ)) (words : List (Bor (List ℕ))) (word : Bor (List ℕ)) → texts words ≡ take (length words) all → (length words < length all) × (word.now ≡ get_or all (length words) word.now) → AreEmpty (texts words) → word.now ≢ [] → first_line all ≡ word.now
+pub is_first_line : (all : List (List ℕ)) (words : List (Bor (List ℕ))) (word : Bor (List ℕ)) → texts words
+    ≡ take (length words) all → (length words < length all) × (word.now ≡ get_or all (length words) word.now) →
+    AreEmpty (texts words) → word.now ≢ [] → first_line all ≡ word.now
 is_first_line all words word front turn empty some =
     let size = texts_length words in
     let whole = parted all (texts words) word.now word.now (rw size front) (rw size turn.0) (rw size turn.1) in
-    ap (λ (l : List (List ℕ)). first_line l) whole ∙ first_line_at (texts words) word.now (drop (length (texts words) + 1) all) empty some
+    ap (λ (l : List (List ℕ)). first_line l) whole
+    ∙ first_line_at (texts words) word.now (drop (length (texts words) + 1) all) empty some
 
-pub begins_by : (all : List (List ℕ)) (line : List ℕ) (r : Option Size) (b : Bool) → first_line all ≡ line → b ≡ is_some r → MatchOption r (¬ (GivesHub line)) (SaysHub (words_of line)) → (b ≡ true → BeginHub all) × (BeginHub all → b ≡ true)
+pub begins_by : (all : List (List ℕ)) (line : List ℕ) (r : Option Size) (b : Bool) → first_line all ≡ line →
+    b ≡ is_some r → MatchOption r (¬ (GivesHub line)) (SaysHub (words_of line)) →
+    (b ≡ true → BeginHub all) × (BeginHub all → b ≡ true)
 begins_by all line None b first is none = (
   λ yes. let e : true ≡ false = sym yes ∙ is in absurd (cc),
   λ begins. absurd (none (subst (λ (l : List ℕ). GivesHub l) first begins)),

@@ -1,5 +1,6 @@
 -- What the command that plays a script has read and written, of either kind.
-use Rattle.std.proofs.Common.{◌≡◌, ◌⊎◌, Bool, true, false, sym, ◌∙◌, inl, inr, IfSome, Option, Some, None, List, ℕ, [], ◌++◌}
+use Rattle.std.proofs.Common.{◌≡◌, ◌⊎◌, Bool, true, false, sym, ◌∙◌, inl, inr, IfSome, Option, Some, None, List, ℕ, []}
+use Rattle.std.proofs.Common.{◌++◌}
 use Rattle.rfb_pixel.specs.declared.colour.Colour.{Colour}
 use Rattle.rfb_picture.specs.Grid.{Grid}
 use Rattle.rfb_session.specs.declared.hub.Hub.{Hub}
@@ -27,13 +28,16 @@ fails_any read empty all (Picture flaw) e is (inl stops) = absurd stops.1
 fails_any read empty all (Engine fault) e is (inr stops) = absurd stops.1
 fails_any read empty all (Picture flaw) e is (inr stops) = absurd stops.1
 
-pub stops_hub : (lines : List (List ℕ)) (failure : Failure) (b : Bool) → (b ≡ true → BeginHub lines) × (BeginHub lines → b ≡ true) → b ≡ true → StopsReadingHub lines failure → StopsReadingAny lines failure
+pub stops_hub : (lines : List (List ℕ)) (failure : Failure) (b : Bool) → (b ≡ true → BeginHub lines)
+    × (BeginHub lines → b ≡ true) → b ≡ true → StopsReadingHub lines failure → StopsReadingAny lines failure
 stops_hub lines failure b kind is stops = inl (kind.0 is, stops)
 
-pub stops_plain : (lines : List (List ℕ)) (failure : Failure) (b : Bool) → (b ≡ true → BeginHub lines) × (BeginHub lines → b ≡ true) → b ≡ false → StopsReading lines failure → StopsReadingAny lines failure
+pub stops_plain : (lines : List (List ℕ)) (failure : Failure) (b : Bool) → (b ≡ true → BeginHub lines)
+    × (BeginHub lines → b ≡ true) → b ≡ false → StopsReading lines failure → StopsReadingAny lines failure
 stops_plain lines failure b kind is stops = inr (λ begins. let e : true ≡ false = sym (kind.1 begins) ∙ is in cc, stops)
 
-hub_played : (read : Option (List ℕ)) (empty all : List ℕ) (size : Size) (steps : List HubNumbered) (shown : ℕ) (hub : Hub) (picture : Grid Colour) →
+hub_played : (read : Option (List ℕ)) (empty all : List ℕ) (size : Size) (steps : List HubNumbered) (shown : ℕ)
+    (hub : Hub) (picture : Grid Colour) →
     empty ≡ [] → IfSome read (λ text. all ≡ empty ++ text) → AreHubScript (lines_of all) size steps shown →
     HubPlayed size.width size.height (hub_events steps) hub → shown_in hub shown ≡ Some picture →
     IfSome read (λ text. PlaysAny text picture)
@@ -50,7 +54,8 @@ hub_played (Some text) empty all size steps shown hub picture e is said played s
       is_shown = seen;
     })
 
-pub hub_plays : (read before after : Option (List ℕ)) (empty all : List ℕ) (size : Size) (steps : List HubNumbered) (shown : ℕ) →
+pub hub_plays : (read before after : Option (List ℕ)) (empty all : List ℕ) (size : Size)
+    (steps : List HubNumbered) (shown : ℕ) →
     empty ≡ [] → IfSome read (λ text. all ≡ empty ++ text) → AreHubScript (lines_of all) size steps shown →
     HubPlayedTo (Appends before after) size steps shown → PlaysScript read before after
 hub_plays read before after empty all size steps shown none is said played = record {
@@ -59,7 +64,8 @@ hub_plays read before after empty all size steps shown none is said played = rec
   written = played.2.2;
 }
 
-pub hub_left : (read before after : Option (List ℕ)) (empty all : List ℕ) (size : Size) (steps : List HubNumbered) (shown : ℕ) →
+pub hub_left : (read before after : Option (List ℕ)) (empty all : List ℕ) (size : Size)
+    (steps : List HubNumbered) (shown : ℕ) →
     empty ≡ [] → IfSome read (λ text. all ≡ empty ++ text) → AreHubScript (lines_of all) size steps shown →
     (after ≡ before) ⊎ HubPlayedTo (AppendsBeginning before after) size steps shown → LeavesScript read before after
 hub_left read before after empty all size steps shown none is said (inl same) = inl same

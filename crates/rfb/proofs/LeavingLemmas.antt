@@ -9,11 +9,13 @@ use Rattle.rfb.specs.declared.script.line.Wants.{Wants}
 use Rattle.rfb.specs.CommandLine.{LeavesPlayed, ShowsTo}
 use Rattle.rfb.specs.Playing.{IsPlayed}
 
-pub leaves_played : {W : Type 0} (contents : W → Option (List ℕ)) (old new : W) (P : Type 0) (world : World) (r : Result (Unit {0}) Fault)
+pub leaves_played : {W : Type 0} (contents : W → Option (List ℕ)) (old new : W) (P : Type 0) (world : World)
+    (r : Result (Unit {0}) Fault)
     (size : Size) (wants : Option Wants) (steps : List Numbered) →
     OnErr r ((new ≡ old) ⊎ (P × ShowsTo (AppendsBeginning (contents old) (contents new)) world)) →
     (P → IsPlayed size wants steps world) →
     OnErr r (LeavesPlayed size wants steps (contents old) (contents new))
 leaves_played contents old new P world (Ok done) size wants steps left played = tt
 leaves_played contents old new P world (Err fault) size wants steps (inl same) played = inl (ap contents same)
-leaves_played contents old new P world (Err fault) size wants steps (inr begun) played = inr (world, played begun.0, begun.1)
+leaves_played contents old new P world (Err fault) size wants steps (inr begun) played =
+    inr (world, played begun.0, begun.1)

@@ -1,5 +1,7 @@
 -- A script over a connection, from its parts.
-use Rattle.std.proofs.Common.{◌≡◌, ◌∙◌, sym, ap, refl, subst, ℕ, ◌+◌, ◌-◌, [], ◌++◌, List, length, take, drop, append_assoc, append-nil, take-append-drop, Option, Some, None, IfSome, OnOk, OnErr, Result, Ok, Err, ◌⊎◌, inl, inr}
+use Rattle.std.proofs.Common.{◌≡◌, ◌∙◌, sym, ap, refl, subst, ℕ, ◌+◌, ◌-◌, [], ◌++◌, List, length, take, drop}
+use Rattle.std.proofs.Common.{append_assoc, append-nil, take-append-drop, Option, Some, None, IfSome, OnOk, OnErr}
+use Rattle.std.proofs.Common.{Result, Ok, Err, ◌⊎◌, inl, inr}
 use Rattle.std.specs.Io.KnownBytes.{Appends}
 use Rattle.std.proofs.KnownBytes.{Appends-nil, Appends-trans}
 use Rattle.rfb_wire.specs.stream.End.{FedBy}
@@ -26,7 +28,8 @@ pub some_picture : (viewer : Viewer) (before after : Option (List ℕ)) (r : Res
 some_picture viewer before after (Ok done) wrote = (viewer, wrote)
 some_picture viewer before after (Err fault) wrote = tt
 
-pub leaves_some_picture : {W : Type 0} (contents : W → Option (List ℕ)) (viewer : Viewer) (old new : W) (r : Result (Unit {0}) Fault) →
+pub leaves_some_picture : {W : Type 0} (contents : W → Option (List ℕ)) (viewer : Viewer) (old new : W)
+    (r : Result (Unit {0}) Fault) →
     OnErr r ((new ≡ old) ⊎ BeginsPicture viewer (contents old) (contents new)) →
     OnErr r (LeavesSomePicture (contents old) (contents new))
 leaves_some_picture contents viewer old new (Ok done) left = tt

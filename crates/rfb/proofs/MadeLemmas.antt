@@ -1,5 +1,6 @@
 -- The ends of a script meet the premises of the world's theorem.
-use Rattle.std.proofs.Common.{◌≡◌, ◌≤◌, ◌<◌, ◌^◌, ◌*◌, ◌∙◌, ℕ, List, [], ◌∷◌, Option, Some, None, ap, sym, refl, subst, inl, inr, length, map, arith}
+use Rattle.std.proofs.Common.{◌≡◌, ◌≤◌, ◌<◌, ◌^◌, ◌*◌, ◌∙◌, ℕ, List, [], ◌∷◌, Option, Some, None, ap, sym, refl, subst}
+use Rattle.std.proofs.Common.{inl, inr, length, map, arith}
 use Rattle.std.proofs.lemmas.Nat.{mul-le}
 use Rattle.rfb_pixel.specs.Format.{IsFormat, PixelFormat, bgr233, rgb565, rgb101010}
 use Rattle.rfb_pixel.proofs.FormatLaws.{rgb888-is_format}
@@ -76,7 +77,8 @@ few_made n lines (Some wants) steps asks =
 pub made : (lines : List (List ℕ)) (size : Size) (wants : Option Wants) (steps : List Numbered) →
     AreScript lines size wants steps → AreMade (ends_of size wants)
 made lines size wants steps script =
-    let all : size.width * size.height ≤ 4096 * 4096 = mul-le size.width size.height 4096 4096 size.wide.1 size.high.1 in
+    let all : size.width * size.height ≤ 4096 * 4096 =
+    mul-le size.width size.height 4096 4096 size.wide.1 size.high.1 in
     record {
       setup = record {
         admitted = (omega (arith, size.wide), omega (arith, size.high), all);

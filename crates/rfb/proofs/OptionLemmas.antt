@@ -1,5 +1,6 @@
 -- What was given to options, from what the getters tell.
-use Rattle.std.proofs.Common.{◌≡◌, ◌<◌, ◌^◌, ◌∙◌, ap, ap₂, sym, refl, subst, codes, [], ℕ, Bool, true, false, not, ◌&&◌, List, Option, Some, None, Result, Ok, Err, MatchResult, option_map, IfSome, is_some, Bor}
+use Rattle.std.proofs.Common.{◌≡◌, ◌<◌, ◌^◌, ◌∙◌, ap, ap₂, sym, refl, subst, codes, [], ℕ, Bool, true, false, not, ◌&&◌}
+use Rattle.std.proofs.Common.{List, Option, Some, None, Result, Ok, Err, MatchResult, option_map, IfSome, is_some, Bor}
 use Rattle.std.proofs.lemmas.Option.{none-some, same_Some}
 use Rattle.std.specs.Str.Parse.{IsNumeral, ParsesUnsigned, digits_value, without_leading_plus}
 use Rattle.clap.specs.Matches.{ReadsOne}
@@ -27,7 +28,8 @@ no_globals true false true d e = let f : false ≡ true = e in absurd (cc)
 no_globals true true c d e = let f : false ≡ true = e in absurd (cc)
 no_globals false b c d e = let f : false ≡ true = e in absurd (cc)
 
-pub map_map : {A B C : Type 0} (f : B → C) (h : A → B) (o : Option A) → option_map f (option_map h o) ≡ option_map (λ x. f (h x)) o
+pub map_map : {A B C : Type 0} (f : B → C) (h : A → B) (o : Option A) →
+    option_map f (option_map h o) ≡ option_map (λ x. f (h x)) o
 map_map f h None = refl
 map_map f h (Some x) = refl
 
@@ -53,7 +55,8 @@ format_given rows word (Err bad) e none = (word, e, none)
 -- the same of a list of encodings
 pub encodings_given : (rows : List Row) (list : Text) (r : Result (ArrayVec Encoding) BadValue) →
     first_of (codes "encodings") rows ≡ Some list →
-    MatchResult r (λ es. AreEncodings (parts_of list) es.items) (λ _. (es : List Encoding) → ¬ (AreEncodings (parts_of list) es)) →
+    MatchResult r (λ es. AreEncodings (parts_of list) es.items)
+    (λ _. (es : List Encoding) → ¬ (AreEncodings (parts_of list) es)) →
     MatchResult r (λ es. GivesEncodings rows es.items) (λ _. HasBadEncodings rows)
 encodings_given rows list (Ok es) e named = subst (λ (o : Option Text). NamesEncodings o es.items) (sym e) named
 encodings_given rows list (Err bad) e none = (list, e, none)
@@ -77,7 +80,8 @@ pub read_given : (bits : ℕ) (E : Type 0) (G : List ℕ → Result ℕ E → Ty
     IsNumeral 10 (without_leading_plus t) → digits_value 10 (without_leading_plus t) < 2 ^ bits →
     r ≡ Some (digits_value 10 (without_leading_plus t))
 read_given bits E G t None h only numeral small = absurd (none_read bits E G t None refl h only (numeral, small))
-read_given bits E G t (Some m) h only numeral small = ap (λ (n : ℕ). Some n) (number_read bits E G t (Some m) m refl h only)
+read_given bits E G t (Some m) h only numeral small =
+    ap (λ (n : ℕ). Some n) (number_read bits E G t (Some m) m refl h only)
 
 -- ---- what words ask for
 
@@ -92,19 +96,23 @@ asked_order words o (Err (Value value)) taken same is =
 
 -- ---- a word that may be left out
 
-pub word_absent : (o : Option (Bor Text)) (word : Option Text) → option_map (λ s. s.now) o ≡ word → o ≡ None → word ≡ None
+pub word_absent : (o : Option (Bor Text)) (word : Option Text) →
+    option_map (λ s. s.now) o ≡ word → o ≡ None → word ≡ None
 word_absent None word is none = sym is
 word_absent (Some w) word is none = absurd (none-some w (sym none))
 
-pub word_given : (o : Option (Bor Text)) (word : Option Text) → option_map (λ s. s.now) o ≡ word → IfSome o (λ w. word ≡ Some w.now)
+pub word_given : (o : Option (Bor Text)) (word : Option Text) → option_map (λ s. s.now) o ≡ word →
+    IfSome o (λ w. word ≡ Some w.now)
 word_given None word is = tt
 word_given (Some w) word is = sym is
 
-pub is_word_there : (o : Option (Bor Text)) (word : Option Text) → IfSome o (λ w. word ≡ Some w.now) → is_some o ≡ true → (t : Text) × (word ≡ Some t)
+pub is_word_there : (o : Option (Bor Text)) (word : Option Text) → IfSome o (λ w. word ≡ Some w.now) →
+    is_some o ≡ true → (t : Text) × (word ≡ Some t)
 is_word_there None word given there = let e : false ≡ true = there in absurd (cc)
 is_word_there (Some w) word given there = (w.now, given)
 
-pub is_word_absent : (o : Option (Bor Text)) (word : Option Text) → (o ≡ None → word ≡ None) → is_some o ≡ false → word ≡ None
+pub is_word_absent : (o : Option (Bor Text)) (word : Option Text) → (o ≡ None → word ≡ None) →
+    is_some o ≡ false → word ≡ None
 is_word_absent None word absent not = absent refl
 is_word_absent (Some w) word absent not = let e : true ≡ false = not in absurd (cc)
 

@@ -1,5 +1,6 @@
 -- Steps of a script, one after another.
-use Rattle.std.proofs.Common.{OnOk, Result, Ok, Err, true, ◌≡◌, ℕ, ◌+◌, ◌∙◌, zero, suc, List, [], ◌∷◌, ◌++◌, Option, ap, sym, refl, subst, arith, append_assoc, append-nil}
+use Rattle.std.proofs.Common.{OnOk, Result, Ok, Err, true, ◌≡◌, ℕ, ◌+◌, ◌∙◌, zero, suc, List, [], ◌∷◌, ◌++◌, Option, ap}
+use Rattle.std.proofs.Common.{sym, refl, subst, arith, append_assoc, append-nil}
 use Rattle.rfb_hello.specs.declared.version.Version.TheVariants.{V38}
 use Rattle.rfb_pixel.specs.Format.{PixelFormat}
 use Rattle.rfb_picture.specs.Grid.{uniform}
@@ -12,7 +13,8 @@ use Rattle.rfb_viewer.specs.declared.viewer.Viewer.{Viewer}
 use Rattle.rfb_viewer.specs.Viewer.{first_viewer}
 use Rattle.rfb_viewer.specs.Standing.{StandsFor as ViewerStandsFor, viewing_with}
 use Rattle.rfb_session.specs.declared.event.Event.{Event}
-use Rattle.rfb_session.specs.declared.event.Event.TheVariants.{Fill, Put, Copy, Hint, Request, SetFormat, SetEncodings, Key, Pointer, CutText, Compose, ToServer, ToViewer}
+use Rattle.rfb_session.specs.declared.event.Event.TheVariants.{Fill, Put, Copy, Hint, Request, SetFormat, SetEncodings}
+use Rattle.rfb_session.specs.declared.event.Event.TheVariants.{Key, Pointer, CutText, Compose, ToServer, ToViewer}
 use Rattle.rfb_session.specs.declared.told.Told.{Told}
 use Rattle.rfb_session.specs.declared.world.World.{World}
 use Rattle.rfb_session.specs.Link.{Ends}
@@ -26,7 +28,8 @@ use Rattle.rfb_session.specs.declared.language.screen.Screen.{Screen as Size}
 use Rattle.rfb.specs.declared.script.line.Wants.{Wants}
 use Rattle.rfb.specs.declared.script.line.Step.TheVariants.{Event as OneEvent}
 use Rattle.rfb.specs.Few.{HasFew}
-use Rattle.rfb.specs.Playing.{IsPlayed, StandsFresh, TakesStep, all_events, deliveries, encodings_of, ends_of, events_of, first_of, format_of}
+use Rattle.rfb.specs.Playing.{IsPlayed, StandsFresh, TakesStep, all_events, deliveries, encodings_of, ends_of}
+use Rattle.rfb.specs.Playing.{events_of, first_of, format_of}
 
 -- the premise of an event
 pub has_few : (event : Event) → HasFew (OneEvent event) → HasFewBytes event
@@ -44,19 +47,22 @@ has_few (ToServer n) few = tt
 has_few (ToViewer n) few = tt
 has_few (CutText text) few = few
 
-steps_append : (e : Ends) (a b c : Network) (xs ys : List Event) → StepsAll e a xs b → StepsAll e b ys c → StepsAll e a (xs ++ ys) c
+steps_append : (e : Ends) (a b c : Network) (xs ys : List Event) → StepsAll e a xs b →
+    StepsAll e b ys c → StepsAll e a (xs ++ ys) c
 steps_append e a b c [] ys is steps = subst (λ (n : Network). StepsAll e n ys c) is steps
 steps_append e a b c (event ∷ xs) ys (mid, one, more) steps = (mid, one, steps_append e mid b c xs ys more steps)
 
 -- a run after a run
-pub runs_append : (old mid new : World) (xs ys : List Event) → Reaches old xs mid Any → Reaches mid ys new Any → Reaches old (xs ++ ys) new Any
+pub runs_append : (old mid new : World) (xs ys : List Event) → Reaches old xs mid Any → Reaches mid ys new Any →
+    Reaches old (xs ++ ys) new Any
 runs_append old mid new xs ys first second = λ e n made reached stands.
     let one = first e n made reached stands in
     let two = second e one.0 made (reached_more e n one.0 xs reached one.1) one.2 in
     (two.0, steps_append e n one.0 two.0 xs ys one.1 two.1, two.2, tt)
 
 -- one event
-pub one_event : (old new : World) (event : Event) (told : Told) → Does old event told new → Reaches old (event ∷ []) new Any
+pub one_event : (old new : World) (event : Event) (told : Told) → Does old event told new →
+    Reaches old (event ∷ []) new Any
 one_event old new event told does = run_more old old new [] event told (run_none old) does
 
 -- one turn more
@@ -65,47 +71,67 @@ deliveries_more zero = refl
 deliveries_more (suc n) = ap (λ (l : List Event). ToServer 4294967295 ∷ ToViewer 4294967295 ∷ l) (deliveries_more n)
 
 -- a run, and one turn after it
-pub turn_more : (n : ℕ) (old mid new : World) (turn : List Event) → turn ≡ ToServer 4294967295 ∷ ToViewer 4294967295 ∷ [] → Reaches old (deliveries n) mid Any → Reaches mid turn new Any → Reaches old (deliveries (n + 1)) new Any
+pub turn_more : (n : ℕ) (old mid new : World) (turn : List Event) → turn ≡ ToServer 4294967295 ∷ ToViewer 4294967295
+    ∷ [] → Reaches old (deliveries n) mid Any → Reaches mid turn new Any → Reaches old (deliveries (n + 1)) new Any
 turn_more n old mid new turn is first second =
-    subst (λ (events : List Event). Reaches old events new Any) (ap (λ (l : List Event). deliveries n ++ l) is ∙ deliveries_more n ∙ ap (λ (k : ℕ). deliveries k) next) (runs_append old mid new (deliveries n) turn first second)
+    subst (λ (events : List Event). Reaches old events new Any)
+    (ap (λ (l : List Event). deliveries n ++ l) is ∙ deliveries_more n ∙ ap (λ (k : ℕ). deliveries k) next)
+    (runs_append old mid new (deliveries n) turn first second)
   where
     next : suc n ≡ n + 1
     next = omega arith
 
 -- eight turns
-pub eight_turns : (n : ℕ) (old new : World) → n ≡ 8 → Reaches old (deliveries n) new Any → Reaches old (deliveries 8) new Any
+pub eight_turns : (n : ℕ) (old new : World) → n ≡ 8 → Reaches old (deliveries n) new Any →
+    Reaches old (deliveries 8) new Any
 eight_turns n old new is runs = subst (λ (k : ℕ). Reaches old (deliveries k) new Any) is runs
 
 -- one step more
-pub all_more : (steps : List Numbered) (step : Numbered) → all_events (steps ++ step ∷ []) ≡ all_events steps ++ events_of step.step
+pub all_more : (steps : List Numbered) (step : Numbered) →
+    all_events (steps ++ step ∷ []) ≡ all_events steps ++ events_of step.step
 all_more [] step = append-nil (events_of step.step)
 all_more (s ∷ steps) step =
-    ap (λ (l : List Event). events_of s.step ++ l) (all_more steps step) ∙ sym (append_assoc (events_of s.step) (all_events steps) (events_of step.step))
+    ap (λ (l : List Event). events_of s.step ++ l) (all_more steps step)
+    ∙ sym (append_assoc (events_of s.step) (all_events steps) (events_of step.step))
 
 -- after all steps
-pub is_played : (size : Size) (wants : Option Wants) (steps : List Numbered) (first world : World) → StandsFresh size wants first → Reaches first (all_events steps) world Any → AreMade (ends_of size wants) → IsPlayed size wants steps world
+pub is_played : (size : Size) (wants : Option Wants) (steps : List Numbered) (first world : World) →
+    StandsFresh size wants first → Reaches first (all_events steps) world Any → AreMade (ends_of size wants) →
+    IsPlayed size wants steps world
 is_played size wants steps first world fresh runs made =
     let e = ends_of size wants in
     let screen = uniform size.width size.height black in
-    let reached = first_reached e screen (width-uniform size.width size.height black) (height-uniform size.width size.height black) in
-    let one = runs e (first_of size wants) made reached fresh in
-    (one.0, one.1, one.2, neither_failed e world one.0 one.2, headline_holds e one.0 (reached_more e (first_of size wants) one.0 (all_events steps) reached one.1))
+    let reached = first_reached e screen (width-uniform size.width size.height black)
+    (height-uniform size.width size.height black) in
+    let one = runs e (first_of size wants) made reached fresh in (
+      one.0,
+      one.1,
+      one.2,
+      neither_failed e world one.0 one.2,
+      headline_holds e one.0 (reached_more e (first_of size wants) one.0 (all_events steps) reached one.1),
+    )
 
 -- a run, and one step after it
-pub step_more : (first mid new : World) (steps more : List Numbered) (step : Numbered) → more ≡ steps ++ step ∷ [] → Reaches first (all_events steps) mid Any → TakesStep mid step.step new → Reaches first (all_events more) new Any
+pub step_more : (first mid new : World) (steps more : List Numbered) (step : Numbered) → more ≡ steps ++ step ∷ [] →
+    Reaches first (all_events steps) mid Any → TakesStep mid step.step new → Reaches first (all_events more) new Any
 step_more first mid new steps more step is runs takes =
-    subst (λ (events : List Event). Reaches first events new Any) (sym (ap (λ (l : List Numbered). all_events l) is ∙ all_more steps step)) (runs_append first mid new (all_events steps) (events_of step.step) runs takes)
+    subst (λ (events : List Event). Reaches first events new Any) (sym (ap (λ (l : List Numbered). all_events l) is
+    ∙ all_more steps step)) (runs_append first mid new (all_events steps) (events_of step.step) runs takes)
 
 -- both ends are fresh
-pub fresh_ends : (size : Size) (wants : Option Wants) (server : Server) (viewer : Viewer) (form : PixelFormat) (encodings : List Encoding) → form ≡ format_of wants → encodings ≡ encodings_of wants
-    → ServerStandsFor (ends_of size wants).serving server (first_server (ends_of size wants).serving) [] → ViewerStandsFor (viewing_with form encodings V38 true 16777216 1024) viewer first_viewer []
+pub fresh_ends : (size : Size) (wants : Option Wants) (server : Server) (viewer : Viewer) (form : PixelFormat)
+    (encodings : List Encoding) → form ≡ format_of wants → encodings ≡ encodings_of wants
+    → ServerStandsFor (ends_of size wants).serving server (first_server (ends_of size wants).serving) [] →
+    ViewerStandsFor (viewing_with form encodings V38 true 16777216 1024) viewer first_viewer []
     → AreFresh (ends_of size wants) server viewer (uniform size.width size.height black)
 fresh_ends size wants server viewer form encodings same listed server_is viewer_is = record {
   width = width-uniform size.width size.height black;
   height = height-uniform size.width size.height black;
   server_is = server_is;
-  viewer_is = subst (λ (xs : List Encoding). ViewerStandsFor (viewing_with (format_of wants) xs V38 true 16777216 1024) viewer first_viewer []) listed
-      (subst (λ (f : PixelFormat). ViewerStandsFor (viewing_with f encodings V38 true 16777216 1024) viewer first_viewer []) same viewer_is);
+  viewer_is = subst (λ (xs : List Encoding). ViewerStandsFor (viewing_with (format_of wants) xs V38 true 16777216 1024)
+      viewer first_viewer []) listed
+      (subst (λ (f : PixelFormat). ViewerStandsFor (viewing_with f encodings V38 true 16777216 1024) viewer
+      first_viewer []) same viewer_is);
 }
 
 -- what two facts of a good answer say together

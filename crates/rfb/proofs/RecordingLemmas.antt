@@ -12,10 +12,12 @@ use Rattle.rfb.specs.declared.fault.Failure.{Failure}
 use Rattle.rfb.specs.declared.fault.Failure.TheVariants as failure
 use Rattle.rfb.specs.declared.play.play_options.PlayOptions.{PlayOptions}
 use Rattle.rfb_session.proofs.WrittenLaws.{whole_beginning}
-use Rattle.rfb.specs.Recording.{BeginsPicture, EndsShown, FailsToPlay, IsFresh, LeavesRecording, MayWritePicture, PlaysRecording, ShowsEnd, StopsWatching, Watches, WritesPicture, shows_end}
+use Rattle.rfb.specs.Recording.{BeginsPicture, EndsShown, FailsToPlay, IsFresh, LeavesRecording, MayWritePicture}
+use Rattle.rfb.specs.Recording.{PlaysRecording, ShowsEnd, StopsWatching, Watches, WritesPicture, shows_end}
 
 pub plays_recording : (options : PlayOptions) (read before after : Option (List ℕ)) (first last : Viewer) (told : ℕ)
-    (r : Result (Unit {0}) Failure) → IsFresh options.format (Raw ∷ []) first → Watches options.updates read first told last →
+    (r : Result (Unit {0}) Failure) → IsFresh options.format (Raw ∷ []) first →
+    Watches options.updates read first told last →
     OnOk r (WritesPicture last before after) → OnOk r (PlaysRecording options read before after)
 plays_recording options read before after first last told (Ok done) fresh watched written = record {
   first = first;
@@ -27,20 +29,24 @@ plays_recording options read before after first last told (Ok done) fresh watche
 }
 plays_recording options read before after first last told (Err failure) fresh watched written = tt
 
-pub leaves_recording : {W : Type 0} (contents : W → Option (List ℕ)) (options : PlayOptions) (read : Option (List ℕ)) (old new : W) (first last : Viewer) (told : ℕ)
-    (r : Result (Unit {0}) Failure) → IsFresh options.format (Raw ∷ []) first → Watches options.updates read first told last →
+pub leaves_recording : {W : Type 0} (contents : W → Option (List ℕ)) (options : PlayOptions) (read : Option (List ℕ))
+    (old new : W) (first last : Viewer) (told : ℕ)
+    (r : Result (Unit {0}) Failure) → IsFresh options.format (Raw ∷ []) first →
+    Watches options.updates read first told last →
     OnErr r ((new ≡ old) ⊎ BeginsPicture last (contents old) (contents new)) →
     OnErr r (LeavesRecording options read (contents old) (contents new))
 leaves_recording contents options read old new first last told (Ok done) fresh watched left = tt
-leaves_recording contents options read old new first last told (Err failure) fresh watched (inl same) = inl (ap contents same)
-leaves_recording contents options read old new first last told (Err failure) fresh watched (inr begun) = inr (inl (record {
-  first = first;
-  fresh = fresh;
-  told = told;
-  last = last;
-  watches = watched;
-  written = begun;
-}))
+leaves_recording contents options read old new first last told (Err failure) fresh watched (inl same) =
+    inl (ap contents same)
+leaves_recording contents options read old new first last told (Err failure) fresh watched (inr begun) =
+    inr (inl (record {
+      first = first;
+      fresh = fresh;
+      told = told;
+      last = last;
+      watches = watched;
+      written = begun;
+    }))
 
 pub fails_to_show : (options : PlayOptions) (read before after : Option (List ℕ)) (r : Result (Unit {0}) Failure) →
     IfErr r (λ f. (fault : Fault) × (f ≡ failure.Fault fault)) → IfErr r (FailsToPlay options read before after)
@@ -68,7 +74,8 @@ begins_whole last before after written =
     (written.0, written.1, whole_beginning before after _ written.2)
 
 -- the output is as it was, or a beginning of the picture was written, where that is wanted
-pub begins_early : (is_wanted : Bool) (last : Viewer) (fault : EngineFault) (before after : Option (List ℕ)) (f : Failure) →
+pub begins_early : (is_wanted : Bool) (last : Viewer) (fault : EngineFault)
+    (before after : Option (List ℕ)) (f : Failure) →
     EndsShown is_wanted last fault before after f →
     (after ≡ before) ⊎ ((shows_end is_wanted fault ≡ true) × BeginsPicture last before after)
 begins_early is_wanted last fault before after (failure.Engine told) (same, shows) =
@@ -88,14 +95,16 @@ begins_early is_wanted last fault before after (failure.BadLine n) none = absurd
 begins_early is_wanted last fault before after (failure.Picture flaw) none = absurd none
 
 -- an engine's fault is reported as it is
-pub ends_same : (is_wanted : Bool) (last : Viewer) (fault told : EngineFault) (before after : Option (List ℕ)) (f : Failure) →
+pub ends_same : (is_wanted : Bool) (last : Viewer) (fault told : EngineFault)
+    (before after : Option (List ℕ)) (f : Failure) →
     EndsShown is_wanted last fault before after f → f ≡ failure.Engine told → told ≡ fault
 ends_same is_wanted last fault told before after (failure.Engine other) ends same = let e = ends.0 in cc
 ends_same is_wanted last fault told before after (failure.Fault own) ends same = absurd (cc)
 ends_same is_wanted last fault told before after (failure.BadLine n) ends same = absurd ends
 ends_same is_wanted last fault told before after (failure.Picture flaw) ends same = absurd ends
 
-pub fails_early : (options : PlayOptions) (read before after : Option (List ℕ)) (first last : Viewer) (fault : EngineFault) (f : Failure) →
+pub fails_early : (options : PlayOptions) (read before after : Option (List ℕ)) (first last : Viewer)
+    (fault : EngineFault) (f : Failure) →
     IsFresh options.format (Raw ∷ []) first → StopsWatching options.updates read first fault last →
     EndsShown options.is_partial last fault before after f → FailsToPlay options read before after f
 fails_early options read before after first last fault (failure.Engine told) fresh stops ends = (
@@ -109,7 +118,8 @@ fails_early options read before after first last fault (failure.Fault own) fresh
 fails_early options read before after first last fault (failure.BadLine n) fresh stops ends = absurd ends
 fails_early options read before after first last fault (failure.Picture flaw) fresh stops ends = absurd ends
 
-pub leaves_early : (options : PlayOptions) (read before after : Option (List ℕ)) (first last : Viewer) (fault : EngineFault) →
+pub leaves_early : (options : PlayOptions) (read before after : Option (List ℕ))
+    (first last : Viewer) (fault : EngineFault) →
     IsFresh options.format (Raw ∷ []) first → StopsWatching options.updates read first fault last →
     (after ≡ before) ⊎ ((shows_end options.is_partial fault ≡ true) × BeginsPicture last before after) →
     LeavesRecording options read before after

@@ -1,5 +1,7 @@
 -- Drawings, one after another; and the screens of the test scene, row by row.
-use Rattle.std.proofs.Common.{◌≡◌, ◌∙◌, ◌↔◌, ◌<◌, ◌+◌, ◌-◌, ap, sym, refl, subst, ℕ, List, length, nat_lt, if◌then◌else◌, slice_index_or, OnOk, Result, Ok, Err, IsErr, arith, Bool, true, false, inl, inr}
+use Rattle.std.proofs.Common.{◌≡◌, ◌∙◌, ◌↔◌, ◌<◌, ◌+◌, ◌-◌, ap, sym, refl, subst, ℕ, List, length, nat_lt}
+use Rattle.std.proofs.Common.{if◌then◌else◌, slice_index_or, OnOk, Result, Ok, Err, IsErr, arith, Bool, true, false}
+use Rattle.std.proofs.Common.{inl, inr}
 use Rattle.std.proofs.lemmas.Bool.{cases_order}
 use Rattle.std.proofs.lemmas.Bool.Decides.{nat_tests}
 use Rattle.rfb_pixel.specs.declared.colour.Colour.{Colour}
@@ -33,7 +35,8 @@ draws_none server = record {
   };
 }
 
-pub draws_then : (one two : Grid Colour) (old mid new : Server) → Draws one old mid → Draws two mid new → Draws two old new
+pub draws_then : (one two : Grid Colour) (old mid new : Server) → Draws one old mid →
+    Draws two mid new → Draws two old new
 draws_then one two old mid new first second = record {
   screen_is = second.screen_is;
   fault_is = second.fault_is ∙ first.fault_is;
@@ -67,11 +70,13 @@ pub no_change : (f : ℕ → ℕ → Colour → Colour) (g : Grid Colour) → Is
 no_change f g whole each = changed_is f g g.places whole refl each
 
 pub above_none : (g : Grid Colour) → IsGrid g → g ≡ pattern_above 0 g
-above_none g whole = no_change (begun_above 0) g whole (λ x y d p q. let out : nat_lt y 0 ≡ false = grind (arith, nat_tests) in rw out refl)
+above_none g whole = no_change (begun_above 0) g whole
+    (λ x y d p q. let out : nat_lt y 0 ≡ false = grind (arith, nat_tests) in rw out refl)
 
 begun_more : (row : List Colour) (k w x y : ℕ) (d : Colour) → length row ≡ w → x < w →
     ((i : ℕ) (c : Colour) → i < length row → slice_index_or row i c ≡ begun_at i k) →
-    (if contains (record { x = 0; y = k; w = length row; h = 1 }) x y then slice_index_or row (x - 0) (begun_above k x y d)
+    (if contains (record { x = 0; y = k; w = length row; h = 1 }) x y
+    then slice_index_or row (x - 0) (begun_above k x y d)
     else begun_above k x y d) ≡ begun_above (k + 1) x y d
 begun_more row k w x y d size inside each =
     let one : Rect = record { x = 0; y = k; w = length row; h = 1 } in

@@ -1,5 +1,6 @@
 -- Files in place of standard input and output.
-use Rattle.std.proofs.Common.{◌≡◌, ◌⊎◌, inl, inr, sym, subst, OnOk, OnErr, Result, Ok, Err, Option, None, Some, List, ℕ, Bor}
+use Rattle.std.proofs.Common.{◌≡◌, ◌⊎◌, inl, inr, sym, subst, OnOk, OnErr, Result, Ok, Err, Option, None, Some, List, ℕ}
+use Rattle.std.proofs.Common.{Bor}
 use Rattle.clap.specs.Words.{Text}
 use Rattle.rfb.specs.declared.fault.Failure.{Failure}
 use Rattle.rfb.specs.CommandLine.{FromFile, IntoFile}
@@ -19,8 +20,12 @@ pub through_file : (input output : Option (Bor Text)) (path : Bor Text)
     IntoFile output (λ blank full. FromFile input (λ b. Acts b blank full) read) before after
 through_file input None path Acts read bytes before after is acts =
     subst (λ (i : Option (Bor Text)). FromFile i (λ b. Acts b before after) read) (sym is) (bytes, acts)
-through_file input (Some file) path Acts read bytes before after is (same, blank, full, acts) =
-    (same, blank, full, subst (λ (i : Option (Bor Text)). FromFile i (λ b. Acts b blank full) read) (sym is) (bytes, acts))
+through_file input (Some file) path Acts read bytes before after is (same, blank, full, acts) = (
+  same,
+  blank,
+  full,
+  subst (λ (i : Option (Bor Text)). FromFile i (λ b. Acts b blank full) read) (sym is) (bytes, acts),
+)
 
 -- and without one with what is read
 pub through_none : (input output : Option (Bor Text))

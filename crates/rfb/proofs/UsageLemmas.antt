@@ -1,8 +1,10 @@
 -- What tables of words and commands add.
-use Rattle.std.proofs.Common.{◌≡◌, ◌∙◌, ◌<◌, ◌+◌, ◌++◌, [], ◌∷◌, ap, sym, refl, false, true, length, map, take, Bool, List, ℕ, slice_index_or, append_assoc, append-nil}
+use Rattle.std.proofs.Common.{◌≡◌, ◌∙◌, ◌<◌, ◌+◌, ◌++◌, [], ◌∷◌, ap, sym, refl, false, true, length, map, take, Bool}
+use Rattle.std.proofs.Common.{List, ℕ, slice_index_or, append_assoc, append-nil}
 use Rattle.std.proofs.lemmas.List.{map_more, map_push}
 use Rattle.clap.specs.Simple.{new_app, new_shape, on_top}
-use Rattle.clap.specs.Words.{AddsArg, AddsInTurn, AddsSubcommand, App, Rule, Shape, Text, app_of, rule_of, shape_of, with_rule, with_subcommand}
+use Rattle.clap.specs.Words.{AddsArg, AddsInTurn, AddsSubcommand, App, Rule, Shape, Text, app_of, rule_of, shape_of}
+use Rattle.clap.specs.Words.{with_rule, with_subcommand}
 use Rattle.clap.specs.declared.builder.arg.Arg.{Arg}
 use Rattle.clap.specs.declared.builder.command.Command.{Command}
 use Rattle.rfb.specs.declared.options.usage.Word.{Word}
@@ -10,7 +12,8 @@ use Rattle.rfb.specs.command.Usage.{rule_for}
 use Rattle.rfb.proofs.OptionLemmas.{no_globals}
 
 -- a thing more, which is as the next of a table
-pub one_as_table : {X Y Z : Type 0} (f : X → Z) (h : Y → Z) (before after : List X) (x : X) (table : List Y) (i : ℕ) (d : Y) →
+pub one_as_table : {X Y Z : Type 0} (f : X → Z) (h : Y → Z) (before after : List X) (x : X)
+    (table : List Y) (i : ℕ) (d : Y) →
     i < length table → after ≡ before ++ x ∷ [] → f x ≡ h (slice_index_or table i d) →
     map f before ≡ map h (take i table) → map f after ≡ map h (take (i + 1) table)
 one_as_table f h before after x table i d inside more is so_far =
@@ -71,7 +74,8 @@ pub with_table : (name : Text) (start end : Command) (args : List Arg) (words : 
     map rule_of args ≡ map rule_for words → map (λ arg. arg.global) args ≡ map (λ _. false) words →
     shape_of end ≡ record (new_shape name) { rules = map rule_for words }
 with_table name start end args words new adds rules local =
-    ap (λ (a : App). a.top) (all_added start end args words adds rules local ∙ ap (λ (a : App). with_rules a (map rule_for words)) new)
+    ap (λ (a : App). a.top) (all_added start end args words adds rules local
+    ∙ ap (λ (a : App). with_rules a (map rule_for words)) new)
 
 -- ---- commands
 
@@ -82,7 +86,8 @@ with_shapes app (shape ∷ shapes) = with_shapes (with_subcommand app shape) sha
 abbrev pub is_plain : Shape → Bool
 is_plain s = s.is_plain
 
-each_true : (commands : List Command) → map (λ (s : Shape). true) (map shape_of commands) ≡ map (λ (c : Command). true) commands
+each_true : (commands : List Command) →
+    map (λ (s : Shape). true) (map shape_of commands) ≡ map (λ (c : Command). true) commands
 each_true [] = refl
 each_true (command ∷ commands) = ap (λ (bs : List Bool). true ∷ bs) (each_true commands)
 
@@ -93,7 +98,8 @@ all_commands : (start end : Command) (commands : List Command) → AddsInTurn Ad
 unfolding with_shapes
 all_commands start end [] same plain = ap app_of (sym same)
 all_commands start end (command ∷ commands) adds plain =
-    let are : is_plain (shape_of command) ∷ map is_plain (map shape_of commands) ≡ true ∷ map (λ (c : Command). true) commands = plain in
+    let are : is_plain (shape_of command) ∷ map is_plain (map shape_of commands)
+    ≡ true ∷ map (λ (c : Command). true) commands = plain in
     let first : is_plain (shape_of command) ≡ true = cc in
     let others : map is_plain (map shape_of commands) ≡ map (λ (c : Command). true) commands = cc in
     all_commands adds.0 end commands adds.2 others
@@ -104,7 +110,8 @@ pub with_all : (start end : Command) (top : App) (commands : List Command) (shap
     app_of start ≡ top → AddsInTurn AddsSubcommand start commands end → map shape_of commands ≡ shapes →
     map is_plain shapes ≡ map (λ _. true) shapes → app_of end ≡ with_shapes top shapes
 with_all start end top commands shapes is adds have plain =
-    let same : map (λ (s : Shape). true) (map shape_of commands) ≡ map (λ (c : Command). true) commands = each_true commands in
+    let same : map (λ (s : Shape). true) (map shape_of commands) ≡ map (λ (c : Command). true) commands =
+    each_true commands in
     let are : map is_plain (map shape_of commands) ≡ map (λ (c : Command). true) commands =
     ap (map is_plain) have ∙ plain ∙ sym (ap (map (λ (s : Shape). true)) have) ∙ same in
     all_commands start end commands adds are

@@ -1,5 +1,6 @@
 -- A view, from its parts.
-use Rattle.std.proofs.Common.{◌≡◌, ◌∙◌, ◌⊎◌, ap, inl, inr, sym, subst, Bool, ℕ, List, Option, None, refl, OnOk, OnErr, IfErr, Result, Ok, Err, true, false, if◌then◌else◌}
+use Rattle.std.proofs.Common.{◌≡◌, ◌∙◌, ◌⊎◌, ap, inl, inr, sym, subst, Bool, ℕ, List, Option, None, refl, OnOk, OnErr}
+use Rattle.std.proofs.Common.{IfErr, Result, Ok, Err, true, false, if◌then◌else◌}
 use Rattle.std.proofs.KnownBytes.{Appends-kept}
 use Rattle.std.specs.Io.KnownBytes.{Keeps}
 use Rattle.rfb_viewer.specs.declared.viewer.Viewer.{Viewer}
@@ -13,7 +14,8 @@ use Rattle.rfb.specs.declared.fault.Failure.{Failure}
 use Rattle.rfb.specs.declared.fault.Failure.TheVariants as failure
 use Rattle.rfb.specs.declared.viewing.view_options.Sight.{Sight}
 use Rattle.rfb.specs.Recording.{BeginsPicture, EndsShown, ShowsEnd, WritesPicture, shows_end}
-use Rattle.rfb.specs.Viewing.{FailsToView, IsMadeFor, LeavesSomeView, LeavesView, Saw, ShowsView, StopsSeeing, StopsView, Views}
+use Rattle.rfb.specs.Viewing.{FailsToView, IsMadeFor, LeavesSomeView, LeavesView, Saw, ShowsView, StopsSeeing}
+use Rattle.rfb.specs.Viewing.{StopsView, Views}
 
 -- ---- what is kept, where it is and where it is not
 
@@ -29,13 +31,15 @@ saw_unkept : (b : Bool) (read answered before after : Option (List ℕ)) (first 
 saw_unkept false read answered before after first updates last is saw = saw
 saw_unkept true read answered before after first updates last is saw = let bad : true ≡ false = is in absurd (cc)
 
-stops_kept : (b : Bool) (read answered before after : Option (List ℕ)) (first : Viewer) (updates : ℕ) (f : Failure) (last : Viewer) →
+stops_kept : (b : Bool) (read answered before after : Option (List ℕ)) (first : Viewer) (updates : ℕ)
+    (f : Failure) (last : Viewer) →
     b ≡ true → StopsView read answered before after first updates f last →
     StopsView read answered (if b then before else None) (if b then after else None) first updates f last
 stops_kept true read answered before after first updates f last is stops = stops
 stops_kept false read answered before after first updates f last is stops = let bad : false ≡ true = is in absurd (cc)
 
-stops_unkept : (b : Bool) (read answered before after : Option (List ℕ)) (first : Viewer) (updates : ℕ) (f : Failure) (last : Viewer) →
+stops_unkept : (b : Bool) (read answered before after : Option (List ℕ)) (first : Viewer) (updates : ℕ)
+    (f : Failure) (last : Viewer) →
     b ≡ false → StopsView read answered None None first updates f last →
     StopsView read answered (if b then before else None) (if b then after else None) first updates f last
 stops_unkept false read answered before after first updates f last is stops = stops
@@ -82,17 +86,18 @@ viewing_flushed : (unread left before after blank mid copied : Option (List ℕ)
     (updates : ℕ) (fault : EngineFault) (new : Viewer) →
     StopsViewing unread left before after blank mid failing failed old updates fault new → Keeps mid copied →
     StopsViewing unread left before after blank copied failing failed old updates fault new
-viewing_flushed unread left before after blank mid copied failing failed old updates ends.Truncated new missed kept = record {
-  fed = missed.fed;
-  sent = missed.sent;
-  ended = missed.ended;
-  fewer = missed.fewer;
-  read = missed.read;
-  all = missed.all;
-  runs = missed.runs;
-  wrote = missed.wrote;
-  kept = Appends-kept blank mid copied missed.fed missed.kept kept;
-}
+viewing_flushed unread left before after blank mid copied failing failed old updates ends.Truncated new missed kept =
+    record {
+      fed = missed.fed;
+      sent = missed.sent;
+      ended = missed.ended;
+      fewer = missed.fewer;
+      read = missed.read;
+      all = missed.all;
+      runs = missed.runs;
+      wrote = missed.wrote;
+      kept = Appends-kept blank mid copied missed.fed missed.kept kept;
+    }
 viewing_flushed unread left before after blank mid copied failing failed old updates ends.Device new some kept = (
   some.0,
   record {
@@ -108,23 +113,30 @@ viewing_flushed unread left before after blank mid copied failing failed old upd
     first = first_flushed old some.1.fed before after blank mid copied some.1.first kept;
   },
 )
-viewing_flushed unread left before after blank mid copied failing failed old updates (ends.Viewer fault) new until kept = record {
-  fed = until.fed;
-  slice = until.slice;
-  sent = until.sent;
-  updates = until.updates;
-  last = until.last;
-  read = until.read;
-  runs = until.runs;
-  wrote = until.wrote;
-  kept = (until.kept.0, until.kept.1, last_flushed until.kept.0 mid copied until.slice failing failed until.kept.2 kept);
-  ends = until.ends;
-}
-viewing_flushed unread left before after blank mid copied failing failed old updates (ends.Server fault) new none kept = none
+viewing_flushed unread left before after blank mid copied failing failed old updates
+    (ends.Viewer fault) new until kept = record {
+      fed = until.fed;
+      slice = until.slice;
+      sent = until.sent;
+      updates = until.updates;
+      last = until.last;
+      read = until.read;
+      runs = until.runs;
+      wrote = until.wrote;
+      kept = (
+        until.kept.0,
+        until.kept.1,
+        last_flushed until.kept.0 mid copied until.slice failing failed until.kept.2 kept,
+      );
+      ends = until.ends;
+    }
+viewing_flushed unread left before after blank mid copied failing failed old updates (ends.Server fault) new none kept =
+    none
 viewing_flushed unread left before after blank mid copied failing failed old updates ends.NoMemory new none kept = none
 
 pub saw_flushed : (read answered blank mid copied : Option (List ℕ)) (first : Viewer) (updates : ℕ) (last : Viewer) →
-    Saw read answered blank mid first updates last → Keeps mid copied → Saw read answered blank copied first updates last
+    Saw read answered blank mid first updates last → Keeps mid copied →
+    Saw read answered blank copied first updates last
 saw_flushed read answered blank mid copied first updates last saw kept = record {
   left = saw.left;
   after = saw.after;
@@ -139,14 +151,16 @@ saw_flushed read answered blank mid copied first updates last saw kept = record 
   };
 }
 
-pub stops_flushed : (read answered blank mid copied : Option (List ℕ)) (first : Viewer) (updates : ℕ) (fault : EngineFault)
+pub stops_flushed : (read answered blank mid copied : Option (List ℕ)) (first : Viewer)
+    (updates : ℕ) (fault : EngineFault)
     (last : Viewer) → StopsSeeing read answered blank mid first updates fault last → Keeps mid copied →
     StopsSeeing read answered blank copied first updates fault last
 stops_flushed read answered blank mid copied first updates fault last stops kept = record {
   left = stops.left;
   after = stops.after;
   failed = stops.failed;
-  stopped = viewing_flushed read stops.left answered stops.after blank mid copied 0 stops.failed first updates fault last stops.stopped kept;
+  stopped = viewing_flushed read stops.left answered stops.after blank mid copied 0 stops.failed first updates
+      fault last stops.stopped kept;
 }
 
 -- ---- a view
@@ -176,7 +190,8 @@ views_shown sight read answered before after first last (Ok done) fresh not saw 
 }
 views_shown sight read answered before after first last (Err f) fresh not saw written = tt
 
-pub leaves_shown : {W : Type 0} (contents : W → Option (List ℕ)) (sight : Sight) (read answered : Option (List ℕ)) (old new : W) (first last : Viewer)
+pub leaves_shown : {W : Type 0} (contents : W → Option (List ℕ)) (sight : Sight) (read answered : Option (List ℕ))
+    (old new : W) (first last : Viewer)
     (r : Result (Unit {0}) Failure) → IsMadeFor sight first → sight.is_recorded ≡ false →
     Saw read answered None None first sight.updates last →
     OnErr r ((new ≡ old) ⊎ BeginsPicture last (contents old) (contents new)) →
@@ -225,7 +240,8 @@ fails_recorded sight read answered before after first last (Err f) fresh is stop
   ),
 )
 
-pub fails_seeing : (sight : Sight) (read answered before after : Option (List ℕ)) (first last : Viewer) (fault : EngineFault) (f : Failure) →
+pub fails_seeing : (sight : Sight) (read answered before after : Option (List ℕ)) (first last : Viewer)
+    (fault : EngineFault) (f : Failure) →
     IsMadeFor sight first → sight.is_recorded ≡ false →
     StopsSeeing read answered None None first sight.updates fault last →
     EndsShown sight.is_partial last fault before after f → FailsToView sight read answered before after f
@@ -235,7 +251,8 @@ fails_seeing sight read answered before after first last fault (failure.Engine t
   fresh,
   inl (
     stops_unkept sight.is_recorded read answered before after first sight.updates (failure.Engine told) last not
-        (subst (λ (e : EngineFault). StopsSeeing read answered None None first sight.updates e last) (sym ends.0) stops),
+        (subst (λ (e : EngineFault). StopsSeeing read answered None None first sight.updates e last)
+        (sym ends.0) stops),
     λ unrecorded. subst (λ (e : EngineFault). ShowsEnd sight.is_partial last e before after) (sym ends.0) ends.1,
   ),
 )
@@ -253,7 +270,8 @@ fails_seeing sight read answered before after first last fault (failure.Fault ow
 fails_seeing sight read answered before after first last fault (failure.BadLine n) fresh not stops ends = absurd ends
 fails_seeing sight read answered before after first last fault (failure.Picture flaw) fresh not stops ends = absurd ends
 
-pub leaves_seeing : (sight : Sight) (read answered before after : Option (List ℕ)) (first last : Viewer) (fault : EngineFault) →
+pub leaves_seeing : (sight : Sight) (read answered before after : Option (List ℕ))
+    (first last : Viewer) (fault : EngineFault) →
     IsMadeFor sight first → sight.is_recorded ≡ false →
     StopsSeeing read answered None None first sight.updates fault last →
     (after ≡ before) ⊎ ((shows_end sight.is_partial fault ≡ true) × BeginsPicture last before after) →
@@ -276,11 +294,20 @@ fails_shown sight read answered before after first last (Err (failure.Fault faul
   first,
   last,
   fresh,
-  inl (stops_unkept sight.is_recorded read answered before after first sight.updates (failure.Fault fault) last not saw, tt),
+  inl (
+    stops_unkept sight.is_recorded read answered before after first sight.updates (failure.Fault fault) last not saw,
+    tt,
+  ),
 )
-fails_shown sight read answered before after first last (Err (failure.BadLine n)) fresh not saw is = let e = is.1 in absurd (cc)
-fails_shown sight read answered before after first last (Err (failure.Picture flaw)) fresh not saw is = let e = is.1 in absurd (cc)
-fails_shown sight read answered before after first last (Err (failure.Engine fault)) fresh not saw is = let e = is.1 in absurd (cc)
+fails_shown sight read answered before after first last (Err (failure.BadLine n)) fresh not saw is =
+    let e = is.1 in
+    absurd (cc)
+fails_shown sight read answered before after first last (Err (failure.Picture flaw)) fresh not saw is =
+    let e = is.1 in
+    absurd (cc)
+fails_shown sight read answered before after first last (Err (failure.Engine fault)) fresh not saw is =
+    let e = is.1 in
+    absurd (cc)
 
 -- an engine whose devices had not failed before
 pub stops_seeing : (read answered output unread left before after blank copied : Option (List ℕ)) (failing failed : ℕ)
@@ -288,13 +315,21 @@ pub stops_seeing : (read answered output unread left before after blank copied :
     unread ≡ read → before ≡ answered → blank ≡ output → failing ≡ 0 →
     IfErr r (λ fault. StopsViewing unread left before after blank copied failing failed old updates fault new) →
     IfErr r (λ fault. StopsSeeing read answered output copied old updates fault new)
-stops_seeing read answered output unread left before after blank copied failing failed old updates (Ok told) new same there here none is = tt
-stops_seeing read answered output unread left before after blank copied failing failed old updates (Err fault) new same there here none is = record {
-  left = left;
-  after = after;
-  failed = failed;
-  stopped = subst (λ (u : Option (List ℕ)). StopsViewing u left answered after output copied 0 failed old updates fault new) same
-      (subst (λ (b : Option (List ℕ)). StopsViewing unread left b after output copied 0 failed old updates fault new) there
-      (subst (λ (b : Option (List ℕ)). StopsViewing unread left before after b copied 0 failed old updates fault new) here
-      (subst (λ (n : ℕ). StopsViewing unread left before after blank copied n failed old updates fault new) none is)));
-}
+stops_seeing read answered output unread left before after blank copied failing failed old updates (Ok told)
+    new same there here none is = tt
+stops_seeing read answered output unread left before after blank copied failing failed old updates (Err fault) new
+    same there here none is = record {
+      left = left;
+      after = after;
+      failed = failed;
+      stopped = subst (λ (u : Option (List ℕ)). StopsViewing u left answered after output copied 0
+          failed old updates fault new) same
+          (subst (λ (b : Option (List ℕ)). StopsViewing unread left b after output copied
+          0 failed old updates fault new)
+          there
+          (subst (λ (b : Option (List ℕ)). StopsViewing unread left before after b copied
+          0 failed old updates fault new)
+          here
+          (subst (λ (n : ℕ). StopsViewing unread left before after blank copied n failed old updates fault new)
+          none is)));
+    }

@@ -1,5 +1,6 @@
 -- What the words of the command line ask for.
-use Rattle.std.specs.Prelude.{◌≡◌, ◌≢◌, ◌≤◌, ◌⊎◌, Bool, true, false, List, [], ◌∷◌, Option, Some, None, codes, filter, not, nat_eq, ◌&&◌}
+use Rattle.std.specs.Prelude.{◌≡◌, ◌≢◌, ◌≤◌, ◌⊎◌, Bool, true, false, List, [], ◌∷◌, Option, Some, None, codes, filter}
+use Rattle.std.specs.Prelude.{not, nat_eq, ◌&&◌}
 use Rattle.std.specs.Cmp.Lexicographic.{pointwise}
 use Rattle.clap.specs.Words.{HasKind, IsAmong, Row, Text, fault_of, first_of}
 use Rattle.clap.specs.declared.error.kind.ErrorKind.{ErrorKind}
@@ -13,7 +14,8 @@ use Rattle.rfb.specs.declared.play.play_options.PlayOptions.{PlayOptions}
 use Rattle.rfb.specs.declared.sharing.share_words.ShareOptions.{ShareOptions}
 use Rattle.rfb.specs.declared.commands.Verb.{Verb}
 use Rattle.rfb.specs.command.Program.{program, asked, name_of}
-use Rattle.rfb.specs.command.Values.{GivesFormat, HasBadFormat, GivesNumber, MayGiveNumber, IsFlagged, GivesFiles, NamesHost, NamesWord}
+use Rattle.rfb.specs.command.Values.{GivesFormat, HasBadFormat, GivesNumber, MayGiveNumber, IsFlagged, GivesFiles}
+use Rattle.rfb.specs.command.Values.{NamesHost, NamesWord}
 use Rattle.rfb.specs.command.Serving.{GivesServeOptions, HasBadServe}
 use Rattle.rfb.specs.command.Looking.{GivesViewOptions, HasBadView}
 

@@ -1,6 +1,7 @@
 -- Connections that are served with the test scene or with a picture, and the lines that say how they
 -- ended.
-use Rattle.std.specs.Prelude.{◌≡◌, ◌≤◌, ◌⊎◌, ℕ, zero, suc, true, List, [], ◌∷◌, ◌++◌, ⊤, Option, Some, None, Result, Ok, Err, codes}
+use Rattle.std.specs.Prelude.{◌≡◌, ◌≤◌, ◌⊎◌, ℕ, zero, suc, true, List, [], ◌∷◌, ◌++◌, ⊤, Option, Some, None, Result, Ok}
+use Rattle.std.specs.Prelude.{Err, codes}
 use Rattle.std.specs.Fmt.{decimal}
 use Rattle.std.specs.Io.KnownBytes.{Appends}
 use Rattle.rfb_server.specs.declared.server.Server.{Server}
@@ -11,7 +12,8 @@ use Rattle.rfb_session.specs.ServeEngine.{AllServed, GoesOn, ServerBetween, Stop
 use Rattle.rfb_picture.specs.Grid.{Grid}
 use Rattle.rfb_pixel.specs.declared.colour.Colour.{Colour}
 use Rattle.rfb_session.specs.declared.netpbm.fault.PixmapError.{PixmapError}
-use Rattle.rfb_session.specs.declared.netpbm.fault.PixmapError.TheVariants.{Flaw as FlawError, Input, NoMemory as NoMemoryError}
+use Rattle.rfb_session.specs.declared.netpbm.fault.PixmapError.TheVariants.{Flaw as FlawError, Input}
+use Rattle.rfb_session.specs.declared.netpbm.fault.PixmapError.TheVariants.{NoMemory as NoMemoryError}
 use Rattle.rfb_session.specs.declared.netpbm.Pixmap.{Pixmap}
 use Rattle.rfb_session.specs.netpbm.File.{HasFlaw, SpellsKnown, picture_of}
 use Rattle.rfb_server.specs.Server.{first_server}
@@ -22,7 +24,8 @@ use Rattle.rfb.specs.declared.fault.Failure.{Failure}
 use Rattle.rfb.specs.declared.fault.Failure.TheVariants.{BadLine, Fault, Engine, Picture as PictureFailure}
 use Rattle.rfb_session.specs.declared.language.screen.Screen.{Screen as Size}
 use Rattle.rfb.specs.declared.serving.serve_words.ScreenChoice.{ScreenChoice}
-use Rattle.rfb.specs.declared.serving.serve_words.ScreenChoice.TheVariants.{Scene as SceneAsked, Picture as PictureAsked}
+use Rattle.rfb.specs.declared.serving.serve_words.ScreenChoice.TheVariants.{Scene as SceneAsked}
+use Rattle.rfb.specs.declared.serving.serve_words.ScreenChoice.TheVariants.{Picture as PictureAsked}
 use Rattle.rfb.specs.declared.serving.serve_words.ServeOptions.{ServeOptions}
 use Rattle.rfb.specs.declared.serving.screen.ServedScreen.{ServedScreen}
 use Rattle.rfb.specs.declared.serving.screen.ServedScreen.TheVariants.{Scene, Picture}

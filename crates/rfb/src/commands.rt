@@ -1,6 +1,7 @@
 //! The commands that there are: what each is called with, what it is asked for, and its function.
 
-ghost use Rattle.std.specs.Prelude.{◌≡◌, ◌≢◌, All, None, Some, map, IfOk, IfSome, OnOk, OnErr, MatchResult};
+ghost use Rattle.std.specs.Prelude.{◌≡◌, ◌≢◌, All, None, Some, map, IfOk, IfSome, OnOk, OnErr};
+ghost use Rattle.std.specs.Prelude.{MatchResult};
 ghost use Rattle.clap.specs.Words.{found_of, rows_of, shape_of};
 ghost use Rattle.rfb.specs.command.Program.{name_of, shape_named};
 ghost use Rattle.rfb.specs.command.Usage.{shape_for};

@@ -66,8 +66,8 @@ impl<E: Write> Write for Notes<'_, E> {
     }
 }
 
-/// Says why there is no picture, or that memory was refused, if that is why a command fails. All else
-/// is told where it happens.
+/// Says why there is no picture, or that memory was refused, if that is why a command fails. All
+/// else is told where it happens.
 pub fn tell_own<N: Write>(failure: &Failure, notes: &mut N) {
     let text = match failure {
         Failure::Fault(Fault::NotReady) => NOT_READY,

@@ -1,8 +1,8 @@
 //! The program `rfb`: both ends of the Remote Framebuffer protocol (RFC 6143) at work.
 //!
-//! `command_line` has the statuses, `options` the words, `commands` the commands, each with a module
-//! of its own: `scripting`, `loopback`, `play`, `serving`, `viewing` and `sharing`. `script` has the
-//! language of scripts.
+//! `command_line` has the statuses, `options` the words, `commands` the commands, each with a
+//! module of its own: `scripting`, `loopback`, `play`, `serving`, `viewing` and `sharing`. `script`
+//! has the language of scripts.
 #![tactic(auto)]
 
 mod command_line;

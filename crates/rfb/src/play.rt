@@ -1,11 +1,13 @@
 //! Recordings of a server, played to a viewer.
 
-ghost use Rattle.std.specs.Prelude.{◌≡◌, ◌≤◌, ◌⊎◌, ◌∷◌, [], false, Err, IfOk, IfErr, IfSome, OnOk, OnErr};
+ghost use Rattle.std.specs.Prelude.{◌≡◌, ◌≤◌, ◌⊎◌, ◌∷◌, [], false, Err, IfOk, IfErr, IfSome, OnOk};
+ghost use Rattle.std.specs.Prelude.{OnErr};
 ghost use Rattle.rfb.specs.Context.{KeepsStreams};
 ghost use Rattle.rfb.specs.declared.fault.Fault.{Fault};
 ghost use Rattle.rfb_session.specs.declared.engine.fault.EngineFault.{EngineFault};
 ghost use Rattle.rfb.specs.declared.fault.Failure.TheVariants as Failure;
-ghost use Rattle.rfb.specs.Recording.{BeginsPicture, FailsToPlay, IsFresh, LeavesRecording, PlaysRecording};
+ghost use Rattle.rfb.specs.Recording.{BeginsPicture, FailsToPlay, IsFresh, LeavesRecording};
+ghost use Rattle.rfb.specs.Recording.{PlaysRecording};
 ghost use Rattle.rfb_wire.specs.declared.encoding.Encoding.TheVariants.{Raw};
 ghost use Rattle.rfb.specs.Recording.{EndsShown, MayWritePicture, is_end, shows_end};
 ghost use Rattle.rfb.specs.Recording.{WritesPicture, Watches, StopsWatching};

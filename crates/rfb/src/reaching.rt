@@ -117,8 +117,8 @@ impl<S: OpenStream, C: Clock> Patient<'_, S, C> {
         self.deadline.is_never()
     }
 
-    /// Where there is no deadline, each read from here on ends after so long, or waits. A connection
-    /// that cannot be given a limit keeps the one that it has.
+    /// Where there is no deadline, each read from here on ends after so long, or waits. A
+    /// connection that cannot be given a limit keeps the one that it has.
     pub fn rest(&self, limit: Option<Duration>) {
         let _ = self.stream.set_read_timeout(limit);
     }
@@ -131,8 +131,8 @@ impl<S: OpenStream, C: Clock> Patient<'_, S, C> {
 }
 
 impl<S: Read + OpenStream, C: Clock> Read for Patient<'_, S, C> {
-    /// Reads once, or again after a signal: a process that was stopped and goes on gets one, and its
-    /// reads with a limit end by it.
+    /// Reads once, or again after a signal: a process that was stopped and goes on gets one, and
+    /// its reads with a limit end by it.
     fn read(&mut self, buf: &mut [u8]) -> io::Result<usize> {
         for _turn in 0..turns() {
             if let Some(left) = self.deadline.left()? {
@@ -171,8 +171,8 @@ impl<L: OpenListener, C: Clock> Timed<'_, L, C>
 where
     L::Stream: OpenStream,
 {
-    /// Takes the next connection, and tells who is at its other end. Where none can be had, it rests
-    /// before it says so: the next one may be had then.
+    /// Takes the next connection, and tells who is at its other end. Where none can be had, it
+    /// rests before it says so: the next one may be had then.
     pub fn accept(&self) -> io::Result<(Steady<L::Stream>, SocketAddr)> {
         match self.listener.accept() {
             Ok((stream, address)) => {
@@ -191,8 +191,8 @@ where
     }
 }
 
-/// A connection whose reads and writes begin again after a signal: where they have a limit, a process
-/// that was stopped and goes on gets one.
+/// A connection whose reads and writes begin again after a signal: where they have a limit, a
+/// process that was stopped and goes on gets one.
 #[derive(Drop)]
 pub struct Steady<S> {
     stream: S,

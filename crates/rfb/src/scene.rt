@@ -1,6 +1,7 @@
 //! The screen that `serve` shows: a pattern that scrolls up by a row at each step.
 
-ghost use Rattle.std.specs.Prelude.{◌≡◌, ◌+◌, ◌*◌, ◌%◌, ◌<◌, ◌≤◌, ℕ, length, slice_index_or, IfOk, OnOk, OnErr};
+ghost use Rattle.std.specs.Prelude.{◌≡◌, ◌+◌, ◌*◌, ◌%◌, ◌<◌, ◌≤◌, ℕ, length, slice_index_or, IfOk};
+ghost use Rattle.std.specs.Prelude.{OnOk, OnErr};
 ghost use Rattle.rfb_codec.specs.Effect.{IsAlike};
 ghost use Rattle.rfb_picture.specs.Grid.{Holds, copied, filled, with_row};
 ghost use Rattle.rfb_pixel.specs.declared.colour.Colour.{Colour};

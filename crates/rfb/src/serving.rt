@@ -1,6 +1,7 @@
 //! A server of the test scene or of a picture, over sockets: one connection after another.
 
-ghost use Rattle.std.specs.Prelude.{◌≡◌, ◌⊎◌, ℕ, List, Ok, Err, IfOk, IfErr, OnOk, OnErr, string_bytes};
+ghost use Rattle.std.specs.Prelude.{◌≡◌, ◌⊎◌, ℕ, List, Ok, Err, IfOk, IfErr, OnOk, OnErr};
+ghost use Rattle.std.specs.Prelude.{string_bytes};
 ghost use Rattle.std.specs.Io.KnownBytes.{Appends};
 ghost use Rattle.rfb_session.specs.declared.netpbm.fault.Flaw.{Flaw};
 ghost use Rattle.rfb_session.specs.Devices.{AppendsBeginning};

@@ -40,9 +40,9 @@ const READ_AT_ONCE: usize = 65536;
 
 /// Shares a screen until a line says `quit`, or with the last viewer if that is wanted. The input
 /// is standard input. A line of its that is bad is reported. Sentences are said, unless the options
-/// are against them. It fails where standard output is closed, where nothing can listen there, where
-/// there is no memory for the screen, where a line cannot be written, or where the input ends before
-/// it gives the size of the screen.
+/// are against them. It fails where standard output is closed, where nothing can listen there,
+/// where there is no memory for the screen, where a line cannot be written, or where the input ends
+/// before it gives the size of the screen.
 pub fn share_at<P: AllocGlobal + Clock + Net, R: Read, W: Write, E: Write>(
     context: &mut Context<P, R, W, E>,
     options: ShareOptions<'_>,

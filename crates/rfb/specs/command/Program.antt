@@ -4,7 +4,10 @@ use Rattle.clap.specs.Words.{App, Row, Rule, Shape, Text, subcommand_of, with_su
 use Rattle.clap.specs.Simple.{new_shape}
 use Rattle.rfb.specs.declared.commands.Verb.{Verb}
 use Rattle.rfb.specs.declared.commands.Verb.TheVariants as verbs
-use Rattle.rfb.specs.command.Rules.{format_rule, server_rule, host_rule, listen_rule, encodings_rule, record_rule, partial_rule, input_rule, output_rule, any_port_rule, port_rule, side_rule, connections_rule, forever_rule, picture_rule, viewers_rule, name_rule, idle_rule, first_updates_rule, timeout_rule, updates_rule}
+use Rattle.rfb.specs.command.Rules.{format_rule, server_rule, host_rule, listen_rule, encodings_rule, record_rule}
+use Rattle.rfb.specs.command.Rules.{partial_rule, input_rule, output_rule, any_port_rule, port_rule, side_rule}
+use Rattle.rfb.specs.command.Rules.{connections_rule, forever_rule, picture_rule, viewers_rule, name_rule, idle_rule}
+use Rattle.rfb.specs.command.Rules.{first_updates_rule, timeout_rule, updates_rule}
 use Rattle.rfb.specs.command.Rules.{handshake_rule, hold_rule, shared_rule, view_only_rule, quiet_rule}
 
 -- a command of these words

@@ -42,8 +42,8 @@ impl Early {
     }
 }
 
-/// Says that a server closed the connection where it was asked for pixels of this format, if nothing
-/// of its own came after that.
+/// Says that a server closed the connection where it was asked for pixels of this format, if
+/// nothing of its own came after that.
 pub fn tell_closed<N: Write>(fault: EngineFault, came: Early, format: Format, notes: &mut N) {
     let has_asked = came.is_ready && came.updates == 0 && came.is_between;
     if is_early(fault) && has_asked && !came.is_late {

@@ -5,8 +5,8 @@ use rfb_session::EngineFault;
 use rfb_viewer::ViewerFault;
 use std::io::Write;
 
-/// Says with which `byte` of a recording it went wrong, after how many whole updates, and what may be
-/// the reason, once the handshake is done.
+/// Says with which `byte` of a recording it went wrong, after how many whole updates, and what may
+/// be the reason, once the handshake is done.
 pub fn tell_place<N: Write>(fault: EngineFault, byte: u64, came: Early, notes: &mut N) {
     let _ = writeln!(
         notes,

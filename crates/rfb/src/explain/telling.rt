@@ -19,7 +19,8 @@ pub enum Origin {
     Recording,
 }
 
-/// Says of what server a viewer's bytes are, and of a connection at each update how many have ended.
+/// Says of what server a viewer's bytes are, and of a connection at each update how many have
+/// ended.
 #[derive(Drop)]
 pub struct Telling<N> {
     origin: Origin,

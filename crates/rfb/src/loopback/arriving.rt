@@ -3,7 +3,8 @@
 ghost use Rattle.std.specs.Prelude.{◌≡◌, ◌≢◌, ◌≤◌, ◌++◌, drop, take, IfOk, OnOk};
 ghost use Rattle.rfb_server.specs.declared.fault.ServerFault.TheVariants as ServerFault;
 ghost use Rattle.rfb_viewer.specs.declared.fault.ViewerFault.TheVariants as ViewerFault;
-ghost use Rattle.rfb.specs.Delivery.{Hears, ReachesServer, ReachesViewer, Watches, server_end, viewer_end};
+ghost use Rattle.rfb.specs.Delivery.{Hears, ReachesServer, ReachesViewer, Watches, server_end};
+ghost use Rattle.rfb.specs.Delivery.{viewer_end};
 
 use crate::fault::Fault;
 use crate::loopback::link::{Link, PART, carry};

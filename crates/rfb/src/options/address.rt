@@ -14,7 +14,8 @@ use rfb_session::language::read_number;
 
 const LOOPBACK: &str = "127.0.0.1";
 
-// The port of a host's display 0, and the last number that names a display: a greater one is a port.
+// The port of a host's display 0, and the last number that names a display: a greater one is a
+// port.
 const DISPLAYS: u16 = 5900;
 
 const LAST_DISPLAY: u16 = 99;

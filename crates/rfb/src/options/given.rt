@@ -3,7 +3,8 @@
 ghost use Rattle.std.specs.Prelude.{◌≡◌, ◌≤◌, ◌<◌, false, true, None, IfSome, MatchResult};
 ghost use Rattle.clap.specs.Words.{first_of, found_of, rows_of};
 ghost use Rattle.rfb_pixel.specs.Format.{PixelFormat};
-ghost use Rattle.rfb.specs.command.Values.{GivesFormat, GivesNumber, GivesOr, HasBadFormat, IsAbsent, IsFlagged, IsThere, MayGiveNumber};
+ghost use Rattle.rfb.specs.command.Values.{GivesFormat, GivesNumber, GivesOr, HasBadFormat};
+ghost use Rattle.rfb.specs.command.Values.{IsAbsent, IsFlagged, IsThere, MayGiveNumber};
 ghost use Rattle.rfb_session.specs.language.Words.{IsFormatWord};
 
 use crate::options::BadValue;

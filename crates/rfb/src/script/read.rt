@@ -4,7 +4,8 @@ ghost use Rattle.std.specs.Prelude.{◌≡◌, ◌≢◌, ◌∷◌, ℕ, List, 
 ghost use Rattle.rfb_session.specs.declared.event.Event.{Event};
 ghost use Rattle.rfb_session.specs.declared.hub.event.SlotEvent.{SlotEvent};
 ghost use Rattle.rfb_session.specs.HubSeats.{event_of as world_event};
-ghost use Rattle.rfb.specs.Script.{AsksForStep, GivesSize, GivesWants, Says, SaysEvent, SaysNothing, SaysStep};
+ghost use Rattle.rfb.specs.Script.{AsksForStep, GivesSize, GivesWants, Says, SaysEvent};
+ghost use Rattle.rfb.specs.Script.{SaysNothing, SaysStep};
 ghost use Rattle.rfb_session.specs.language.Words.{words_of, texts};
 ghost use Rattle.rfb.specs.declared.script.line.Line.TheVariants as Line;
 ghost use Rattle.rfb.specs.declared.script.line.Wants.{Wants};

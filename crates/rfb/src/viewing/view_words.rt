@@ -4,7 +4,8 @@ ghost use Rattle.std.specs.Prelude.{◌≤◌, codes, List, MatchResult};
 ghost use Rattle.clap.specs.Words.{found_of, rows_of};
 ghost use Rattle.rfb_wire.specs.declared.encoding.Encoding.{Encoding};
 ghost use Rattle.rfb.specs.command.Values.{GivesNumber};
-ghost use Rattle.rfb.specs.command.Looking.{GivesEncodings, GivesViewOptions, GivesSight, HasBadEncodings, HasBadView, HasBadSight};
+ghost use Rattle.rfb.specs.command.Looking.{GivesEncodings, GivesViewOptions, GivesSight};
+ghost use Rattle.rfb.specs.command.Looking.{HasBadEncodings, HasBadView, HasBadSight};
 ghost use Rattle.rfb_session.specs.language.Words.{AreEncodings, parts_of};
 
 use crate::defaults::only_raw;

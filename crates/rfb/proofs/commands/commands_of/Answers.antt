@@ -10,8 +10,11 @@ loop-verb-init c = ap (map shape_of) c.in_ok-commands.ensures.items
 
 pub loop-verb-preserved : goal.loop-verb-preserved
 loop-verb-preserved c =
-    one_as_table shape_of shape_named c.loop-verb.commands.items _ _ c.args.verbs.now c.loop-verb.verb-index _ c.loop-verb-test.true c.in_ok-push.ensures.items (c.in_ok-command_of.ensures ∙ c.usage.ensures) c.loop-verb.invariant
+    one_as_table shape_of shape_named c.loop-verb.commands.items
+    _ _ c.args.verbs.now c.loop-verb.verb-index _ c.loop-verb-test.true c.in_ok-push.ensures.items
+    (c.in_ok-command_of.ensures ∙ c.usage.ensures) c.loop-verb.invariant
 
 pub returns : goal.returns
 returns c =
-    c.loop-verb.invariant ∙ ap (map shape_named) (take_all c.loop-verb.verb-index c.args.verbs.now c.loop-verb-test.false)
+    c.loop-verb.invariant
+    ∙ ap (map shape_named) (take_all c.loop-verb.verb-index c.args.verbs.now c.loop-verb-test.false)

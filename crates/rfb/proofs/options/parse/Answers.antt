@@ -32,8 +32,10 @@ asked_of a words m made has =
     (subst (λ (b : App). HasMatchesOf b words m) made has program_is_plain).1
 
 pub returns-clause-fails : goal.returns-clause-fails
-returns-clause-fails g c = of_program _ _ c.try_get_matches_from.result c.in_ok-commands.ensures c.try_get_matches_from.ensures.kinds
+returns-clause-fails g c =
+    of_program _ _ c.try_get_matches_from.result c.in_ok-commands.ensures c.try_get_matches_from.ensures.kinds
 
 pub returns-clause-asked : goal.returns-clause-asked
 returns-clause-asked g c =
-    IfOk-weaker c.try_get_matches_from.result _ _ (λ m has. asked_of _ _ m c.in_ok-commands.ensures has) c.try_get_matches_from.ensures.matches
+    IfOk-weaker c.try_get_matches_from.result _ _ (λ m has. asked_of _ _ m c.in_ok-commands.ensures has)
+    c.try_get_matches_from.ensures.matches

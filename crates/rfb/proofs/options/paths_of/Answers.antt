@@ -9,7 +9,8 @@ use Rattle.rfb.proofs.options.paths_of.Goals as goal
 
 pub returns-in-Some : goal.returns-in-Some
 returns-in-Some c =
-    let there : subcommand_rows_of c.args.matches.now ≡ Some (c.in-Some._name.now, rows_of (found_of c.in-Some.given.now)) =
+    let there : subcommand_rows_of c.args.matches.now
+    ≡ Some (c.in-Some._name.now, rows_of (found_of c.in-Some.given.now)) =
     both_there (subcommand_rows_of c.args.matches.now) c.in-Some._name.now (rows_of (found_of c.in-Some.given.now))
     (c.in-Some.ensures.name ∙ sym (map_map (λ (p : Text × List Row). p.0) _ _)) c.in-Some.ensures.rows in
     subst (λ (o : Option (Text × List Row)). GivesFiles o c.paths_in.result) (sym there) c.paths_in.ensures
@@ -19,4 +20,5 @@ standard = record { input = None; output = None }
 
 pub returns-in-None : goal.returns-in-None
 returns-in-None c =
-    subst (λ (o : Option (Text × List Row)). GivesFiles o standard) (sym (not_there (subcommand_rows_of c.args.matches.now) c.in-None.ensures.rows)) (refl, refl)
+    subst (λ (o : Option (Text × List Row)). GivesFiles o standard)
+    (sym (not_there (subcommand_rows_of c.args.matches.now) c.in-None.ensures.rows)) (refl, refl)

@@ -3,7 +3,8 @@ use Rattle.rfb_picture.specs.Grid.{Grid, with_row}
 use Rattle.rfb_pixel.specs.declared.colour.Colour.{Colour}
 use Rattle.rfb_server.specs.Standing.{screen_of}
 use Rattle.rfb.specs.Scene.{begun_at}
-use Rattle.rfb.proofs.SceneLemmas.{above_all, above_more, above_none, begun_above, draws_none, draws_so, draws_then, pattern_above, size_drawn}
+use Rattle.rfb.proofs.SceneLemmas.{above_all, above_more, above_none, begun_above, draws_none, draws_so, draws_then}
+use Rattle.rfb.proofs.SceneLemmas.{pattern_above, size_drawn}
 use Rattle.rfb.proofs.scene.draw_pattern.Goals as goal
 
 pub loop-y-init : goal.loop-y-init
@@ -40,7 +41,8 @@ loop-y-preserved c =
       rows = l.invariant.rows;
       drawn = draws_so _ _ old c.put.new.server
           (ap (λ (k : Grid Colour). with_row 0 l.y c.paint.new.row k) l.invariant.drawn.screen_is
-          ∙ above_more c.paint.new.row l.y g old.follows.whole size (λ i d p. c.paint.ensures i d p ∙ ap (begun_at i) c.from.ensures))
+          ∙ above_more c.paint.new.row l.y g old.follows.whole size
+          (λ i d p. c.paint.ensures i d p ∙ ap (begun_at i) c.from.ensures))
           (draws_then _ _ old l.server c.put.new.server l.invariant.drawn c.put.ensures.drawn);
       hints = c.put.ensures.hints ∙ l.invariant.hints;
     }
@@ -51,4 +53,5 @@ returns-clause-drawn c =
     let old = c.args.server.now in
     let end : l.y ≡ (screen_of old).height = omega (arith, l.invariant.rows) in
     draws_so _ _ old l.server
-    (ap (λ (k : ℕ). pattern_above k (screen_of old)) end ∙ above_all (screen_of old) old.follows.whole) l.invariant.drawn
+    (ap (λ (k : ℕ). pattern_above k (screen_of old)) end
+    ∙ above_all (screen_of old) old.follows.whole) l.invariant.drawn

@@ -16,5 +16,6 @@ hint-requires c =
 pub returns-clause-drawn : goal.returns-clause-drawn
 returns-clause-drawn c =
     draws_so _ _ c.args.server.now c.hint.new.server
-    (c.copy.ensures.drawn.screen_is ∙ moved_up_is (screen_of c.args.server.now) c.args.w c.args.above c.requires.columns c.requires.rows (omega arith))
+    (c.copy.ensures.drawn.screen_is ∙ moved_up_is (screen_of c.args.server.now) c.args.w c.args.above c.requires.columns
+    c.requires.rows (omega arith))
     (draws_then _ _ c.args.server.now c.copy.new.server c.hint.new.server c.copy.ensures.drawn c.hint.ensures.drawn)

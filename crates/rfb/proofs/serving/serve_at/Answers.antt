@@ -21,5 +21,6 @@ returns-in-Picture-clause-done g c =
 
 pub returns-in-Picture-clause-stopped : goal.returns-in-Picture-clause-stopped
 returns-in-Picture-clause-stopped g c =
-    file_left g.W.Write.contents c.serve_file.result c.args.options c.in-Picture.path c.args.context.now.output.now c.serve_file.new.context.output.now
+    file_left g.W.Write.contents c.serve_file.result c.args.options c.in-Picture.path c.args.context.now.output.now
+    c.serve_file.new.context.output.now
     c.in-Picture.is c.serve_file.ensures.stopped

@@ -17,11 +17,13 @@ pub returns-in_err-tell_end-clause-stopped : goal.returns-in_err-tell_end-clause
 returns-in_err-tell_end-clause-stopped g c =
     let l = c.loop-connection in
     on_err c.from_residual.result _
-    (serves_fewer g.W.Write.contents c.args.screen.now l._connection c.args.connections c.serve_next-ended.result _ l.output c.tell_end.new.output
+    (serves_fewer g.W.Write.contents c.args.screen.now l._connection c.args.connections c.serve_next-ended.result _
+    l.output c.tell_end.new.output
     c.loop-connection-test.true l.invariant c.serve_next-ended.ensures c.in_err-tell_end.ensures.stopped)
 
 pub returns-clause-done : goal.returns-clause-done
 returns-clause-done g c =
     let l = c.loop-connection in
     let all : l._connection ≡ c.args.connections = omega arith in
-    subst (λ (n : ℕ). ServesSo c.args.screen.now n (g.W.Write.contents c.args.output.now) (g.W.Write.contents l.output)) all l.invariant
+    subst (λ (n : ℕ). ServesSo c.args.screen.now n (g.W.Write.contents c.args.output.now) (g.W.Write.contents l.output))
+    all l.invariant

@@ -5,7 +5,8 @@ use Rattle.rfb.proofs.working.work_through.Goals as goal
 pub returns-in_default-clause-done : goal.returns-in_default-clause-done
 returns-in_default-clause-done g c =
     on_ok c.work_into.result _ _
-    (λ acts. through_none c.args.order.paths.input c.args.order.paths.output (Does c.args.order.task) _ _ _ c.in_default.is acts)
+    (λ acts. through_none c.args.order.paths.input c.args.order.paths.output (Does c.args.order.task)
+    _ _ _ c.in_default.is acts)
     c.work_into.ensures.done
 
 pub returns-in-Ok-clause-done : goal.returns-in-Ok-clause-done

@@ -4,7 +4,8 @@ ghost use Rattle.std.specs.Prelude.{◌≢◌, ◌∷◌, IfOk, MatchOption, cod
 ghost use Rattle.rfb.specs.declared.script.hub.hub_step.HubStep.{HubStep};
 ghost use Rattle.rfb_session.specs.declared.language.screen.Screen.{Screen};
 ghost use Rattle.rfb.specs.declared.script.hub.hub_step.HubStep.TheVariants as HubStep;
-ghost use Rattle.rfb.specs.HubScript.{AsksInHub, GivesHub, NamesShown, SaysAt, SaysHub, SaysHubStep, SaysShow};
+ghost use Rattle.rfb.specs.HubScript.{AsksInHub, GivesHub, NamesShown, SaysAt, SaysHub};
+ghost use Rattle.rfb.specs.HubScript.{SaysHubStep, SaysShow};
 ghost use Rattle.rfb_session.specs.language.Words.{words_of, texts};
 
 use crate::script::hub::hub_step::HubStep;

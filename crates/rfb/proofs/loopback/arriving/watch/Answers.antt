@@ -63,4 +63,5 @@ returns-in-Err c =
     on_ok_all c.end_of_viewer.result _ _ c.end_of_viewer.ensures
     (watches_until c.args.viewer.now c.args.bytes.now l.rest.now c.args.to_server.now.items
     l.to_server.items l.viewer c.in-Err.fault c.feed.new.self (Err c.in-Err.fault) l.invariant c.in-Err.ensures.fails
-    c.in-Err.ensures.fault c.in-Err.ensures.memory c.in-Err.ensures.picture c.in-Err.ensures.reason c.in-Err.ensures.failed)
+    c.in-Err.ensures.fault c.in-Err.ensures.memory c.in-Err.ensures.picture
+    c.in-Err.ensures.reason c.in-Err.ensures.failed)

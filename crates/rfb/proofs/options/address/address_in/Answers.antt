@@ -9,4 +9,5 @@ pub returns : goal.returns
 returns c =
     address_given (rows_of (found_of c.args.given.now)) _ _ c.port_given.result c.address_of.result
     (c.get_str.ensures ∙ first_value-rows (found_of c.args.given.now) (codes "server"))
-    (c.get_str-2.ensures ∙ first_value-rows (found_of c.args.given.now) (codes "host")) c.port_given.ensures c.address_of.ensures
+    (c.get_str-2.ensures ∙ first_value-rows (found_of c.args.given.now) (codes "host")) c.port_given.ensures
+    c.address_of.ensures

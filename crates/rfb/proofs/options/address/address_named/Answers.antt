@@ -11,18 +11,21 @@ returns-in_default c =
 
 pub returns-in-Some-port_named : goal.returns-in-Some-port_named
 returns-in-Some-port_named c =
-    let parts = split_parts 58 c.args.word.now (Some (c.in-Some.host, c.in-Some.after)) c.in-Some.ensures.cases (omega arith) in
+    let parts =
+    split_parts 58 c.args.word.now (Some (c.in-Some.host, c.in-Some.after)) c.in-Some.ensures.cases (omega arith) in
     inr (
       c.in-Some.host.now,
       c.in-Some.after.now,
       parts.0,
       parts.1,
       c.or_loopback-in-Some-port_named.ensures,
-      subst (λ (t : List ℕ). NamesPort t c.in-Some-port_named.port) c.as_bytes.ensures.value c.in-Some-port_named.ensures,
+      subst (λ (t : List ℕ). NamesPort t c.in-Some-port_named.port) c.as_bytes.ensures.value
+          c.in-Some-port_named.ensures,
     )
 
 pub returns-in-None : goal.returns-in-None
 returns-in-None c =
-    let parts = split_parts 58 c.args.word.now (Some (c.in-Some.host, c.in-Some.after)) c.in-Some.ensures.cases (omega arith) in
+    let parts =
+    split_parts 58 c.args.word.now (Some (c.in-Some.host, c.in-Some.after)) c.in-Some.ensures.cases (omega arith) in
     no_address c.args.word.now c.in-Some.host.now c.in-Some.after.now parts.0 parts.1
     (subst (λ (t : List ℕ). (port : ℕ) → ¬ (NamesPort t port)) c.as_bytes.ensures.value c.in-None.ensures)

@@ -9,7 +9,8 @@ returns-in-Some c = record {
   given = λ text is numeral above below.
       let most : digits_value 10 (without_leading_plus text) ≤ 4294967295 = omega arith in
       let read : c.in-Some.number ≡ digits_value 10 (without_leading_plus text) =
-      same_Some c.in-Some.number _ (sym c.in-Some.is ∙ c.number_given.ensures.number.given text is numeral above most) in
+      same_Some c.in-Some.number _
+      (sym c.in-Some.is ∙ c.number_given.ensures.number.given text is numeral above most) in
       ap (λ (n : ℕ). Some n) (c.within.ensures.same (rw read above) (rw read below) ∙ read);
 }
 

@@ -12,11 +12,13 @@ text_of = option_map (λ s. s.now)
 pub returns-in-Some : goal.returns-in-Some
 returns-in-Some c =
     let e : first_of (codes "format") (rows_of (found_of c.args.given.now)) ≡ Some c.in-Some.word.now =
-    sym (first_value-rows (found_of c.args.given.now) (codes "format")) ∙ (sym c.get_str.ensures ∙ ap text_of c.in-Some.is) in
+    sym (first_value-rows (found_of c.args.given.now) (codes "format"))
+    ∙ (sym c.get_str.ensures ∙ ap text_of c.in-Some.is) in
     format_given (rows_of (found_of c.args.given.now)) c.in-Some.word.now c.format_named.result e c.format_named.ensures
 
 pub returns-in-None : goal.returns-in-None
 returns-in-None c =
     let e : first_of (codes "format") (rows_of (found_of c.args.given.now)) ≡ None =
-    sym (first_value-rows (found_of c.args.given.now) (codes "format")) ∙ (sym c.get_str.ensures ∙ ap text_of c.in-None.is) in
+    sym (first_value-rows (found_of c.args.given.now) (codes "format"))
+    ∙ (sym c.get_str.ensures ∙ ap text_of c.in-None.is) in
     subst (λ (o : Option Text). NamesFormat o c.rgb888.result) (sym e) c.rgb888.ensures.value

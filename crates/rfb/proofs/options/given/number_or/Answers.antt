@@ -1,5 +1,6 @@
 use Rattle.std.proofs.Common.{◌≡◌, ◌<◌, ◌∙◌, sym, refl, arith}
-use Rattle.std.specs.Str.Parse.{ExplainsUnsignedError, HasUnsignedDigitsIfOk, ParsesUnsigned, digits_value, without_leading_plus}
+use Rattle.std.specs.Str.Parse.{ExplainsUnsignedError, HasUnsignedDigitsIfOk, ParsesUnsigned, digits_value}
+use Rattle.std.specs.Str.Parse.{without_leading_plus}
 use Rattle.std.proofs.lemmas.Option.{none-some}
 use Rattle.clap.specs.Matches.{found_of}
 use Rattle.clap.proofs.WalkLemmas.{one_text-rows}
@@ -14,7 +15,8 @@ returns-in-Some-clause-number c = record {
   given = λ text is numeral above below.
       let one = c.get_one.ensures.value text (one_text-rows (found_of c.args.given.now) _ ∙ is) in
       let read : c.in-Some.number ≡ digits_value 10 (without_leading_plus text) =
-      number_read 32 _ (λ bs r. ParsesUnsigned 32 10 bs r × ExplainsUnsignedError 10 bs r × HasUnsignedDigitsIfOk bs r) text c.get_one.result c.in-Some.number c.in-Some.is one (λ u x g. g.0) in
+      number_read 32 _ (λ bs r. ParsesUnsigned 32 10 bs r × ExplainsUnsignedError 10 bs r × HasUnsignedDigitsIfOk bs r)
+      text c.get_one.result c.in-Some.number c.in-Some.is one (λ u x g. g.0) in
       c.within.ensures.same (rw read above) (rw read below) ∙ read;
 }
 
@@ -24,5 +26,6 @@ returns-in-None-clause-number c = record {
   given = λ text is numeral above below.
       let one = c.get_one.ensures.value text (one_text-rows (found_of c.args.given.now) _ ∙ is) in
       let small : digits_value 10 (without_leading_plus text) < 4294967296 = omega arith in
-      absurd (none_read 32 _ (λ bs r. ParsesUnsigned 32 10 bs r × ExplainsUnsignedError 10 bs r × HasUnsignedDigitsIfOk bs r) text c.get_one.result c.in-None.is one (λ u x g. g.0) (numeral, small));
+      absurd (none_read 32 _ (λ bs r. ParsesUnsigned 32 10 bs r × ExplainsUnsignedError 10 bs r
+      × HasUnsignedDigitsIfOk bs r) text c.get_one.result c.in-None.is one (λ u x g. g.0) (numeral, small));
 }

@@ -15,7 +15,9 @@ loop-word-init c = record {
 
 pub loop-word-preserved : goal.loop-word-preserved
 loop-word-preserved c =
-    let both = word_added c.loop-word.args.items c.push.new.self.items _ c.args.words.now c.loop-word.word-index _ c.loop-word-test.true c.in_ok-push.ensures.items c.arg_of.ensures.rule c.arg_of.ensures.local c.loop-word.invariant.rules c.loop-word.invariant.local in
+    let both = word_added c.loop-word.args.items c.push.new.self.items _ c.args.words.now c.loop-word.word-index
+    _ c.loop-word-test.true c.in_ok-push.ensures.items c.arg_of.ensures.rule c.arg_of.ensures.local
+    c.loop-word.invariant.rules c.loop-word.invariant.local in
     record { rules = both.0; local = both.1 }
 
 pub returns : goal.returns

@@ -8,4 +8,5 @@ pub returns : goal.returns
 returns c =
     let new : app_of c.after_help.result ≡ new_app c.args.usage.now.name.now =
     ap app_of_fields c.after_help.ensures ∙ ap app_of_fields c.about.ensures ∙ c.new.ensures.app in
-    IfOk-weaker c.args-2.result _ _ (λ r adds. with_table c.args.usage.now.name.now _ r _ _ new adds c.in_ok-args.ensures.rules c.in_ok-args.ensures.local) c.args-2.ensures
+    IfOk-weaker c.args-2.result _ _ (λ r adds. with_table c.args.usage.now.name.now _ r _ _ new adds
+    c.in_ok-args.ensures.rules c.in_ok-args.ensures.local) c.args-2.ensures

@@ -10,7 +10,8 @@ returns-in_err-read_rect c =
 
 pub returns-then-eq : goal.returns-then-eq
 returns-then-eq c =
-    is_request c.args.words.now _ (omega arith) false _ (same_word _ _ (sym c.eq.ensures ∙ c.if-eq.true)) c.in_ok-read_rect.ensures.value
+    is_request c.args.words.now _ (omega arith) false _ (same_word _ _ (sym c.eq.ensures ∙ c.if-eq.true))
+    c.in_ok-read_rect.ensures.value
 
 pub returns-in_err-read_rect-2 : goal.returns-in_err-read_rect-2
 returns-in_err-read_rect-2 c =
@@ -19,7 +20,8 @@ returns-in_err-read_rect-2 c =
 
 pub returns-then-eq-2 : goal.returns-then-eq-2
 returns-then-eq-2 c =
-    is_request c.args.words.now _ (omega arith) true _ (same_word _ _ (sym c.eq-2.ensures ∙ c.if-eq-2.true)) c.in_ok-read_rect-2.ensures.value
+    is_request c.args.words.now _ (omega arith) true _ (same_word _ _ (sym c.eq-2.ensures ∙ c.if-eq-2.true))
+    c.in_ok-read_rect-2.ensures.value
 
 pub returns-in_default : goal.returns-in_default
 returns-in_default c = not_request c.args.words.now (λ e. omega (arith, e))
@@ -30,4 +32,5 @@ returns-in_default-2 c = not_request c.args.words.now (λ e. omega (arith, e))
 pub returns : goal.returns
 returns c =
     no_request c.args.words.now _ (omega arith)
-    (λ incremental rect kind are. no_kind _ (other_word _ _ (sym c.eq.ensures ∙ c.if-eq.false)) (other_word _ _ (sym c.eq-2.ensures ∙ c.if-eq-2.false)) incremental kind)
+    (λ incremental rect kind are. no_kind _ (other_word _ _ (sym c.eq.ensures ∙ c.if-eq.false))
+    (other_word _ _ (sym c.eq-2.ensures ∙ c.if-eq-2.false)) incremental kind)

@@ -15,10 +15,13 @@ loop-numbered-preserved g c =
     let steps = c.args.steps.now in
     let before = take c.loop-numbered.numbered-index steps in
     let more : take (c.loop-numbered.numbered-index + 1) steps ≡ before ++ c.numbered-item.result ∷ [] =
-    take_more steps c.loop-numbered.numbered-index c.numbered-item.result (omega arith) ∙ ap (λ (s : Numbered). before ++ s ∷ []) (sym c.numbered-item.is) in
-    step_more c.args.world.now c.loop-numbered.world c.play.new.world before (take (c.loop-numbered.numbered-index + 1) steps) c.numbered-item.result more c.loop-numbered.invariant c.in_ok-refused.ensures.taken
+    take_more steps c.loop-numbered.numbered-index c.numbered-item.result (omega arith)
+    ∙ ap (λ (s : Numbered). before ++ s ∷ []) (sym c.numbered-item.is) in
+    step_more c.args.world.now c.loop-numbered.world c.play.new.world before (take (c.loop-numbered.numbered-index + 1)
+    steps) c.numbered-item.result more c.loop-numbered.invariant c.in_ok-refused.ensures.taken
 
 pub returns : goal.returns
 returns g c =
     let all = take_all c.loop-numbered.numbered-index c.args.steps.now (omega arith) in
-    subst (λ (l : List Numbered). Reaches c.args.world.now (all_events l) c.loop-numbered.world Any) all c.loop-numbered.invariant
+    subst (λ (l : List Numbered). Reaches c.args.world.now (all_events l) c.loop-numbered.world Any)
+    all c.loop-numbered.invariant

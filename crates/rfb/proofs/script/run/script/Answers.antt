@@ -17,7 +17,8 @@ use Rattle.rfb.proofs.MadeLemmas.{made}
 use Rattle.rfb.proofs.script.run.script.Goals as goal
 
 -- what was read after nothing is what there was to read
-script_played : (read : Option (List ℕ)) (empty all : List ℕ) (size : Screen) (wants : Option Wants) (steps : List Numbered) (world : World) (picture : Grid Colour) →
+script_played : (read : Option (List ℕ)) (empty all : List ℕ) (size : Screen) (wants : Option Wants)
+    (steps : List Numbered) (world : World) (picture : Grid Colour) →
     empty ≡ [] →
     IfSome read (λ text. all ≡ empty ++ text) →
     AreScript (lines_of all) size wants steps →
@@ -37,7 +38,8 @@ script_played (Some text) empty all size wants steps world picture e is said pla
       is_shown = shown;
     })
 
-script_left : (read before after : Option (List ℕ)) (empty all : List ℕ) (size : Screen) (wants : Option Wants) (steps : List Numbered) →
+script_left : (read before after : Option (List ℕ)) (empty all : List ℕ) (size : Screen)
+    (wants : Option Wants) (steps : List Numbered) →
     empty ≡ [] → IfSome read (λ text. all ≡ empty ++ text) → AreScript (lines_of all) size wants steps →
     LeavesPlayed size wants steps before after → LeavesScript read before after
 script_left read before after empty all size wants steps none is said (inl same) = inl same
@@ -50,16 +52,19 @@ script_left read before after empty all size wants steps none is said (inr playe
 pub returns-in_err-run-clause-left : goal.returns-in_err-run-clause-left
 returns-in_err-run-clause-left g c =
     let script = c.in_ok-script.script in
-    let said : AreScript (lines_of c.read_to_end.new.buf.items) script.screen script.wants script.steps.items = rw c.as_slice-lines.ensures.value at c.in_ok-script.ensures.read in
+    let said : AreScript (lines_of c.read_to_end.new.buf.items) script.screen script.wants script.steps.items =
+    rw c.as_slice-lines.ensures.value at c.in_ok-script.ensures.read in
     on_err _ _
-    (script_left (g.R.Read.remaining c.args.context.now.input.now) _ _ c.new-text.result.items c.read_to_end.new.buf.items
+    (script_left (g.R.Read.remaining c.args.context.now.input.now) _ _ c.new-text.result.items
+    c.read_to_end.new.buf.items
     script.screen script.wants script.steps.items c.new-text.ensures.items c.in_ok-read_to_end.ensures.bytes said
     (c.in_err-run.ensures.left (made _ _ _ _ said)))
 
 pub returns-clause-done : goal.returns-clause-done
 returns-clause-done g c =
     let script = c.in_ok-script.script in
-    let said : AreScript (lines_of c.read_to_end.new.buf.items) script.screen script.wants script.steps.items = rw c.as_slice-lines.ensures.value at c.in_ok-script.ensures.read in
+    let said : AreScript (lines_of c.read_to_end.new.buf.items) script.screen script.wants script.steps.items =
+    rw c.as_slice-lines.ensures.value at c.in_ok-script.ensures.read in
     let written = c.in_ok-run.ensures.done (made _ _ _ _ said) in
     record {
       picture = written.2.0;
@@ -72,32 +77,42 @@ returns-clause-done g c =
 pub returns-in_err-run_hub-clause-left : goal.returns-in_err-run_hub-clause-left
 returns-in_err-run_hub-clause-left g c =
     let hub = c.in_ok-hub.hub in
-    let said : AreHubScript (lines_of c.read_to_end.new.buf.items) hub.screen hub.steps.items hub.shown = rw c.as_slice-lines.ensures.value at c.in_ok-hub.ensures.read in
+    let said : AreHubScript (lines_of c.read_to_end.new.buf.items) hub.screen hub.steps.items hub.shown =
+    rw c.as_slice-lines.ensures.value at c.in_ok-hub.ensures.read in
     on_err _ _
     (hub_left (g.R.Read.remaining c.args.context.now.input.now) _ _ c.new-text.result.items c.read_to_end.new.buf.items
-    hub.screen hub.steps.items hub.shown c.new-text.ensures.items c.in_ok-read_to_end.ensures.bytes said c.in_err-run_hub.ensures.left)
+    hub.screen hub.steps.items hub.shown c.new-text.ensures.items c.in_ok-read_to_end.ensures.bytes said
+    c.in_err-run_hub.ensures.left)
 
 pub returns-then-begins_hub-clause-done : goal.returns-then-begins_hub-clause-done
 returns-then-begins_hub-clause-done g c =
     let hub = c.in_ok-hub.hub in
-    let said : AreHubScript (lines_of c.read_to_end.new.buf.items) hub.screen hub.steps.items hub.shown = rw c.as_slice-lines.ensures.value at c.in_ok-hub.ensures.read in
+    let said : AreHubScript (lines_of c.read_to_end.new.buf.items) hub.screen hub.steps.items hub.shown =
+    rw c.as_slice-lines.ensures.value at c.in_ok-hub.ensures.read in
     hub_plays (g.R.Read.remaining c.args.context.now.input.now) _ _ c.new-text.result.items c.read_to_end.new.buf.items
-    hub.screen hub.steps.items hub.shown c.new-text.ensures.items c.in_ok-read_to_end.ensures.bytes said c.in_ok-run_hub.ensures.done
+    hub.screen hub.steps.items hub.shown c.new-text.ensures.items c.in_ok-read_to_end.ensures.bytes
+    said c.in_ok-run_hub.ensures.done
 
 pub returns-in_err-hub-clause-stopped : goal.returns-in_err-hub-clause-stopped
 returns-in_err-hub-clause-stopped g c =
-    let stops : StopsReadingHub (lines_of c.read_to_end.new.buf.items) c.in_err-hub.field-0.0 = rw c.as_slice-lines.ensures.value at c.in_err-hub.ensures.stopped in
+    let stops : StopsReadingHub (lines_of c.read_to_end.new.buf.items) c.in_err-hub.field-0.0 =
+    rw c.as_slice-lines.ensures.value at c.in_err-hub.ensures.stopped in
     let p = err_from_is_err_and c.from_residual-in_err-hub.result c.from_residual-in_err-hub.ensures.1 in
     rw (p.1, p.2)
-    (fails_any (g.R.Read.remaining c.args.context.now.input.now) c.new-text.result.items c.read_to_end.new.buf.items c.in_err-hub.field-0.0
+    (fails_any (g.R.Read.remaining c.args.context.now.input.now) c.new-text.result.items
+    c.read_to_end.new.buf.items c.in_err-hub.field-0.0
     c.new-text.ensures.items c.in_ok-read_to_end.ensures.bytes
-    (stops_hub _ _ c.begins_hub.result (rw c.as_slice-lines.ensures.value at c.begins_hub.ensures) c.if-begins_hub.true stops))
+    (stops_hub _ _ c.begins_hub.result (rw c.as_slice-lines.ensures.value at c.begins_hub.ensures)
+    c.if-begins_hub.true stops))
 
 pub returns-in_err-script-clause-stopped : goal.returns-in_err-script-clause-stopped
 returns-in_err-script-clause-stopped g c =
-    let stops : StopsReading (lines_of c.read_to_end.new.buf.items) c.in_err-script.field-0.0 = rw c.as_slice-lines.ensures.value at c.in_err-script.ensures.stopped in
+    let stops : StopsReading (lines_of c.read_to_end.new.buf.items) c.in_err-script.field-0.0 =
+    rw c.as_slice-lines.ensures.value at c.in_err-script.ensures.stopped in
     let p = err_from_is_err_and c.from_residual-in_err-script.result c.from_residual-in_err-script.ensures.1 in
     rw (p.1, p.2)
-    (fails_any (g.R.Read.remaining c.args.context.now.input.now) c.new-text.result.items c.read_to_end.new.buf.items c.in_err-script.field-0.0
+    (fails_any (g.R.Read.remaining c.args.context.now.input.now) c.new-text.result.items
+    c.read_to_end.new.buf.items c.in_err-script.field-0.0
     c.new-text.ensures.items c.in_ok-read_to_end.ensures.bytes
-    (stops_plain _ _ c.begins_hub.result (rw c.as_slice-lines.ensures.value at c.begins_hub.ensures) c.if-begins_hub.false stops))
+    (stops_plain _ _ c.begins_hub.result (rw c.as_slice-lines.ensures.value at c.begins_hub.ensures)
+    c.if-begins_hub.false stops))

@@ -6,5 +6,8 @@ use Rattle.rfb.proofs.script.steps.fresh_world.Goals as goal
 
 pub returns : goal.returns
 returns c =
-    c.in_ok-world.ensures (ends_of c.args.screen c.args.wants.now) (uniform c.args.screen.width c.args.screen.height black)
-    (fresh_ends c.args.screen c.args.wants.now c.in_ok-server.server c.fresh_viewer-viewer.result _ _ c.wishes-format.ensures.format c.wishes-format.ensures.encodings c.in_ok-server.ensures c.fresh_viewer-viewer.ensures)
+    c.in_ok-world.ensures (ends_of c.args.screen c.args.wants.now)
+    (uniform c.args.screen.width c.args.screen.height black)
+    (fresh_ends c.args.screen c.args.wants.now c.in_ok-server.server c.fresh_viewer-viewer.result
+    _ _ c.wishes-format.ensures.format c.wishes-format.ensures.encodings c.in_ok-server.ensures
+    c.fresh_viewer-viewer.ensures)

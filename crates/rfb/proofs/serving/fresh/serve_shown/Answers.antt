@@ -6,4 +6,5 @@ pub returns : goal.returns
 returns g c =
     served_from _ _ _ _ _ _ _ _ _ _ c.args.server.now c.serve.new.server c.serve.result
     (ap g.R.Read.remaining c.new-source.ensures.within) (ap g.W.Write.contents c.new-sink.ensures.within)
-    c.new-source.ensures.none c.new-sink.ensures.none c.serve.ensures.served c.serve.ensures.between c.serve.ensures.stopped
+    c.new-source.ensures.none c.new-sink.ensures.none c.serve.ensures.served
+    c.serve.ensures.between c.serve.ensures.stopped

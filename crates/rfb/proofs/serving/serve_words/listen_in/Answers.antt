@@ -11,11 +11,13 @@ text_of = option_map (λ s. s.now)
 pub returns-in-Some : goal.returns-in-Some
 returns-in-Some c =
     let e : first_of (codes "listen") (rows_of (found_of c.args.given.now)) ≡ Some c.in-Some.address.now =
-    sym (first_value-rows (found_of c.args.given.now) (codes "listen")) ∙ (sym c.get_str.ensures ∙ ap text_of c.in-Some.is) in
+    sym (first_value-rows (found_of c.args.given.now) (codes "listen"))
+    ∙ (sym c.get_str.ensures ∙ ap text_of c.in-Some.is) in
     subst (λ (o : Option Text). NamesHost o c.in-Some.address.now) (sym e) refl
 
 pub returns-in-None : goal.returns-in-None
 returns-in-None c =
     let e : first_of (codes "listen") (rows_of (found_of c.args.given.now)) ≡ None =
-    sym (first_value-rows (found_of c.args.given.now) (codes "listen")) ∙ (sym c.get_str.ensures ∙ ap text_of c.in-None.is) in
+    sym (first_value-rows (found_of c.args.given.now) (codes "listen"))
+    ∙ (sym c.get_str.ensures ∙ ap text_of c.in-None.is) in
     subst (λ (o : Option Text). NamesHost o (codes "127.0.0.1")) (sym e) refl

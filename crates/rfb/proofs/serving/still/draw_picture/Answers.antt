@@ -12,6 +12,7 @@ put_whole-requires c = record {
 
 pub returns : goal.returns
 returns c = record {
-  drawn = whole_drawn c.args.server.now c.put_whole.new.server c.args.pixmap.now.width c.args.pixmap.now.height c.args.pixmap.now.places.items
+  drawn = whole_drawn c.args.server.now c.put_whole.new.server c.args.pixmap.now.width c.args.pixmap.now.height
+      c.args.pixmap.now.places.items
       c.requires.columns c.requires.rows c.args.pixmap.now.whole (rw c.as_slice.ensures.value at c.put_whole.ensures);
 }

@@ -12,11 +12,14 @@ text_of = option_map (λ s. s.now)
 pub returns-in-Some : goal.returns-in-Some
 returns-in-Some c =
     let e : first_of (codes "encodings") (rows_of (found_of c.args.given.now)) ≡ Some c.in-Some.list.now =
-    sym (first_value-rows (found_of c.args.given.now) (codes "encodings")) ∙ (sym c.get_str.ensures ∙ ap text_of c.in-Some.is) in
-    encodings_given (rows_of (found_of c.args.given.now)) c.in-Some.list.now c.encodings_named.result e c.encodings_named.ensures
+    sym (first_value-rows (found_of c.args.given.now) (codes "encodings"))
+    ∙ (sym c.get_str.ensures ∙ ap text_of c.in-Some.is) in
+    encodings_given (rows_of (found_of c.args.given.now)) c.in-Some.list.now c.encodings_named.result
+    e c.encodings_named.ensures
 
 pub returns-in-None : goal.returns-in-None
 returns-in-None c =
     let e : first_of (codes "encodings") (rows_of (found_of c.args.given.now)) ≡ None =
-    sym (first_value-rows (found_of c.args.given.now) (codes "encodings")) ∙ (sym c.get_str.ensures ∙ ap text_of c.in-None.is) in
+    sym (first_value-rows (found_of c.args.given.now) (codes "encodings"))
+    ∙ (sym c.get_str.ensures ∙ ap text_of c.in-None.is) in
     subst (λ (o : Option Text). NamesEncodings o c.only_raw.result.items) (sym e) c.only_raw.ensures

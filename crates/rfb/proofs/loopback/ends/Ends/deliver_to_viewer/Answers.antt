@@ -31,18 +31,21 @@ loop-left-preserved g c =
       other = l.invariant.other;
       taken = c.in_ok-taken.ensures.taken ∙ ap (drop taken) l.invariant.taken
           ∙ drop-drop taken (wanted - l.left) bytes ∙ ap (λ n. drop n bytes) more;
-      reached = reaches_viewer_more bytes _ _ _ (wanted - l.left) taken (wanted - (l.left - taken)) _ _ _ _ _ _ _ _ _ _ _ _
+      reached =
+          reaches_viewer_more bytes _ _ _ (wanted - l.left) taken (wanted - (l.left - taken)) _ _ _ _ _ _ _ _ _ _ _ _
           l.invariant.taken c.in_ok-taken.ensures.part size more l.invariant.reached c.in_ok-reach_viewer.ensures;
     }
 
 pub returns-clause-taken : goal.returns-clause-taken
 returns-clause-taken g c =
     let l = c.loop-left in
-    let whole : c.min-wanted.result - l.left ≡ min (length c.args.self.now.to_viewer.items) c.args.count = grind (arith, common_steps) in
+    let whole : c.min-wanted.result - l.left ≡ min (length c.args.self.now.to_viewer.items) c.args.count =
+    grind (arith, common_steps) in
     l.invariant.taken ∙ ap (λ n. drop n c.args.self.now.to_viewer.items) whole
 
 pub returns-clause-reached : goal.returns-clause-reached
 returns-clause-reached g c =
     let l = c.loop-left in
-    let whole : c.min-wanted.result - l.left ≡ min (length c.args.self.now.to_viewer.items) c.args.count = grind (arith, common_steps) in
+    let whole : c.min-wanted.result - l.left ≡ min (length c.args.self.now.to_viewer.items) c.args.count =
+    grind (arith, common_steps) in
     rw whole at l.invariant.reached

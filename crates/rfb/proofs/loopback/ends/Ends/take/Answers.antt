@@ -5,14 +5,16 @@ use Rattle.rfb_picture.specs.Grid.{Holds, filled, copied, with_row}
 use Rattle.rfb_server.specs.Hints.{hints_of, with_hint}
 use Rattle.rfb_server.specs.Standing.{HoldsBoth, row_from, screen_of}
 use Rattle.rfb_viewer.specs.Calls.{call_refusal, request_refusal, format_refusal, requested, formatted}
-use Rattle.rfb_viewer.specs.Messages.{format_message, encodings_message, request_message, key_message, pointer_message, text_message}
+use Rattle.rfb_viewer.specs.Messages.{format_message, encodings_message, request_message, key_message, pointer_message}
+use Rattle.rfb_viewer.specs.Messages.{text_message}
 use Rattle.arrayvec.specs.ArrayVec.{ArrayVec}
 use Rattle.rfb_wire.specs.declared.encoding.Encoding.{Encoding}
 use Rattle.rfb_session.specs.declared.event.Event.{Event}
 use Rattle.rfb_session.proofs.DrawnLaws.{held_or_not, both_held_or_not}
 use Rattle.rfb.specs.declared.loopback.ends.Ends.{Ends}
 use Rattle.rfb.specs.Loopback.{AsksMemory, DrawsOn, TakesEvent}
-use Rattle.rfb.proofs.EndsLemmas.{always_ok, always_err, draws_on, call_taken, message_taken, text_sends, asks, text_asks}
+use Rattle.rfb.proofs.EndsLemmas.{always_ok, always_err, draws_on, call_taken, message_taken, text_sends, asks}
+use Rattle.rfb.proofs.EndsLemmas.{text_asks}
 use Rattle.rfb.proofs.loopback.ends.Ends.take.Goals as goal
 
 pub returns-in-Fill-clause-takes : goal.returns-in-Fill-clause-takes
@@ -52,7 +54,8 @@ returns-in-Copy-clause-takes c =
     (draws_on (HoldsBoth (screen_of old.server) c.in-Copy.rect c.in-Copy.sx c.in-Copy.sy)
     (copied c.in-Copy.rect c.in-Copy.sx c.in-Copy.sy (screen_of old.server))
     (hints_of old.server) old new c.copy.result c.of_drawing-in-Copy.result
-    (both_held_or_not c.in-Copy.rect c.in-Copy.sx c.in-Copy.sy (screen_of old.server)) c.copy.ensures.refused c.copy.ensures.kept
+    (both_held_or_not c.in-Copy.rect c.in-Copy.sx c.in-Copy.sy (screen_of old.server)) c.copy.ensures.refused
+    c.copy.ensures.kept
     c.copy.ensures.drawn (always_ok c.copy.result _ c.copy.ensures.hints) c.of_drawing-in-Copy.ensures refl)
 
 pub returns-in-Hint-clause-takes : goal.returns-in-Hint-clause-takes
@@ -62,8 +65,10 @@ returns-in-Hint-clause-takes c =
     subst (λ (event : Event). TakesEvent old event c.of_drawing-in-Hint.result new) (sym c.in-Hint.is)
     (draws_on (HoldsBoth (screen_of old.server) c.in-Hint.rect c.in-Hint.sx c.in-Hint.sy)
     (screen_of old.server)
-    (with_hint (record { to = c.in-Hint.rect; sx = c.in-Hint.sx; sy = c.in-Hint.sy }) (hints_of old.server)) old new c.hint.result c.of_drawing-in-Hint.result
-    (both_held_or_not c.in-Hint.rect c.in-Hint.sx c.in-Hint.sy (screen_of old.server)) c.hint.ensures.refused c.hint.ensures.kept
+    (with_hint (record { to = c.in-Hint.rect; sx = c.in-Hint.sx; sy = c.in-Hint.sy }) (hints_of old.server)) old new
+    c.hint.result c.of_drawing-in-Hint.result
+    (both_held_or_not c.in-Hint.rect c.in-Hint.sx c.in-Hint.sy (screen_of old.server)) c.hint.ensures.refused
+    c.hint.ensures.kept
     c.hint.ensures.hinted c.hint.ensures.hints c.of_drawing-in-Hint.ensures refl)
 
 pub returns-in-Request-clause-takes : goal.returns-in-Request-clause-takes
@@ -97,11 +102,13 @@ returns-in-Request-clause-stopped c =
 pub returns-in-SetFormat-clause-takes : goal.returns-in-SetFormat-clause-takes
 returns-in-SetFormat-clause-takes c =
     let old = c.args.self.now in
-    let new : Ends = record old { viewer = c.set_format-called.new.self; to_server = c.send-in-SetFormat.new.to_server } in
+    let new : Ends =
+    record old { viewer = c.set_format-called.new.self; to_server = c.send-in-SetFormat.new.to_server } in
     subst (λ (event : Event). IfOk c.send-in-SetFormat.result (λ refused. TakesEvent old event refused new))
     (sym c.in-SetFormat.is)
     (call_taken (λ (m : List ℕ). m) (λ s prefix. format_refusal s prefix)
-    (format_message c.in-SetFormat.format) (formatted c.in-SetFormat.format) old new c.set_format-called.result c.send-in-SetFormat.result
+    (format_message c.in-SetFormat.format) (formatted c.in-SetFormat.format) old new c.set_format-called.result
+    c.send-in-SetFormat.result
     (record {
       sent = c.set_format-called.ensures.sent;
       refusal = c.set_format-called.ensures.refusal;
@@ -119,7 +126,8 @@ pub returns-in-SetFormat-clause-stopped : goal.returns-in-SetFormat-clause-stopp
 returns-in-SetFormat-clause-stopped c =
     subst (λ (event : Event). OnErr c.send-in-SetFormat.result (AsksMemory c.args.self.now event))
     (sym c.in-SetFormat.is)
-    (asks (λ s prefix. format_refusal s prefix) c.args.self.now.viewer c.set_format-called.result c.send-in-SetFormat.result
+    (asks (λ s prefix. format_refusal s prefix) c.args.self.now.viewer c.set_format-called.result
+    c.send-in-SetFormat.result
     c.set_format-called.ensures.refusal c.set_format-called.ensures.failed c.send-in-SetFormat.ensures.refused)
 
 pub returns-in-SetEncodings-clause-takes : goal.returns-in-SetEncodings-clause-takes
@@ -186,7 +194,8 @@ returns-in-Pointer-clause-takes c =
     subst (λ (event : Event). IfOk c.send-in-Pointer.result (λ refused. TakesEvent old event refused new))
     (sym c.in-Pointer.is)
     (message_taken (λ (m : List ℕ). m) (λ s prefix. call_refusal s)
-    (pointer_message c.in-Pointer.buttons c.in-Pointer.x c.in-Pointer.y) old new c.pointer-called.result c.send-in-Pointer.result
+    (pointer_message c.in-Pointer.buttons c.in-Pointer.x c.in-Pointer.y) old new
+    c.pointer-called.result c.send-in-Pointer.result
     (record {
       sent = c.pointer-called.ensures.sent;
       refusal = c.pointer-called.ensures.refusal;

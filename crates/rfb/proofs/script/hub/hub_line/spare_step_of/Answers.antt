@@ -7,14 +7,17 @@ use Rattle.rfb.proofs.script.hub.hub_line.spare_step_of.Goals as goal
 
 pub returns-in_err-slot : goal.returns-in_err-slot
 returns-in_err-slot c =
-    rw c.from_residual.ensures (no_step_of c.args.keyword.now (codes "join") _ (sym c.eq.ensures ∙ c.if-eq.true) (hub_join _ c.in_err-slot.ensures))
+    rw c.from_residual.ensures (no_step_of c.args.keyword.now (codes "join") _ (sym c.eq.ensures ∙ c.if-eq.true)
+    (hub_join _ c.in_err-slot.ensures))
 
 pub returns-in_err-read_only_slot : goal.returns-in_err-read_only_slot
 returns-in_err-read_only_slot c =
-    rw c.from_residual-in_err-read_only_slot.ensures (no_step_of c.args.keyword.now (codes "leave") _ (sym c.eq-2.ensures ∙ c.if-eq-2.true) (hub_leave _ c.in_err-read_only_slot.ensures))
+    rw c.from_residual-in_err-read_only_slot.ensures (no_step_of c.args.keyword.now (codes "leave") _
+    (sym c.eq-2.ensures ∙ c.if-eq-2.true) (hub_leave _ c.in_err-read_only_slot.ensures))
 
 pub returns-then-eq-3 : goal.returns-then-eq-3
-returns-then-eq-3 c = at_read c.args.keyword.now _ (sym c.eq-3.ensures ∙ c.if-eq-3.true) c.step_at.result c.step_at.ensures
+returns-then-eq-3 c =
+    at_read c.args.keyword.now _ (sym c.eq-3.ensures ∙ c.if-eq-3.true) c.step_at.result c.step_at.ensures
 
 pub returns-in_err-rect : goal.returns-in_err-rect
 returns-in_err-rect c =
@@ -35,8 +38,10 @@ returns-in-Hint c = rw c.in-Hint.is at c.in_ok-rect.ensures
 pub returns-then-eq : goal.returns-then-eq
 returns-then-eq c =
     let r = c.in_ok-slot in
-    begins_with c.args.keyword.now (codes "join") (texts c.args.rest.now) (λ (l : List (List ℕ)). AreJoin l r.slot r.setup) (sym c.eq.ensures ∙ c.if-eq.true) r.ensures
+    begins_with c.args.keyword.now (codes "join") (texts c.args.rest.now)
+    (λ (l : List (List ℕ)). AreJoin l r.slot r.setup) (sym c.eq.ensures ∙ c.if-eq.true) r.ensures
 
 pub returns-then-eq-2 : goal.returns-then-eq-2
 returns-then-eq-2 c =
-    begins_with c.args.keyword.now (codes "leave") (texts c.args.rest.now) (λ (l : List (List ℕ)). IsSlotAlone l c.in_ok-read_only_slot.field-0) (sym c.eq-2.ensures ∙ c.if-eq-2.true) c.in_ok-read_only_slot.ensures
+    begins_with c.args.keyword.now (codes "leave") (texts c.args.rest.now) (λ (l : List (List ℕ)). IsSlotAlone l
+    c.in_ok-read_only_slot.field-0) (sym c.eq-2.ensures ∙ c.if-eq-2.true) c.in_ok-read_only_slot.ensures
