@@ -4,7 +4,8 @@ use Rattle.std.proofs.lemmas.Bool.{both_ways}
 use Rattle.rfb_picture.specs.declared.rect.Rect.{Rect}
 use Rattle.rfb_picture.specs.Rect.{contains}
 use Rattle.rfb_picture.specs.Area.{Places, IsArea, asked_at, whole_at, no_places, added}
-use Rattle.rfb_picture.proofs.GridLemmas.{at-filled, at-uniform, width-changed, height-changed, whole-changed, width-uniform, height-uniform, whole-uniform}
+use Rattle.rfb_picture.proofs.GridLemmas.{at-filled, at-uniform, width-changed, height-changed, whole-changed}
+use Rattle.rfb_picture.proofs.GridLemmas.{width-uniform, height-uniform, whole-uniform}
 
 -- ---- an area with nothing asked
 

@@ -1,5 +1,6 @@
 -- The edges of a cell's marked places from those of its columns of words, and the least rectangle.
-use Rattle.std.proofs.Common.{ℕ, List, Bool, true, false, Option, Some, None, ◌≡◌, ◌+◌, ◌-◌, ◌*◌, ◌/◌, ◌%◌, ◌<◌, ◌≤◌, ◌&&◌, refl, arith, nat_le, nat_lt, inl, inr}
+use Rattle.std.proofs.Common.{ℕ, List, Bool, true, false, Option, Some, None, ◌≡◌, ◌+◌, ◌-◌, ◌*◌, ◌/◌, ◌%◌, ◌<◌, ◌≤◌}
+use Rattle.std.proofs.Common.{◌&&◌, refl, arith, nat_le, nat_lt, inl, inr}
 use Rattle.std.proofs.lemmas.Bool.{both_ways, and_parts, and_cases, and_from}
 use Rattle.std.proofs.lemmas.Bool.Decides.{nat_tests}
 use Rattle.rfb_picture.specs.declared.rect.Rect.{Rect}

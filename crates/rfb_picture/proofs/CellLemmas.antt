@@ -1,5 +1,6 @@
 -- Rectangles by cells: their parts, and the edges of a set's places in them.
-use Rattle.std.proofs.Common.{ℕ, Bool, true, false, Option, ◌≡◌, ◌+◌, ◌-◌, ◌*◌, ◌/◌, ◌<◌, ◌≤◌, ◌||◌, min, sym, arith, inl, inr}
+use Rattle.std.proofs.Common.{ℕ, Bool, true, false, Option, ◌≡◌, ◌+◌, ◌-◌, ◌*◌, ◌/◌, ◌<◌, ◌≤◌, ◌||◌, min, sym, arith}
+use Rattle.std.proofs.Common.{inl, inr}
 use Rattle.std.proofs.lemmas.Bool.{cases_lt}
 use Rattle.std.proofs.lemmas.Bool.Decides.{nat_tests}
 use Rattle.rfb_picture.specs.declared.rect.Rect.{Rect}

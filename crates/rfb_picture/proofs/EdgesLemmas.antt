@@ -1,5 +1,6 @@
 -- Edges of marked places: of words one above the other, and of parts put together.
-use Rattle.std.proofs.Common.{ℕ, Bool, true, false, Option, Some, None, ◌≡◌, ◌+◌, ◌-◌, ◌<◌, ◌||◌, min, max, refl, sym, ◌∙◌, arith, inl, inr, subst}
+use Rattle.std.proofs.Common.{ℕ, Bool, true, false, Option, Some, None, ◌≡◌, ◌+◌, ◌-◌, ◌<◌, ◌||◌, min, max, refl, sym}
+use Rattle.std.proofs.Common.{◌∙◌, arith, inl, inr, subst}
 use Rattle.std.specs.Int.{w64, trailing_zeros, leading_zeros}
 use Rattle.std.proofs.lemmas.Bool.{cases_lt, both_ways, or_cases, or_left, or_right}
 use Rattle.rfb_picture.specs.declared.rect.Rect.{Rect}

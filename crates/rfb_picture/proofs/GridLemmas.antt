@@ -1,6 +1,9 @@
 -- Laws of grids, for this crate's proofs and those above it: what stands where after a change.
-use Rattle.std.proofs.Common.{ℕ, zero, suc, List, [], ◌∷◌, ◌≡◌, ◌+◌, ◌-◌, ◌*◌, ◌/◌, ◌%◌, ◌<◌, ◌≤◌, length, get_or, drop, refl, ap, sym, ◌∙◌, arith, add-zero, zero-add, if◌then◌else◌, slice_index_or, nat_le, nat_lt, ◌&&◌, ◌||◌, inl, inr, Bool, true, false}
-use Rattle.std.proofs.lemmas.List.{same_lists, get_or-replicate, get_or-take, get_or-drop, get_or_default, length-take-le, length-drop, length-replicate}
+use Rattle.std.proofs.Common.{ℕ, zero, suc, List, [], ◌∷◌, ◌≡◌, ◌+◌, ◌-◌, ◌*◌, ◌/◌, ◌%◌, ◌<◌, ◌≤◌, length, get_or, drop}
+use Rattle.std.proofs.Common.{refl, ap, sym, ◌∙◌, arith, add-zero, zero-add, if◌then◌else◌, slice_index_or, nat_le}
+use Rattle.std.proofs.Common.{nat_lt, ◌&&◌, ◌||◌, inl, inr, Bool, true, false}
+use Rattle.std.proofs.lemmas.List.{same_lists, get_or-replicate, get_or-take, get_or-drop, get_or_default}
+use Rattle.std.proofs.lemmas.List.{length-take-le, length-drop, length-replicate}
 use Rattle.std.proofs.lemmas.Bool.{cases_order}
 use Rattle.std.proofs.lemmas.Bool.Decides.{nat_tests}
 use Rattle.std.proofs.Math.Nat.{mul-le-mul_right}

@@ -1,12 +1,15 @@
 -- Laws of rows that are lent for writing: what the grid ends as.
-use Rattle.std.proofs.Common.{ℕ, List, ◌++◌, ◌≡◌, ◌+◌, ◌-◌, ◌*◌, ◌<◌, ◌≤◌, length, take, drop, get_or, slice_index_or, refl, ap, sym, ◌∙◌, arith, if◌then◌else◌, nat_le, nat_lt, ◌&&◌, Vec, length-append, length-drop}
+use Rattle.std.proofs.Common.{ℕ, List, ◌++◌, ◌≡◌, ◌+◌, ◌-◌, ◌*◌, ◌<◌, ◌≤◌, length, take, drop, get_or, slice_index_or}
+use Rattle.std.proofs.Common.{refl, ap, sym, ◌∙◌, arith, if◌then◌else◌, nat_le, nat_lt, ◌&&◌, Vec, length-append}
+use Rattle.std.proofs.Common.{length-drop}
 use Rattle.std.proofs.lemmas.List.{get_or-take, get_or-append_right, get_or-drop, get_or_default, length-take-le}
 use Rattle.std.proofs.Math.ListN.{get_or-append}
 use Rattle.std.proofs.Math.Nat.{mul-le-mul_right}
 use Rattle.std.proofs.lemmas.Bool.Decides.{nat_tests}
 use Rattle.std.specs.Vec.{with_items_from}
 use Rattle.rfb_picture.specs.Grid.{Grid, grid, IsGrid, at_or, changed, with_row, with_run}
-use Rattle.rfb_picture.proofs.GridLemmas.{place_below, changed_is, row_written, same_changes, width-changed, height-changed}
+use Rattle.rfb_picture.proofs.GridLemmas.{place_below, changed_is, row_written, same_changes, width-changed}
+use Rattle.rfb_picture.proofs.GridLemmas.{height-changed}
 
 module _ {X : Type 0} where
   same_parts : (g k : Grid X) → g.width ≡ k.width → g.height ≡ k.height → g.places ≡ k.places →

@@ -1,11 +1,13 @@
 -- A rectangle filled part by part, and one with no place.
-use Rattle.std.proofs.Common.{ℕ, Bool, true, false, ◌≡◌, ◌<◌, ◌≤◌, ◌||◌, refl, sym, ◌∙◌, arith, if◌then◌else◌, inl, inr, ◌⊎◌}
+use Rattle.std.proofs.Common.{ℕ, Bool, true, false, ◌≡◌, ◌<◌, ◌≤◌, ◌||◌, refl, sym, ◌∙◌, arith, if◌then◌else◌, inl, inr}
+use Rattle.std.proofs.Common.{◌⊎◌}
 use Rattle.std.proofs.lemmas.Bool.Decides.{nat_tests}
 use Rattle.rfb_picture.specs.declared.rect.Rect.{Rect}
 use Rattle.rfb_picture.specs.declared.place_set.parts.Parts.{Parts}
 use Rattle.rfb_picture.specs.Rect.{contains}
 use Rattle.rfb_picture.specs.Grid.{Grid, IsGrid, filled}
-use Rattle.rfb_picture.proofs.GridLemmas.{width-changed, height-changed, whole-changed, at-filled, changed_twice, same_changes, same_grid}
+use Rattle.rfb_picture.proofs.GridLemmas.{width-changed, height-changed, whole-changed, at-filled, changed_twice}
+use Rattle.rfb_picture.proofs.GridLemmas.{same_changes, same_grid}
 
 or_put : (a b : Bool) (old : Bool) →
     (if b then true else (if a then true else old)) ≡ (if a || b then true else old)

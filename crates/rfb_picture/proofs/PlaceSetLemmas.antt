@@ -1,5 +1,6 @@
 -- What a set of places says of each place, from the marks of its places and of its cells.
-use Rattle.std.proofs.Common.{ℕ, Bool, true, false, ◌≡◌, ◌/◌, ◌^◌, ◌<◌, ◌&&◌, ◌||◌, refl, sym, ◌∙◌, arith, if◌then◌else◌, inl, inr}
+use Rattle.std.proofs.Common.{ℕ, Bool, true, false, ◌≡◌, ◌/◌, ◌^◌, ◌<◌, ◌&&◌, ◌||◌, refl, sym, ◌∙◌, arith}
+use Rattle.std.proofs.Common.{if◌then◌else◌, inl, inr}
 use Rattle.std.proofs.lemmas.Bool.{cases_Bool, false≢true}
 use Rattle.std.proofs.lemmas.Bool.Decides.{nat_tests}
 use Rattle.rfb_picture.specs.declared.rect.Rect.{Rect}
@@ -10,7 +11,8 @@ use Rattle.rfb_picture.specs.Box.{is_in}
 use Rattle.rfb_picture.specs.CellOrder.{cells_in}
 use Rattle.rfb_picture.specs.inside.Cells.{cell_at, one_cell, touched, IsOfCells}
 use Rattle.rfb_picture.specs.inside.PlaceSet.{in_set, layered, IsLayers, IsOpened}
-use Rattle.rfb_picture.proofs.GridLemmas.{contains_true, contains_row, width-changed, height-changed, whole-changed, whole-uniform, width-uniform, height-uniform, at-uniform, at-filled}
+use Rattle.rfb_picture.proofs.GridLemmas.{contains_true, contains_row, width-changed, height-changed, whole-changed}
+use Rattle.rfb_picture.proofs.GridLemmas.{whole-uniform, width-uniform, height-uniform, at-uniform, at-filled}
 use Rattle.rfb_picture.proofs.PlaneLemmas.{whole-marked, at-marked, marked_is}
 
 -- ---- places and their cells

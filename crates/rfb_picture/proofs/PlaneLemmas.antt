@@ -1,5 +1,7 @@
 -- What a set of places says of each place, from the words that it is made of.
-use Rattle.std.proofs.Common.{ℕ, List, Bool, true, false, ◌≡◌, ◌+◌, ◌-◌, ◌*◌, ◌/◌, ◌%◌, ◌<◌, length, replicate, refl, sym, ◌∙◌, arith, slice_index_or, inl, inr, Option, subst, min, nat_eq, nat_le, nat_lt, ◌&&◌, ◌||◌, if◌then◌else◌, take, [], ◌++◌}
+use Rattle.std.proofs.Common.{ℕ, List, Bool, true, false, ◌≡◌, ◌+◌, ◌-◌, ◌*◌, ◌/◌, ◌%◌, ◌<◌, length, replicate, refl}
+use Rattle.std.proofs.Common.{sym, ◌∙◌, arith, slice_index_or, inl, inr, Option, subst, min, nat_eq, nat_le, nat_lt}
+use Rattle.std.proofs.Common.{◌&&◌, ◌||◌, if◌then◌else◌, take, [], ◌++◌}
 use Rattle.std.proofs.Math.Nat.{sub-zero}
 use Rattle.std.proofs.lemmas.List.{get_or-replicate, get_or_past, take_all, length-replicate}
 use Rattle.std.proofs.lemmas.Nat.Bits.{bit_at-zero}
@@ -15,7 +17,9 @@ use Rattle.rfb_picture.specs.declared.rect.Rect.{Rect}
 use Rattle.rfb_picture.specs.Rect.{contains}
 use Rattle.rfb_picture.specs.inside.Plane.{has_at, has_place, marked, plane, IsPlane}
 use Rattle.rfb_picture.specs.inside.Cells.{cell_at}
-use Rattle.rfb_picture.proofs.GridLemmas.{contains_true, at-changed, width-changed, height-changed, length-changed, whole-changed, width-uniform, height-uniform, whole-uniform, at-uniform, at-filled, same_grid}
+use Rattle.rfb_picture.proofs.GridLemmas.{contains_true, at-changed, width-changed, height-changed, length-changed}
+use Rattle.rfb_picture.proofs.GridLemmas.{whole-changed, width-uniform, height-uniform, whole-uniform, at-uniform}
+use Rattle.rfb_picture.proofs.GridLemmas.{at-filled, same_grid}
 
 -- ---- the grid that marks make
 

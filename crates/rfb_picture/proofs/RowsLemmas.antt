@@ -1,9 +1,11 @@
 -- Laws of a list whose values are written over a rectangle, row after row.
-use Rattle.std.proofs.Common.{ℕ, List, ◌≡◌, ◌+◌, ◌-◌, ◌*◌, ◌<◌, ◌≤◌, length, take, drop, ◌∙◌, arith, if◌then◌else◌, slice_index_or, nat_le, nat_lt, ◌&&◌}
+use Rattle.std.proofs.Common.{ℕ, List, ◌≡◌, ◌+◌, ◌-◌, ◌*◌, ◌<◌, ◌≤◌, length, take, drop, ◌∙◌, arith, if◌then◌else◌}
+use Rattle.std.proofs.Common.{slice_index_or, nat_le, nat_lt, ◌&&◌}
 use Rattle.std.proofs.lemmas.List.{get_or-take, get_or-drop, get_or_default}
 use Rattle.rfb_picture.specs.declared.rect.Rect.{Rect}
 use Rattle.rfb_picture.specs.Rect.{contains}
-use Rattle.rfb_picture.proofs.GridLemmas.{index_in_row, column_in_row, contains_true, contains_more, place_below, either, at_value}
+use Rattle.rfb_picture.proofs.GridLemmas.{index_in_row, column_in_row, contains_true, contains_more, place_below}
+use Rattle.rfb_picture.proofs.GridLemmas.{either, at_value}
 
 module _ {X : Type 0} where
   -- what stands in the n-th of such rows is what stands n rows on in the list

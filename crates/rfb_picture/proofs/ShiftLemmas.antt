@@ -1,13 +1,14 @@
 -- Places of a row that are moved along it, some at once.
-use Rattle.std.proofs.Common.{ℕ, ◌≡◌, ◌+◌, ◌-◌, ◌≤◌, ◌∙◌, List, slice_index_or, ap, arith, inl, inr, true, false}
+use Rattle.std.proofs.Common.{ℕ, ◌≡◌, ◌+◌, ◌-◌, ◌≤◌, ◌∙◌, ◌⊎◌, List, slice_index_or, ap, arith, inl, inr, true, false}
 use Rattle.std.proofs.lemmas.Bool.{cases_lt}
 use Rattle.std.proofs.lemmas.Bool.Decides.{nat_tests}
 use Rattle.rfb_picture.specs.inside.Runs.{RunCopied, in_run}
 
--- from the left, where the source lies to the right
-pub left_more : {X : Type 0} (from to n m : ℕ) (old cur new : List X) → to ≤ from →
+-- from the left, where the source lies to the right, or ends before the target
+pub left_more : {X : Type 0} (from to n m : ℕ) (old cur new : List X) →
+    (to ≤ from) ⊎ (from + (n + m) ≤ to) →
     RunCopied from to n old cur → RunCopied (from + n) (to + n) m cur new → RunCopied from to (n + m) old new
-left_more from to n m old cur new left first next = λ i d.
+left_more from to n m old cur new beside first next = λ i d.
     elim (cases_lt i to) [
       | inl low ↦
           let a : in_run (to + n) m i ≡ false = grind (arith, nat_tests) in
@@ -24,7 +25,10 @@ left_more from to n m old cur new left first next = λ i d.
           | inl here ↦
               let j = from + n + (i - (to + n)) in
               let a : in_run (to + n) m i ≡ true = grind (arith, nat_tests) in
-              let b : in_run to n j ≡ false = grind (arith, nat_tests) in
+              let b : in_run to n j ≡ false = elim beside [
+                | inl left ↦ grind (arith, nat_tests)
+                | inr before ↦ grind (arith, nat_tests)
+              ] in
               let c : in_run to (n + m) i ≡ true = grind (arith, nat_tests) in
               let place : j ≡ from + (i - to) = omega (arith, high, after) in
               rw c (rw a at (next i d) ∙ rw b at (first j d) ∙ ap (λ k. slice_index_or old k d) place)

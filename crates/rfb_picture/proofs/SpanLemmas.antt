@@ -1,5 +1,6 @@
 -- The rows that the marks of a plane are in, after its marks changed.
-use Rattle.std.proofs.Common.{ℕ, List, Bool, true, false, ◌≡◌, ◌*◌, ◌/◌, ◌<◌, ◌≤◌, ◌||◌, ◌∙◌, refl, sym, ap, arith, length, inl, inr, if◌then◌else◌}
+use Rattle.std.proofs.Common.{ℕ, List, Bool, true, false, ◌≡◌, ◌*◌, ◌/◌, ◌<◌, ◌≤◌, ◌||◌, ◌∙◌, refl, sym, ap, arith}
+use Rattle.std.proofs.Common.{length, inl, inr, if◌then◌else◌}
 use Rattle.std.proofs.lemmas.Bool.{cases_Bool, cases_lt}
 use Rattle.rfb_picture.specs.declared.rect.Rect.{Rect}
 use Rattle.rfb_picture.specs.Rect.{contains}

@@ -1,5 +1,6 @@
 -- What a set has after places of another were taken away, by cells.
-use Rattle.std.proofs.Common.{ℕ, Bool, true, false, ◌≡◌, ◌+◌, ◌/◌, ◌<◌, ◌≤◌, ◌&&◌, ◌||◌, not, refl, sym, ◌∙◌, arith, nat_eq, nat_lt, inl, inr}
+use Rattle.std.proofs.Common.{ℕ, Bool, true, false, ◌≡◌, ◌+◌, ◌/◌, ◌<◌, ◌≤◌, ◌&&◌, ◌||◌, not, refl, sym, ◌∙◌, arith}
+use Rattle.std.proofs.Common.{nat_eq, nat_lt, inl, inr}
 use Rattle.std.proofs.lemmas.Bool.{cases_Bool, cases_lt}
 use Rattle.std.proofs.lemmas.Bool.Decides.{nat_tests}
 use Rattle.rfb_picture.specs.declared.rect.Rect.{Rect}
@@ -11,7 +12,8 @@ use Rattle.rfb_picture.specs.Places.{without}
 use Rattle.rfb_picture.specs.inside.Marks.{without_in, AreRowsClear}
 use Rattle.rfb_picture.specs.inside.Cells.{cell_at, one_cell, in_column, in_row}
 use Rattle.rfb_picture.specs.inside.PlaceSet.{in_set, in_part, layered, IsLayers, AreAlike, IsSpread, HasLost}
-use Rattle.rfb_picture.proofs.GridLemmas.{contains_true, contains_row, width-changed, height-changed, whole-changed, at-changed, at-filled}
+use Rattle.rfb_picture.proofs.GridLemmas.{contains_true, contains_row, width-changed, height-changed, whole-changed}
+use Rattle.rfb_picture.proofs.GridLemmas.{at-changed, at-filled}
 use Rattle.rfb_picture.proofs.WordLemmas.{cases_place}
 use Rattle.rfb_picture.proofs.TakenWordLemmas.{and_true}
 use Rattle.rfb_picture.proofs.PlaceSetLemmas.{cell_below, layered_is, at-layered, whole-layered, same_sizes}

@@ -1,6 +1,7 @@
 -- How a `Plane` holds which places are marked, as bits of words: a row is `across` words wide. No
 -- public clause reads these words.
-use Rattle.std.specs.Prelude.{ℕ, Bool, true, false, List, ◌≡◌, ◌+◌, ◌*◌, ◌/◌, ◌%◌, ◌^◌, ◌<◌, ◌≤◌, ◌&&◌, ◌||◌, length, nat_eq, nat_le, nat_lt, not, slice_index_or, if◌then◌else◌}
+use Rattle.std.specs.Prelude.{ℕ, Bool, true, false, List, ◌≡◌, ◌+◌, ◌*◌, ◌/◌, ◌%◌, ◌^◌, ◌<◌, ◌≤◌, ◌&&◌, ◌||◌, length}
+use Rattle.std.specs.Prelude.{nat_eq, nat_le, nat_lt, not, slice_index_or, if◌then◌else◌}
 use Rattle.rfb_picture.specs.declared.rect.Rect.{Rect}
 use Rattle.rfb_picture.specs.Rect.{contains}
 use Rattle.rfb_picture.specs.Grid.{Grid, grid, changed, uniform}

@@ -1,6 +1,6 @@
 //! Copies of rows within one list of places, which may lie over one another.
 
-ghost use Rattle.std.specs.Prelude.{◌+◌, ◌*◌, ◌≤◌, length};
+ghost use Rattle.std.specs.Prelude.{◌+◌, ◌*◌, ◌≤◌, ◌⊎◌, length};
 ghost use Rattle.rfb_picture.specs.inside.Runs.{RowsCopied, RunCopied};
 
 use crate::rect::Rect;
@@ -33,14 +33,52 @@ fn copy_places<T: Copy>(places: &mut [T], from: usize, to: usize, count: usize)
     requires target { to + count ≤ length places.old }
     ensures { RunCopied from to count places.old places.new }
 {
-    if to < from {
+    if to + count <= from || from + count <= to {
+        copy_apart(places, from, to, count);
+    } else if to < from {
         shift_left(places, from, to, count);
     } else {
         shift_right(places, from, to, count);
     }
 }
 
-// How many places are moved at once.
+// How many places are copied at once where source and target lie apart: 7,680 bytes of colours,
+// since above some 8 KiB the C library takes them a byte at a time.
+const RUN: usize = 1280;
+
+// The same where source and target lie apart.
+fn copy_apart<T: Copy>(places: &mut [T], from: usize, to: usize, count: usize)
+    requires apart { (to + count ≤ from) ⊎ (from + count ≤ to) }
+    requires source { from + count ≤ length places.old }
+    requires target { to + count ≤ length places.old }
+    ensures { RunCopied from to count places.old places.new }
+{
+    let mut done = 0;
+    while count - done > RUN {
+        copy_run(places, from + done, to + done, RUN);
+        done += RUN;
+    }
+    copy_run(places, from + done, to + done, count - done);
+}
+
+// The same at once.
+#[inline]
+fn copy_run<T: Copy>(places: &mut [T], from: usize, to: usize, count: usize)
+    requires apart { (to + count ≤ from) ⊎ (from + count ≤ to) }
+    requires source { from + count ≤ length places.old }
+    requires target { to + count ≤ length places.old }
+    ensures { RunCopied from to count places.old places.new }
+{
+    if to < from {
+        let (front, back) = places.split_at_mut(from);
+        front[to..to + count].copy_from_slice(&back[..count]);
+    } else {
+        let (front, back) = places.split_at_mut(to);
+        back[..count].copy_from_slice(&front[from..from + count]);
+    }
+}
+
+// How many places are moved at once where they lie over one another.
 const PIECE: usize = 16;
 
 // The same where the target lies to the left of the source: from the left on, so that a place is

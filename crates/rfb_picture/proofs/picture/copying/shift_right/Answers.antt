@@ -13,7 +13,8 @@ loop-left-preserved g c =
     let target : c.args.to + l.left ≡ to + 16 = omega arith in
     let all : c.args.count - l.left + 16 ≡ c.args.count - (l.left - 16) = omega (arith, l.invariant.within) in
     let first = subst (λ (n : ℕ). RunCopied n (to + 16) (c.args.count - l.left) old l.places) source
-    (subst (λ (n : ℕ). RunCopied (c.args.from + l.left) n (c.args.count - l.left) old l.places) target l.invariant.moved) in
+    (subst (λ (n : ℕ). RunCopied (c.args.from + l.left) n (c.args.count - l.left) old l.places)
+    target l.invariant.moved) in
     let new = c.move_piece.new.places in
     record {
       within = omega arith;

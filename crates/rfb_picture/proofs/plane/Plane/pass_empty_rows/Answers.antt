@@ -5,7 +5,8 @@ use Rattle.rfb_picture.proofs.plane.Plane.pass_empty_rows.Goals as goal
 pub invariant_of-self : goal.invariant_of-self
 invariant_of-self c =
     let sound = c.self.invariant.sound in
-    let none = rw (c.deref.ensures.value, c.deref-then-self-gt0.ensures.value, c.from.ensures) at c.next_used.ensures.none in
+    let none =
+    rw (c.deref.ensures.value, c.deref-then-self-gt0.ensures.value, c.from.ensures) at c.next_used.ensures.none in
     let few = c.next_used.ensures.bounds.1 in
     record {
       sound = sound;
