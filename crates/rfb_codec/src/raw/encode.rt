@@ -14,6 +14,7 @@ ghost use Rattle.rfb_codec.specs.Codec.{Appends, raw_of, shortens};
 
 use crate::block::Block;
 use crate::codec::Codec;
+use byteorder::{ByteOrder, LittleEndian};
 use rfb_pixel::Format;
 use rfb_wire::pieces::append_within;
 
@@ -79,14 +80,14 @@ fn append_pixels(out: &mut Vec<u8>, format: &Format, pixels: &[u32])
     append_within(out, &bytes[..length]);
 }
 
-/// Writes the bytes of each pixel. The format that most screens are sent in is treated apart, so
-/// that its loop is compiled for its size.
+/// Writes the bytes of each pixel. Those of the format that most screens are sent in are 32 bits,
+/// the lowest byte first, which is how they lie in memory: they are copied as they are.
 pub fn put_pixels(format: &Format, pixels: &[u32], bytes: &mut [u8])
     requires { length bytes.old ≡ length pixels.now * size_of format.now }
     ensures { bytes.new ≡ flat_map (pixel_bytes format.now) pixels.now }
 {
     if *format == Format::rgb888() {
-        put_each(&Format::rgb888(), pixels, bytes);
+        LittleEndian::write_u32_into(pixels, bytes);
     } else {
         put_each(format, pixels, bytes);
     }
