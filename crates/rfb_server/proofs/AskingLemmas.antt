@@ -1,5 +1,6 @@
 -- Marks, where places are asked for and where the format changes.
-use Rattle.std.proofs.Common.{◌≡◌, ℕ, ◌<◌, Bool, true, false, Option, Some, None, if◌then◌else◌, refl, sym, ap, ◌∙◌, arith}
+use Rattle.std.proofs.Common.{◌≡◌, ℕ, ◌<◌, Bool, true, false, Option, Some, None, if◌then◌else◌, refl, sym, ap, ◌∙◌}
+use Rattle.std.proofs.Common.{arith}
 use Rattle.rfb_pixel.specs.declared.colour.Colour.{Colour}
 use Rattle.rfb_pixel.specs.Format.{PixelFormat}
 use Rattle.rfb_picture.specs.declared.rect.Rect.{Rect}
@@ -7,7 +8,8 @@ use Rattle.rfb_picture.specs.Rect.{contains}
 use Rattle.rfb_picture.specs.Grid.{Grid, IsGrid, at_or, filled}
 use Rattle.rfb_picture.specs.Box.{is_in}
 use Rattle.rfb_picture.specs.Area.{Places, IsArea, added}
-use Rattle.rfb_picture.proofs.GridLaws.{at-filled, same_changes, width-changed, height-changed, whole-uniform, width-uniform, height-uniform}
+use Rattle.rfb_picture.proofs.GridLaws.{at-filled, same_changes, width-changed, height-changed, whole-uniform}
+use Rattle.rfb_picture.proofs.GridLaws.{width-uniform, height-uniform}
 use Rattle.rfb_picture.proofs.AreaLaws.{area-added}
 use Rattle.rfb_server.specs.Request.{wanted_at}
 use Rattle.rfb_server.specs.inside.Marks.{AreAlike}
@@ -22,7 +24,8 @@ filled_part : (g : Grid Bool) (rect part : Rect) → IsGrid g →
     ((x y : ℕ) → x < g.width → y < g.height → contains part x y ≡ contains rect x y) →
     filled part true g ≡ filled rect true g
 filled_part g rect part whole same =
-    same_changes (λ x y old. if contains part x y then true else old) (λ x y old. if contains rect x y then true else old) g whole
+    same_changes (λ x y old. if contains part x y then true else old)
+    (λ x y old. if contains rect x y then true else old) g whole
     (λ x y d p q. ap (λ (inside : Bool). if inside then true else at_or g x y d) (same x y p q))
 
 abbrev places : Grid Bool → Grid Bool → Places
@@ -57,39 +60,48 @@ alike_asked known area marks rect whole alike = record {
 }
 
 -- places that are asked for and are not whole
-pub caught_asked : (screen : Grid Colour) (known : Grid (Option ℕ)) (area : Places) (form : PixelFormat) (marks : Grid Bool) (rect : Rect) →
+pub caught_asked : (screen : Grid Colour) (known : Grid (Option ℕ)) (area : Places) (form : PixelFormat)
+    (marks : Grid Bool) (rect : Rect) →
     IsCaughtUp screen known area form marks → IsCaughtUp screen known (added rect false area) form marks
 caught_asked screen known area form marks rect caught = record { right = caught.right; not_whole = caught.not_whole }
 
 -- and whole ones, which are marked
-pub caught_whole : (screen : Grid Colour) (known : Grid (Option ℕ)) (area : Places) (form : PixelFormat) (marks : Grid Bool) (rect : Rect) →
+pub caught_whole : (screen : Grid Colour) (known : Grid (Option ℕ)) (area : Places) (form : PixelFormat)
+    (marks : Grid Bool) (rect : Rect) →
     AreAlike known area marks →
-    IsCaughtUp screen known area form marks → IsCaughtUp screen known (added rect true area) form (filled rect true marks)
+    IsCaughtUp screen known area form marks →
+    IsCaughtUp screen known (added rect true area) form (filled rect true marks)
 caught_whole screen known area form marks rect alike caught = record { right = right; not_whole = not_whole }
   where
-    was : (x y : ℕ) → x < (filled rect true marks).width → y < (filled rect true marks).height → is_in (filled rect true marks) x y ≡ false →
+    was : (x y : ℕ) → x < (filled rect true marks).width → y < (filled rect true marks).height →
+        is_in (filled rect true marks) x y ≡ false →
         (x < marks.width) × (y < marks.height) × (contains rect x y ≡ false) × (is_in marks x y ≡ false)
     was x y p q h =
         let p' : x < marks.width = rw (← width-changed (λ i j old. if contains rect i j then true else old) marks) p in
-        let q' : y < marks.height = rw (← height-changed (λ i j old. if contains rect i j then true else old) marks) q in
+        let q' : y < marks.height =
+        rw (← height-changed (λ i j old. if contains rect i j then true else old) marks) q in
         let both = unmarked marks rect x y alike.marks_whole p' q' h in
         (p', q', both.0, both.1)
 
-    right : (x y : ℕ) → x < (filled rect true marks).width → y < (filled rect true marks).height → is_in (filled rect true marks) x y ≡ false →
+    right : (x y : ℕ) → x < (filled rect true marks).width → y < (filled rect true marks).height →
+        is_in (filled rect true marks) x y ≡ false →
         at_or known x y None ≡ Some (wanted_at screen form x y)
     right x y p q h = let w = was x y p q h in caught.right x y w.0 w.1 w.3
 
-    not_whole : (x y : ℕ) → x < (filled rect true marks).width → y < (filled rect true marks).height → is_in (filled rect true marks) x y ≡ false →
+    not_whole : (x y : ℕ) → x < (filled rect true marks).width → y < (filled rect true marks).height →
+        is_in (filled rect true marks) x y ≡ false →
         at_or (filled rect true area.whole) x y false ≡ false
     not_whole x y p q h =
         let w = was x y p q h in
         let wide : x < area.whole.width = rw (alike.area_is.wide, alike.area_wide, ← alike.marks_wide) w.0 in
         let high : y < area.whole.height = rw (alike.area_is.high, alike.area_high, ← alike.marks_high) w.1 in
-        at-filled rect true area.whole x y false alike.area_is.wholes wide high ∙ (rw (w.2) (caught.not_whole x y w.0 w.1 w.3))
+        at-filled rect true area.whole x y false alike.area_is.wholes wide high
+        ∙ (rw (w.2) (caught.not_whole x y w.0 w.1 w.3))
 
 -- with all places marked nothing is said
 pub all_marked : (marks : Grid Bool) (w h : ℕ) → IsGrid marks → marks.width ≡ w → marks.height ≡ h →
-    (x y : ℕ) → x < (filled (record { x = 0; y = 0; w = w; h = h }) true marks).width → y < (filled (record { x = 0; y = 0; w = w; h = h }) true marks).height →
+    (x y : ℕ) → x < (filled (record { x = 0; y = 0; w = w; h = h }) true marks).width →
+    y < (filled (record { x = 0; y = 0; w = w; h = h }) true marks).height →
     is_in (filled (record { x = 0; y = 0; w = w; h = h }) true marks) x y ≡ true
 all_marked marks w h whole wide high x y p q =
     let all : Rect = record { x = 0; y = 0; w = w; h = h } in
@@ -128,4 +140,5 @@ asked_part old new rect part whole same asked = record {
   area = asked.area ∙ added_part old.area rect part whole old.alike.area_is
       (λ x y p q. same x y (rw (← old.alike.area_wide) p) (rw (← old.alike.area_high) q));
   caught_up = asked.caught_up;
+  claim = asked.claim;
 }

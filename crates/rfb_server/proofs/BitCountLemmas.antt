@@ -1,5 +1,6 @@
 -- The set bits of a word, counted as the places of a row that they tell of.
-use Rattle.std.proofs.Common.{◌≡◌, ◌∙◌, ℕ, zero, suc, ◌+◌, ◌-◌, ◌*◌, ◌/◌, ◌%◌, ◌^◌, ◌<◌, ◌≤◌, ◌&&◌, ◌⊎◌, Bool, false, nat_eq, nat_le, nat_lt, if◌then◌else◌, count_ones, sym, ap, refl, inl, inr, arith}
+use Rattle.std.proofs.Common.{◌≡◌, ◌∙◌, ℕ, zero, suc, ◌+◌, ◌-◌, ◌*◌, ◌/◌, ◌%◌, ◌^◌, ◌<◌, ◌≤◌, ◌&&◌, ◌⊎◌, Bool, false}
+use Rattle.std.proofs.Common.{nat_eq, nat_le, nat_lt, if◌then◌else◌, count_ones, sym, ap, refl, inl, inr, arith}
 use Rattle.std.specs.Int.{bit_at}
 use Rattle.std.proofs.Math.Nat.{div-add-mod', mod-lt}
 use Rattle.std.proofs.lemmas.Bool.Decides.{nat_tests}
@@ -40,7 +41,8 @@ one_bit (suc zero) small = ones-ones 1
 one_bit (suc (suc n)) small = absurd (omega arith)
 
 -- a word of k bits has as many set as the k places of a row that they tell of
-pub ones_of_row : (p : ℕ → ℕ → Bool) (x y k word : ℕ) → word < 2 ^ k → ((i : ℕ) → i < k → has_bit word i ≡ p (x + i) y) →
+pub ones_of_row : (p : ℕ → ℕ → Bool) (x y k word : ℕ) → word < 2 ^ k →
+    ((i : ℕ) → i < k → has_bit word i ≡ p (x + i) y) →
     count_ones word ≡ count_row p x y k
 ones_of_row p x y zero word small told =
     let none : word ≡ 0 = omega arith in
@@ -53,11 +55,14 @@ ones_of_row p x y (suc k) word small told =
     let next : suc k ≡ 1 + k = omega arith in
     let fits : word < 2 ^ (1 + k) = rw (← next) small in
     let top_small : top < 2 = shr_lt 1 k fits in
-    let parts : count_ones word ≡ count_ones top + count_ones low = ap count_ones (sym whole) ∙ ones_cat k top low low_small in
+    let parts : count_ones word ≡ count_ones top + count_ones low =
+    ap count_ones (sym whole) ∙ ones_cat k top low low_small in
     let below : count_ones low ≡ count_row p x y k =
     ones_of_row p x y k low low_small
-    (λ i l. ap (λ n. nat_eq n 1) (sym (bit_at_cat_low top k low i l) ∙ ap (λ n. bit_at n i) whole) ∙ told i (omega arith)) in
-    let here : count_ones top ≡ (if p (x + k) y then 1 else 0) = one_bit top top_small ∙ ap (λ b. if b then 1 else 0) (told k (omega arith)) in
+    (λ i l. ap (λ n. nat_eq n 1) (sym (bit_at_cat_low top k low i l) ∙ ap (λ n. bit_at n i) whole)
+    ∙ told i (omega arith)) in
+    let here : count_ones top ≡ (if p (x + k) y then 1 else 0) =
+    one_bit top top_small ∙ ap (λ b. if b then 1 else 0) (told k (omega arith)) in
     omega (arith, parts, below, here)
 
 -- ---- the bits between two columns
@@ -77,13 +82,16 @@ ones_between p y from to word small some cell told =
     let word_is : count_ones word ≡ count_row q left y 64 = ones_of_row q left y 64 word small told in
     let parts : 64 ≡ from - left + (to - from + (left + 64 - to)) = omega arith in
     let first : left + (from - left) ≡ from = omega arith in
-    let front : count_row q left y 64 ≡ count_row q left y (from - left) + count_row q from y (to - from + (left + 64 - to)) =
+    let front : count_row q left y 64
+    ≡ count_row q left y (from - left) + count_row q from y (to - from + (left + 64 - to)) =
     ap (count_row q left y) parts ∙ row_split q left y (from - left) (to - from + (left + 64 - to))
     ∙ ap (λ x. count_row q left y (from - left) + count_row q x y (to - from + (left + 64 - to))) first in
     let back = row_split q from y (to - from) (left + 64 - to) in
-    let before : count_row q left y (from - left) ≡ 0 = row_clear q left y (from - left) (λ i l. outside from to (left + i) (p (left + i) y) (inl (omega arith))) in
+    let before : count_row q left y (from - left) ≡ 0 =
+    row_clear q left y (from - left) (λ i l. outside from to (left + i) (p (left + i) y) (inl (omega arith))) in
     let after : count_row q (from + (to - from)) y (left + 64 - to) ≡ 0 =
-    row_clear q (from + (to - from)) y (left + 64 - to) (λ i l. outside from to (from + (to - from) + i) (p (from + (to - from) + i) y) (inr (omega arith))) in
+    row_clear q (from + (to - from)) y (left + 64 - to)
+    (λ i l. outside from to (from + (to - from) + i) (p (from + (to - from) + i) y) (inr (omega arith))) in
     let middle : count_row q from y (to - from) ≡ count_row p from y (to - from) =
     row_same q p from y (to - from) (λ i l. inside from to (from + i) (p (from + i) y) (omega arith) (omega arith)) in
     omega (arith, word_is, front, back, before, after, middle)

@@ -10,9 +10,11 @@ use Rattle.rfb_server.specs.Cells.{cell_of, IsCell}
 pub is_cell : (width height across column row index : ℕ) →
     column * 64 < width → row * 64 < height → column < across → width ≤ across * 64 →
     row * across + column ≡ index →
-    IsCell width height across index (record { x = column * 64; y = row * 64; w = min (width - column * 64) 64; h = min (height - row * 64) 64 })
+    IsCell width height across index
+    (record { x = column * 64; y = row * 64; w = min (width - column * 64) 64; h = min (height - row * 64) 64 })
 is_cell width height across column row index p q l wide e =
-    let cell : Rect = record { x = column * 64; y = row * 64; w = min (width - column * 64) 64; h = min (height - row * 64) 64 } in
+    let cell : Rect =
+    record { x = column * 64; y = row * 64; w = min (width - column * 64) 64; h = min (height - row * 64) 64 } in
     record {
       held = (omega arith, omega arith);
       sides = (omega arith, omega arith);
@@ -24,8 +26,10 @@ is_cell width height across column row index p q l wide e =
       all = λ x y xw yh here.
           let below : x / 64 < across = omega arith in
           let same : y / 64 * across + x / 64 ≡ row * across + column = here ∙ sym e in
-          let there : x / 64 ≡ column = sym (mod-mul-add (y / 64) across (x / 64) below) ∙ (ap (λ (n : ℕ). n % across) same ∙ mod-mul-add row across column l) in
-          let high : y / 64 ≡ row = sym (div-mul-add (y / 64) across (x / 64) below) ∙ (ap (λ (n : ℕ). n / across) same ∙ div-mul-add row across column l) in
+          let there : x / 64 ≡ column = sym (mod-mul-add (y / 64) across (x / 64) below)
+          ∙ (ap (λ (n : ℕ). n % across) same ∙ mod-mul-add row across column l) in
+          let high : y / 64 ≡ row = sym (div-mul-add (y / 64) across (x / 64) below)
+          ∙ (ap (λ (n : ℕ). n / across) same ∙ div-mul-add row across column l) in
           contains_row cell x y (omega arith) (omega arith) (omega arith) (omega arith);
     }
 
@@ -34,5 +38,6 @@ pub place_cell : (width height x y : ℕ) → x < width → y < height →
     (cell : Rect) × IsCell width height (div_ceil width 64) (cell_of (div_ceil width 64) x y) cell
 place_cell width height x y p q = (
   record { x = x / 64 * 64; y = y / 64 * 64; w = min (width - x / 64 * 64) 64; h = min (height - y / 64 * 64) 64 },
-  is_cell width height (div_ceil width 64) (x / 64) (y / 64) (cell_of (div_ceil width 64) x y) (omega arith) (omega arith) (omega arith) (omega arith) refl,
+  is_cell width height (div_ceil width 64) (x / 64) (y / 64) (cell_of (div_ceil width 64) x y) (omega arith)
+      (omega arith) (omega arith) (omega arith) refl,
 )

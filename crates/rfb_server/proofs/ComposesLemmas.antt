@@ -1,5 +1,7 @@
 -- When every cell is taken care of, a composing is done.
-use Rattle.std.proofs.Common.{◌≡◌, ℕ, ◌+◌, ◌*◌, ◌/◌, ◌<◌, ◌≤◌, Bool, true, false, List, [], ◌∷◌, ◌++◌, length, map, Option, Some, None, refl, sym, subst, ◌∙◌, arith, inl, inr, ◌⊎◌, append_assoc, if◌then◌else◌}
+use Rattle.std.proofs.Common.{◌≡◌, ℕ, ◌+◌, ◌*◌, ◌/◌, ◌<◌, ◌≤◌, Bool, true, false, List, [], ◌∷◌, ◌++◌, length, map}
+use Rattle.std.proofs.Common.{Option, Some, None, refl, sym, subst, ◌∙◌, arith, inl, inr, ◌⊎◌, append_assoc}
+use Rattle.std.proofs.Common.{if◌then◌else◌}
 use Rattle.std.specs.Int.{div_ceil}
 use Rattle.std.proofs.Math.Nat.{mul-le-mul_right}
 use Rattle.std.proofs.lemmas.Bool.{both_ways}
@@ -31,28 +33,45 @@ all_cells w h x y p q =
 
 -- ---- copies and cells
 
-module _ (s : ServerState) (moves : List Move) (copies parts : List Part) (known now : Grid (Option ℕ)) (head front bytes : List ℕ) where
+module _ (s : ServerState) (moves : List Move) (copies parts : List Part) (known now : Grid (Option ℕ))
+    (head front bytes : List ℕ) where
   pub composes : IsArea s.area → s.area.asked.width ≡ s.screen.width → s.area.asked.height ≡ s.screen.height →
       Copies s moves copies known front →
-      Sends (div_ceil s.screen.width 64) (div_ceil s.screen.width 64 * div_ceil s.screen.height 64) (record s { known = known }) now parts bytes →
+      Sends (div_ceil s.screen.width 64) (div_ceil s.screen.width 64 * div_ceil s.screen.height 64)
+      (record s { known = known }) now parts bytes →
       SpellsUpdate (length (copies ++ parts)) head →
-      (c : Composes s (record s { known = now; area = nothing s.area }) (head ++ (front ++ bytes)) copies parts) × (c.moves ≡ moves)
+      (c : Composes s (record s { known = now; area = nothing s.area }) (head ++ (front ++ bytes)) copies parts)
+      × (c.moves ≡ moves)
   composes area wide high taken sends head_is = (
     record {
       is_update = update_read (between s) (map sent_as (copies ++ parts)) (head ++ (front ++ bytes)) refl
-          (record { head = head; list = front ++ bytes; whole = refl; head_is = rw (length-map (copies ++ parts) sent_as) head_is; sent_are = spelled_both copies parts front bytes taken.spelled sends.spelled });
+          (record {
+            head = head;
+            list = front ++ bytes;
+            whole = refl;
+            head_is = rw (length-map (copies ++ parts) sent_as) head_is;
+            sent_are = spelled_both copies parts front bytes taken.spelled sends.spelled;
+          });
       data_are = data_both copies parts taken.data_are (data_same parts sends.data_are);
       agrees = λ picture whole alike before.
-          subst (λ (g : Grid Colour). Agrees s.form (effects (between s) (map item_of (map sent_as (copies ++ parts))) g) now)
+          subst (λ (g : Grid Colour). Agrees s.form
+          (effects (between s) (map item_of (map sent_as (copies ++ parts))) g) now)
           (sym (effect_message (between s) (FramebufferUpdate (length (map sent_as (copies ++ parts)))) picture))
           (agrees_both picture whole alike before);
       answered = λ x y p a. sends.answered x y p (all_cells s.screen.width s.screen.height x y p.0 p.1) a;
-      others = λ x y p a. by_others x y p a (is_in_some copies x y) refl (kept_or_right (is_in_some parts x y) (sends.noted x y p));
-      renewed = λ x y p w. (sends.renewed x y p (all_cells s.screen.width s.screen.height x y p.0 p.1) w, not_copied x y p w (is_in_some copies x y) refl);
+      others = λ x y p a. by_others x y p a (is_in_some copies x y) refl
+          (kept_or_right (is_in_some parts x y) (sends.noted x y p));
+      renewed = λ x y p w. (
+        sends.renewed x y p (all_cells s.screen.width s.screen.height x y p.0 p.1) w,
+        not_copied x y p w (is_in_some copies x y) refl,
+      );
       emptied = refl;
       same_point = refl;
       same_screen = refl;
-      same_size = record { columns = sym (taken.alike.columns ∙ sends.alike.columns); rows = sym (taken.alike.rows ∙ sends.alike.rows) };
+      same_size = record {
+        columns = sym (taken.alike.columns ∙ sends.alike.columns);
+        rows = sym (taken.alike.rows ∙ sends.alike.rows);
+      };
       same_format = refl;
       same_encodings = refl;
       moves = moves;
@@ -70,20 +89,25 @@ module _ (s : ServerState) (moves : List Move) (copies parts : List Part) (known
       data_same [] all = tt
       data_same (part ∷ parts) (here, rest) = (here, data_same parts rest)
 
-      data_both : (copies parts : List Part) → HaveTheirData s copies → HaveTheirData s parts → HaveTheirData s (copies ++ parts)
+      data_both : (copies parts : List Part) → HaveTheirData s copies → HaveTheirData s parts →
+          HaveTheirData s (copies ++ parts)
       data_both [] parts one other = other
       data_both (copy ∷ copies) parts (here, rest) other = (here, data_both copies parts rest other)
 
-      spelled_both : (copies parts : List Part) (front bytes : List ℕ) → SpellsRectangles (between s) (map sent_as copies) front → SpellsRectangles (between s) (map sent_as parts) bytes →
+      spelled_both : (copies parts : List Part) (front bytes : List ℕ) →
+          SpellsRectangles (between s) (map sent_as copies) front →
+          SpellsRectangles (between s) (map sent_as parts) bytes →
           SpellsRectangles (between s) (map sent_as (copies ++ parts)) (front ++ bytes)
       spelled_both [] parts front bytes none other = rw none other
       spelled_both (copy ∷ copies) parts front bytes (a, b, whole, here, rest) other =
           (a, b ++ bytes, rw whole (append_assoc a b bytes), here, spelled_both copies parts b bytes rest other)
 
       effects_both : (copies parts : List Part) (picture : Grid Colour) →
-          effects (between s) (map item_of (map sent_as (copies ++ parts))) picture ≡ effects (between s) (map item_of (map sent_as parts)) (effects (between s) (map item_of (map sent_as copies)) picture)
+          effects (between s) (map item_of (map sent_as (copies ++ parts))) picture ≡ effects (between s)
+          (map item_of (map sent_as parts)) (effects (between s) (map item_of (map sent_as copies)) picture)
       effects_both [] parts picture = refl
-      effects_both (copy ∷ copies) parts picture = effects_both copies parts (effect (between s) (Rectangle copy.head copy.body) picture)
+      effects_both (copy ∷ copies) parts picture =
+          effects_both copies parts (effect (between s) (Rectangle copy.head copy.body) picture)
 
       agrees_both : (picture : Grid Colour) → IsGrid picture → IsAlike picture s.known → Agrees s.form picture s.known →
           Agrees s.form (effects (between s) (map item_of (map sent_as (copies ++ parts))) picture) now
@@ -92,10 +116,14 @@ module _ (s : ServerState) (moves : List Move) (copies parts : List Part) (known
           let kept = effects_picture (between s) (map item_of (map sent_as copies)) picture in
           rw (effects_both copies parts picture)
           (sends.agrees shown (kept.whole whole)
-          (record { columns = kept.columns ∙ (alike.columns ∙ taken.alike.columns); rows = kept.rows ∙ (alike.rows ∙ taken.alike.rows) })
+          (record {
+            columns = kept.columns ∙ (alike.columns ∙ taken.alike.columns);
+            rows = kept.rows ∙ (alike.rows ∙ taken.alike.rows);
+          })
           (taken.agrees picture whole alike before))
 
-      kept_or_right : {A : Type 0} {at old right : A} (here : Bool) → at ≡ (if here then right else old) → (at ≡ old) ⊎ (at ≡ right)
+      kept_or_right : {A : Type 0} {at old right : A} (here : Bool) → at ≡ (if here then right else old) →
+          (at ≡ old) ⊎ (at ≡ right)
       kept_or_right true e = inr e
       kept_or_right false e = inl e
 
@@ -106,6 +134,7 @@ module _ (s : ServerState) (moves : List Move) (copies parts : List Part) (known
       by_others x y p a true e (inl same) = absurd (both_ways (is_asked s x y) a (taken.free x y p e).0)
       by_others x y p a false e (inl same) = inl (same ∙ taken.others x y p e)
 
-      not_copied : (x y : ℕ) → IsPlace s x y → is_whole s x y ≡ true → (here : Bool) → is_in_some copies x y ≡ here → here ≡ false
+      not_copied : (x y : ℕ) → IsPlace s x y → is_whole s x y ≡ true → (here : Bool) →
+          is_in_some copies x y ≡ here → here ≡ false
       not_copied x y p w true e = absurd (both_ways (is_whole s x y) (taken.free x y p e).1 w)
       not_copied x y p w false e = refl

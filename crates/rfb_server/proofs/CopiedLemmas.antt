@@ -1,5 +1,7 @@
 -- A copy more, for the session that tells its viewer of it.
-use Rattle.std.proofs.Common.{◌≡◌, ℕ, ◌+◌, ◌-◌, ◌<◌, Bool, true, false, List, [], ◌∷◌, ◌++◌, length, Option, Some, None, if◌then◌else◌, refl, sym, ap, subst, ◌∙◌, arith, append_assoc, append-nil, length-append, slice_get}
+use Rattle.std.proofs.Common.{◌≡◌, ℕ, ◌+◌, ◌-◌, ◌<◌, Bool, true, false, List, [], ◌∷◌, ◌++◌, length, Option, Some, None}
+use Rattle.std.proofs.Common.{if◌then◌else◌, refl, sym, ap, subst, ◌∙◌, arith, append_assoc, append-nil, length-append}
+use Rattle.std.proofs.Common.{slice_get}
 use Rattle.std.proofs.lemmas.Bool.{both_ways}
 use mir.Val.{bool_byte}
 use Rattle.rfb_pixel.specs.declared.colour.Colour.{Colour}
@@ -7,7 +9,8 @@ use Rattle.rfb_picture.specs.declared.rect.Rect.{Rect}
 use Rattle.rfb_picture.specs.Rect.{contains}
 use Rattle.rfb_picture.specs.Grid.{Grid, at_or, copied}
 use Rattle.rfb_picture.specs.Box.{is_in}
-use Rattle.rfb_picture.proofs.GridLaws.{contains_true, at-filled, at-changed, width-changed, height-changed, whole-changed}
+use Rattle.rfb_picture.proofs.GridLaws.{contains_true, at-filled, at-changed, width-changed, height-changed}
+use Rattle.rfb_picture.proofs.GridLaws.{whole-changed}
 use Rattle.rfb_wire.specs.declared.encoding.Encoding.TheVariants.{CopyRect}
 use Rattle.rfb_codec.specs.RectData.{Source}
 use Rattle.rfb_server.specs.declared.session.Session.{Session}
@@ -21,8 +24,10 @@ use Rattle.rfb_server.specs.Composing.{Part, IsGain, all_moved}
 use Rattle.rfb_server.specs.inside.Sends.{IsKept, state_of}
 use Rattle.rfb_server.specs.declared.hint.Hint.{Hint}
 use Rattle.rfb_server.specs.Using.{move_of, IsOfUse}
-use Rattle.rfb_server.specs.inside.Copies.{IsFree, IsUseful, SendsHint, KeepsMarks, IsMarkedFor, AppendsCopies, usable_hints}
+use Rattle.rfb_server.specs.inside.Copies.{IsFree, IsUseful, SendsHint, KeepsMarks, IsMarkedFor, AppendsCopies}
+use Rattle.rfb_server.specs.inside.Copies.{usable_hints}
 use Rattle.rfb_server.proofs.UsingLemmas.{used_next, left_next}
+use Rattle.rfb_server.proofs.ClaimLemmas.{nothing_claimed}
 use Rattle.rfb_server.proofs.MarksLemmas.{caught_drawn}
 use Rattle.rfb_server.proofs.CopyingLemmas.{copies_start, copies_more}
 
@@ -40,16 +45,26 @@ same_then a b c one two = record {
 }
 
 pub same_self : (a : Session) → IsSame a a
-same_self a = record { hello = refl; progress = refl; text_limit = refl; format = refl; encodings = refl; known = refl; area = refl }
+same_self a = record {
+  hello = refl;
+  progress = refl;
+  text_limit = refl;
+  format = refl;
+  encodings = refl;
+  known = refl;
+  area = refl;
+}
 
 -- a session with more marks is about the same screen
-pub about_marked : (screen : Grid Colour) (old new : Session) (rect : Rect) → Follows screen old → IsMarked rect old new → Follows screen new
+pub about_marked : (screen : Grid Colour) (old new : Session) (rect : Rect) → Follows screen old →
+    IsMarked rect old new → Follows screen new
 about_marked screen old new rect about marked = record {
   whole = about.whole;
   alike = rw (marked.same.known) about.alike;
   caught_up = rw (marked.same.known, marked.same.area, marked.same.format)
       (caught_drawn screen screen old.known old.area old.format old.marks new.marks rect old.alike about.alike
       (record { columns = refl; rows = refl; same = λ x y p q e. refl }) marked.marks about.caught_up);
+  claimed = rw (marked.same.known, marked.same.format, marked.claim) about.claimed;
 }
 
 either : (here was : Bool) → was ≡ true → (if here then true else was) ≡ true
@@ -60,10 +75,12 @@ either false was e = e
 pub keeps_marked : (old new : Session) (rect : Rect) → IsMarked rect old new → KeepsMarks old new
 keeps_marked old new rect marked = λ x y p q e.
     ap (λ (g : Grid Bool). is_in g x y) marked.marks
-    ∙ (at-filled rect true old.marks x y false old.alike.marks_whole p q ∙ either (contains rect x y) (is_in old.marks x y) e)
+    ∙ (at-filled rect true old.marks x y false old.alike.marks_whole p q
+    ∙ either (contains rect x y) (is_in old.marks x y) e)
 
 -- where a hint copies to is marked then
-pub marked_for : (screen : Grid Colour) (old new : Session) (hint : Hint) → Follows screen old → IsMarked hint.to old new → IsMarkedFor screen new hint
+pub marked_for : (screen : Grid Colour) (old new : Session) (hint : Hint) → Follows screen old →
+    IsMarked hint.to old new → IsMarkedFor screen new hint
 marked_for screen old new hint about marked = λ on x y c.
     let (a, b, d, e) = contains_true hint.to x y c in
     let wide : x < old.marks.width = omega (arith, b, on.0, about.alike.columns, old.alike.marks_wide) in
@@ -72,7 +89,8 @@ marked_for screen old new hint about marked = λ on x y c.
     ∙ (at-filled hint.to true old.marks x y false old.alike.marks_whole wide high ∙ (rw c refl))
 
 -- and stays so
-pub marked_on : (screen : Grid Colour) (old new : Session) (hint : Hint) → Follows screen old → KeepsMarks old new → IsMarkedFor screen old hint →
+pub marked_on : (screen : Grid Colour) (old new : Session) (hint : Hint) → Follows screen old → KeepsMarks old new →
+    IsMarkedFor screen old hint →
     IsMarkedFor screen new hint
 marked_on screen old new hint about keeps marked = λ on x y c.
     let (a, b, d, e) = contains_true hint.to x y c in
@@ -87,12 +105,18 @@ state_same screen old new same = rw (same.known, same.area, same.format, same.en
 -- ---- one copy
 
 -- a place that is not marked is not copied to
-pub about_copied : (screen : Grid Colour) (old new : Session) (to : Rect) (sx sy : ℕ) → Follows screen old → IsFree old to →
-    IsKept old new → new.known ≡ copied to sx sy old.known → Follows screen new
-about_copied screen old new to sx sy about free kept e = record {
+pub about_copied : (screen : Grid Colour) (old new : Session) (to : Rect) (sx sy : ℕ) →
+    Follows screen old → IsFree old to →
+    old.claim ≡ None → IsKept old new → new.known ≡ copied to sx sy old.known → Follows screen new
+about_copied screen old new to sx sy about free unclaimed kept e = record {
   whole = about.whole;
-  alike = rw e (record { columns = about.alike.columns ∙ sym (width-changed _ old.known); rows = about.alike.rows ∙ sym (height-changed _ old.known) });
-  caught_up = rw (e, kept.area, kept.format, kept.marks) (record { right = right; not_whole = about.caught_up.not_whole });
+  alike = rw e (record {
+    columns = about.alike.columns ∙ sym (width-changed _ old.known);
+    rows = about.alike.rows ∙ sym (height-changed _ old.known);
+  });
+  caught_up =
+      rw (e, kept.area, kept.format, kept.marks) (record { right = right; not_whole = about.caught_up.not_whole });
+  claimed = nothing_claimed screen new.known new.format new.claim (kept.claim ∙ unclaimed);
 }
   where
     outside : (x y : ℕ) → (here : Bool) → contains to x y ≡ here → is_in old.marks x y ≡ false → here ≡ false
@@ -103,11 +127,13 @@ about_copied screen old new to sx sy about free kept e = record {
         at_or (copied to sx sy old.known) x y None ≡ Some (wanted_at screen old.format x y)
     right x y p q e =
         let out : contains to x y ≡ false = outside x y (contains to x y) refl e in
-        at-changed (λ i j (was : Option ℕ). if contains to i j then at_or old.known (sx + (i - to.x)) (sy + (j - to.y)) was else was) old.known x y None
+        at-changed (λ i j (was : Option ℕ). if contains to i j
+        then at_or old.known (sx + (i - to.x)) (sy + (j - to.y)) was else was) old.known x y None
         old.alike.known_whole (rw (← old.alike.marks_wide) p) (rw (← old.alike.marks_high) q)
         ∙ ((rw out refl) ∙ about.caught_up.right x y p q e)
 
-pub alike_copied : (known : Grid (Option ℕ)) (session : Session) (to : Rect) (sx sy : ℕ) → known ≡ copied to sx sy session.known →
+pub alike_copied : (known : Grid (Option ℕ)) (session : Session) (to : Rect) (sx sy : ℕ) →
+    known ≡ copied to sx sy session.known →
     AreAlike known session.area session.marks
 alike_copied known session to sx sy e =
     rw e
@@ -138,7 +164,8 @@ pub state_copied : (screen : Grid Colour) (first old : Session) → IsKept first
     state_of screen old ≡ record (state_of screen first) { known = old.known }
 state_copied screen first old kept = rw (kept.area, kept.format, kept.encodings) refl
 
-pub copies_begin : (screen : Grid Colour) (session : Session) (bytes : List ℕ) → AppendsCopies screen 0 session session bytes bytes 0
+pub copies_begin : (screen : Grid Colour) (session : Session) (bytes : List ℕ) →
+    AppendsCopies screen 0 session session bytes bytes 0
 copies_begin screen session bytes = record {
   moves = [];
   copies = [];
@@ -158,12 +185,18 @@ module _ (screen : Grid Colour) (first old new : Session) (start before after : 
   moved_here = copies.taken.moved_is ∙ sym (state_copied screen first old kept)
 
   -- where the hint copies to is marked, so of use it is where it is useful
-  of_no_use : (IsUseful screen old hint → ⊥) → IsOfUse (all_moved copies.moves (state_of screen first)) (move_of hint) → ⊥
+  of_no_use : (IsUseful screen old hint → ⊥) →
+      IsOfUse (all_moved copies.moves (state_of screen first)) (move_of hint) → ⊥
   of_no_use never good =
-      let now : IsOfUse (state_of screen old) (move_of hint) = subst (λ (t : ServerState). IsOfUse t (move_of hint)) moved_here good in
+      let now : IsOfUse (state_of screen old) (move_of hint) =
+      subst (λ (t : ServerState). IsOfUse t (move_of hint)) moved_here good in
       never (record {
         gain = now.gain;
-        free = record { asked = now.asked; not_whole = now.not_whole; marked = λ x y c. rw (kept.marks) (marked now.gain.on_screen x y c) };
+        free = record {
+          asked = now.asked;
+          not_whole = now.not_whole;
+          marked = λ x y c. rw (kept.marks) (marked now.gain.on_screen x y c);
+        };
       })
 
   of_use : IsUseful screen old hint → IsOfUse (all_moved copies.moves (state_of screen first)) (move_of hint)
@@ -188,7 +221,11 @@ module _ (screen : Grid Colour) (first old new : Session) (start before after : 
       subst (λ (t : ServerState). IsGain t (move_of hint)) (state_copied screen first old kept) useful.gain in
       let free : (x y : ℕ) → contains hint.to x y ≡ true → (is_asked s x y ≡ true) × (is_whole s x y ≡ false) =
       λ x y c. (rw (← kept.area) (useful.free.asked x y c), rw (← kept.area) (useful.free.not_whole x y c)) in
-      let part : Part = record { head = record { rect = hint.to; encoding = CopyRect }; contents = Source hint.sx hint.sy; body = appends.copied.body } in
+      let part : Part = record {
+        head = record { rect = hint.to; encoding = CopyRect };
+        contents = Source hint.sx hint.sy;
+        body = appends.copied.body;
+      } in
       record {
         moves = copies.moves ++ move_of hint ∷ [];
         copies = copies.copies ++ part ∷ [];
@@ -196,6 +233,7 @@ module _ (screen : Grid Colour) (first old new : Session) (start before after : 
         appended = appends.appended ∙ (rw (copies.appended) (append_assoc start copies.bytes appends.bytes));
         count_is = rw (length-append copies.copies (part ∷ [])) (omega (arith, copies.count_is));
         taken = rw known
-            (copies_more s copies.moves copies.copies old.known copies.bytes appends.bytes (move_of hint) about.alike copies.taken gain free listed appends.copied);
+            (copies_more s copies.moves copies.copies old.known copies.bytes appends.bytes (move_of hint) about.alike
+            copies.taken gain free listed appends.copied);
         used = used_next (state_of screen first) first.hints.items n copies.moves hint this copies.used (of_use useful);
       }

@@ -1,5 +1,6 @@
 -- Copies at the front of an update.
-use Rattle.std.proofs.Common.{◌≡◌, ℕ, ◌+◌, ◌-◌, ◌<◌, ◌&&◌, ◌||◌, Bool, true, false, not, List, [], ◌∷◌, ◌++◌, length, map, Option, None, if◌then◌else◌, refl, sym, ap, subst, ◌∙◌, arith, inl, inr, append-nil}
+use Rattle.std.proofs.Common.{◌≡◌, ℕ, ◌+◌, ◌-◌, ◌<◌, ◌&&◌, ◌||◌, Bool, true, false, not, List, [], ◌∷◌, ◌++◌, length}
+use Rattle.std.proofs.Common.{map, Option, None, if◌then◌else◌, refl, sym, ap, subst, ◌∙◌, arith, inl, inr, append-nil}
 use Rattle.std.proofs.lemmas.Bool.{or_cases, or_left}
 use Rattle.rfb_pixel.specs.declared.colour.Colour.{Colour}
 use Rattle.rfb_picture.specs.Rect.{contains}
@@ -14,25 +15,30 @@ use Rattle.rfb_codec.proofs.EffectLaws.{effect_painted, effects_picture, agrees_
 use Rattle.rfb_server.specs.Encodings.{is_listed}
 use Rattle.rfb_server.specs.Server.{ServerState}
 use Rattle.rfb_server.specs.Request.{wanted, recorded, is_asked, is_whole, differs}
-use Rattle.rfb_server.specs.Composing.{Part, Move, sent_as, between, moved, all_moved, is_right, IsGain, AllGain, IsCopy, AreCopies, HasItsData, IsPlace, is_in_some, IsDue}
+use Rattle.rfb_server.specs.Composing.{Part, Move, sent_as, between, moved, all_moved, is_right, IsGain, AllGain}
+use Rattle.rfb_server.specs.Composing.{IsCopy, AreCopies, HasItsData, IsPlace, is_in_some, IsDue}
 use Rattle.rfb_server.specs.inside.Copies.{Copies, IsCopied}
 use Rattle.rfb_server.proofs.SendsLemmas.{effects_push, spelled_push, data_push, in_push}
 use Rattle.rfb_server.proofs.CountLemmas.{missing_in_rows}
 
-moved_push : (moves : List Move) (move : Move) (s : ServerState) → all_moved (moves ++ move ∷ []) s ≡ moved move (all_moved moves s)
+moved_push : (moves : List Move) (move : Move) (s : ServerState) →
+    all_moved (moves ++ move ∷ []) s ≡ moved move (all_moved moves s)
 moved_push [] move s = refl
 moved_push (first ∷ moves) move s = moved_push moves move (moved first s)
 
-gains_push : (moves : List Move) (move : Move) (s : ServerState) → AllGain s moves → IsGain (all_moved moves s) move → AllGain s (moves ++ move ∷ [])
+gains_push : (moves : List Move) (move : Move) (s : ServerState) → AllGain s moves → IsGain (all_moved moves s) move →
+    AllGain s (moves ++ move ∷ [])
 gains_push [] move s all one = (one, tt)
 gains_push (first ∷ moves) move s (here, rest) one = (here, gains_push moves move (moved first s) rest one)
 
-copies_push : (moves : List Move) (copies : List Part) (move : Move) (part : Part) → AreCopies moves copies → IsCopy move part →
+copies_push : (moves : List Move) (copies : List Part) (move : Move) (part : Part) →
+    AreCopies moves copies → IsCopy move part →
     AreCopies (moves ++ move ∷ []) (copies ++ part ∷ [])
 copies_push [] [] move part all one = (one, tt)
 copies_push [] (copy ∷ copies) move part all one = absurd all
 copies_push (first ∷ moves) [] move part all one = absurd all
-copies_push (first ∷ moves) (copy ∷ copies) move part (here, rest) one = (here, copies_push moves copies move part rest one)
+copies_push (first ∷ moves) (copy ∷ copies) move part (here, rest) one =
+    (here, copies_push moves copies move part rest one)
 
 pub copies_start : (s : ServerState) → IsGrid s.known → Copies s [] [] s.known []
 copies_start s whole = record {
@@ -49,22 +55,43 @@ copies_start s whole = record {
   others = λ x y p e. refl;
 }
 
-module _ (s : ServerState) (moves : List Move) (copies : List Part) (known : Grid (Option ℕ)) (bytes more : List ℕ) (move : Move) where
+module _ (s : ServerState) (moves : List Move) (copies : List Part) (known : Grid (Option ℕ))
+    (bytes more : List ℕ) (move : Move) where
   -- one copy more
-  pub copies_more : IsAlike s.screen s.known → Copies s moves copies known bytes → IsGain (record s { known = known }) move →
+  pub copies_more : IsAlike s.screen s.known → Copies s moves copies known bytes →
+      IsGain (record s { known = known }) move →
       ((x y : ℕ) → contains move.to x y ≡ true → (is_asked s x y ≡ true) × (is_whole s x y ≡ false)) →
       is_listed CopyRect s.encodings ≡ true → (copy : IsCopied move.to move.sx move.sy more) →
-      Copies s (moves ++ move ∷ []) (copies ++ record { head = record { rect = move.to; encoding = CopyRect }; contents = Source move.sx move.sy; body = copy.body } ∷ [])
+      Copies s (moves ++ move ∷ []) (copies ++ record {
+        head = record { rect = move.to; encoding = CopyRect };
+        contents = Source move.sx move.sy;
+        body = copy.body;
+      } ∷ [])
       (copied move.to move.sx move.sy known) (bytes ++ more)
   copies_more size taken gain free listed copy = record {
     moved_is = moved_push moves move s ∙ ap (moved move) taken.moved_is;
     whole = whole-changed _ known taken.whole;
-    alike = record { columns = taken.alike.columns ∙ sym (width-changed _ known); rows = taken.alike.rows ∙ sym (height-changed _ known) };
-    spelled = spelled_push s copies part bytes more taken.spelled
-        (more, [], sym (append-nil more), record { front = copy.head; whole = copy.whole; head_is = copy.head_is; on_screen = gain.on_screen; body_is = (Source move.sx move.sy, data_is) }, refl);
+    alike = record {
+      columns = taken.alike.columns ∙ sym (width-changed _ known);
+      rows = taken.alike.rows ∙ sym (height-changed _ known);
+    };
+    spelled = spelled_push s copies part bytes more taken.spelled (
+      more,
+      [],
+      sym (append-nil more),
+      record {
+        front = copy.head;
+        whole = copy.whole;
+        head_is = copy.head_is;
+        on_screen = gain.on_screen;
+        body_is = (Source move.sx move.sy, data_is);
+      },
+      refl,
+    );
     data_are = data_push s copies part taken.data_are data_is;
     agrees = agrees;
-    copies_are = copies_push moves copies move part taken.copies_are (record { rect_is = refl; encoding_is = refl; contents_are = refl });
+    copies_are = copies_push moves copies move part taken.copies_are
+        (record { rect_is = refl; encoding_is = refl; contents_are = refl });
     copies_listed = λ _. listed;
     gains = gains_push moves move s taken.gains (subst (λ (t : ServerState). IsGain t move) (sym taken.moved_is) gain);
     free = λ x y p e.
@@ -78,7 +105,11 @@ module _ (s : ServerState) (moves : List Move) (copies : List Part) (known : Gri
   }
     where
       part : Part
-      part = record { head = record { rect = move.to; encoding = CopyRect }; contents = Source move.sx move.sy; body = copy.body }
+      part = record {
+        head = record { rect = move.to; encoding = CopyRect };
+        contents = Source move.sx move.sy;
+        body = copy.body;
+      }
 
       data_is : HasItsData s part
       data_is = (copy.body_is, gain.source_on_screen)
@@ -95,17 +126,29 @@ module _ (s : ServerState) (moves : List Move) (copies : List Part) (known : Gri
       at_copied x y p true e out = absurd cc
       at_copied x y p false e out =
           let (a, b) = in_known x y p in
-          at-changed (λ i j (old : Option ℕ). if contains move.to i j then at_or known (move.sx + (i - move.to.x)) (move.sy + (j - move.to.y)) old else old) known x y None taken.whole a b ∙ (rw e refl)
+          at-changed (λ i j (old : Option ℕ). if contains move.to i j then at_or known (move.sx + (i - move.to.x))
+          (move.sy + (j - move.to.y)) old else old) known x y None taken.whole a b ∙ (rw e refl)
 
       agrees : (picture : Grid Colour) → IsGrid picture → IsAlike picture s.known → Agrees s.form picture s.known →
-          Agrees s.form (effects (between s) (map item_of (map sent_as (copies ++ part ∷ []))) picture) (copied move.to move.sx move.sy known)
+          Agrees s.form (effects (between s) (map item_of (map sent_as (copies ++ part ∷ []))) picture)
+          (copied move.to move.sx move.sy known)
       agrees picture whole alike before =
           let shown : Grid Colour = effects (between s) (map item_of (map sent_as copies)) picture in
           let kept = effects_picture (between s) (map item_of (map sent_as copies)) picture in
-          let fits : IsAlike shown known = record { columns = kept.columns ∙ (alike.columns ∙ taken.alike.columns); rows = kept.rows ∙ (alike.rows ∙ taken.alike.rows) } in
-          let held : Holds known (moved_to move.sx move.sy move.to) = (rw (← taken.alike.columns, ← size.columns) gain.source_on_screen.0, rw (← taken.alike.rows, ← size.rows) gain.source_on_screen.1) in
-          rw (effects_push s copies part picture, effect_painted (between s) part.head part.contents part.body shown data_is)
-          (agrees_copied s.form move.to shown known move.sx move.sy (kept.whole whole) taken.whole fits held (taken.agrees picture whole alike before))
+          let fits : IsAlike shown known = record {
+            columns = kept.columns ∙ (alike.columns ∙ taken.alike.columns);
+            rows = kept.rows ∙ (alike.rows ∙ taken.alike.rows);
+          } in
+          let held : Holds known (moved_to move.sx move.sy move.to) = (
+            rw (← taken.alike.columns, ← size.columns) gain.source_on_screen.0,
+            rw (← taken.alike.rows, ← size.rows) gain.source_on_screen.1,
+          ) in
+          rw (
+            effects_push s copies part picture,
+            effect_painted (between s) part.head part.contents part.body shown data_is,
+          )
+          (agrees_copied s.form move.to shown known move.sx move.sy (kept.whole whole) taken.whole fits held
+          (taken.agrees picture whole alike before))
 
 -- ---- whether an update is due
 
@@ -116,28 +159,35 @@ needing true false false a e = absurd cc
 needing false whole differing a e = absurd cc
 
 -- a copy that gains has a place that needs sending
-pub copied_due : (s : ServerState) (moves : List Move) (copies : List Part) (known : Grid (Option ℕ)) (bytes : List ℕ) → s.point ≡ Second tt →
+pub copied_due : (s : ServerState) (moves : List Move) (copies : List Part) (known : Grid (Option ℕ)) (bytes : List ℕ) →
+    s.point ≡ Second tt →
     (length copies ≡ 0 → ⊥) → Copies s moves copies known bytes → IsDue s
 copied_due s moves [] known bytes ready some taken = absurd (some refl)
 copied_due s [] (copy ∷ copies) known bytes ready some taken = absurd taken.copies_are
 copied_due s (move ∷ moves) (copy ∷ copies) known bytes ready some taken =
     let gain : IsGain s move = taken.gains.0 in
     let is : IsCopy move copy = taken.copies_are.0 in
-    let (i, j, a, b, wrong) = missing_in_rows (is_right s) (is_right (moved move s)) move.to.x move.to.y move.to.w move.to.h gain.more_right in
-    let place : IsPlace s (move.to.x + i) (move.to.y + j) = (omega (arith, gain.on_screen), omega (arith, gain.on_screen)) in
+    let (i, j, a, b, wrong) = missing_in_rows (is_right s) (is_right (moved move s)) move.to.x move.to.y
+    move.to.w move.to.h gain.more_right in
+    let place : IsPlace s (move.to.x + i) (move.to.y + j) =
+    (omega (arith, gain.on_screen), omega (arith, gain.on_screen)) in
     let inside : contains copy.head.rect (move.to.x + i) (move.to.y + j) ≡ true =
-    rw (is.rect_is) (contains_row move.to (move.to.x + i) (move.to.y + j) (omega arith) (omega arith) (omega arith) (omega arith)) in
-    let free = taken.free (move.to.x + i) (move.to.y + j) place (or_left (contains copy.head.rect (move.to.x + i) (move.to.y + j)) (is_in_some copies (move.to.x + i) (move.to.y + j)) inside) in
+    rw (is.rect_is) (contains_row move.to (move.to.x + i) (move.to.y + j) (omega arith) (omega arith)
+    (omega arith) (omega arith)) in
+    let free = taken.free (move.to.x + i) (move.to.y + j) place (or_left (contains copy.head.rect (move.to.x + i)
+    (move.to.y + j)) (is_in_some copies (move.to.x + i) (move.to.y + j)) inside) in
     record {
       ready = ready;
       x = move.to.x + i;
       y = move.to.y + j;
       is_place = place;
       needs = needing (is_asked s (move.to.x + i) (move.to.y + j)) (is_whole s (move.to.x + i) (move.to.y + j))
-          (differs (wanted s (move.to.x + i) (move.to.y + j)) (recorded s (move.to.x + i) (move.to.y + j))) free.0 wrong;
+          (differs (wanted s (move.to.x + i) (move.to.y + j)) (recorded s (move.to.x + i) (move.to.y + j))) free.0
+          wrong;
     }
 
 -- where nothing is copied nothing more is known
-pub none_copied : (s : ServerState) (moves : List Move) (known : Grid (Option ℕ)) (bytes : List ℕ) → Copies s moves [] known bytes → known ≡ s.known
+pub none_copied : (s : ServerState) (moves : List Move) (known : Grid (Option ℕ)) (bytes : List ℕ) →
+    Copies s moves [] known bytes → known ≡ s.known
 none_copied s [] known bytes taken = ap (λ (t : ServerState). t.known) (sym taken.moved_is)
 none_copied s (move ∷ moves) known bytes taken = absurd taken.copies_are

@@ -1,19 +1,21 @@
 -- What a drawing changes lies in its rectangle, and that one lies on the screen.
-use Rattle.std.proofs.Common.{◌≡◌, ◌+◌, ◌-◌, ◌*◌, arith, if◌then◌else◌, length, refl}
+use Rattle.std.proofs.Common.{◌≡◌, ◌+◌, ◌-◌, ◌*◌, arith, if◌then◌else◌, length, refl, subst, Some, None}
 use Rattle.std.specs.Prelude.{slice_index_or}
 use Rattle.rfb_pixel.specs.declared.colour.Colour.{Colour}
 use Rattle.rfb_pixel.specs.Bytes.{byte_colour}
 use Rattle.rfb_pixel.specs.Format.{colour_of}
 use Rattle.rfb_picture.specs.Rect.{contains, scrolled_to, scrolled_from}
-use Rattle.rfb_picture.specs.Grid.{Grid, IsGrid, Holds, at_or}
+use Rattle.rfb_picture.specs.Grid.{Grid, IsGrid, Holds, at_or, copied, scrolled}
 use Rattle.rfb_picture.proofs.GridLaws.{whole-changed, width-changed, height-changed}
 use Rattle.rfb_picture.proofs.ScrollLaws.{holds_scrolled_to}
 use Rattle.rfb_codec.specs.Raw.{raw_pixel}
 use Rattle.rfb_server.specs.declared.session.Session.{Session}
 use Rattle.rfb_server.specs.Standing.{row_from}
-use Rattle.rfb_server.specs.Following.{Follows, IsSameOutside}
+use Rattle.rfb_server.specs.declared.hint.Hint.{Hint as HintOf}
+use Rattle.rfb_server.specs.Hints.{scroll_hint}
+use Rattle.rfb_server.specs.Following.{Follows, IsSameOutside, IsCopied, IsTold}
 use Rattle.rfb_server.specs.Drawing.{Stroke, Fill, Put, Rows, Pixels, Bytes, Copy, Scroll, Hint, IsInside}
-use Rattle.rfb_server.specs.Drawing.{drawn_by, area_of}
+use Rattle.rfb_server.specs.Drawing.{drawn_by, area_of, copy_of, notice_of}
 use Rattle.rfb_server.proofs.FollowingLaws.{outside_changed}
 
 -- its rectangle lies on the screen
@@ -87,10 +89,36 @@ drawn_outside (Scroll area dx dy) screen whole =
     (y - to.y)) old else old) screen whole (λ x y old e. rw e refl)
 drawn_outside (Hint area sx sy) screen whole = record { columns = refl; rows = refl; same = λ x y p q e. refl }
 
+none_told : (copy : HintOf) → None ≡ Some copy → ⊥
+none_told copy e = cc
+
+-- where it is told as a copy, it is that
+drawn_copied : (s : Stroke) (screen : Grid Colour) → IsCopied (copy_of s) screen (drawn_by s screen)
+drawn_copied (Fill area colour) screen = λ copy e. absurd (none_told copy e)
+drawn_copied (Put x y row) screen = λ copy e. absurd (none_told copy e)
+drawn_copied (Rows area rows) screen = λ copy e. absurd (none_told copy e)
+drawn_copied (Pixels area form bytes) screen = λ copy e. absurd (none_told copy e)
+drawn_copied (Bytes area bytes) screen = λ copy e. absurd (none_told copy e)
+drawn_copied (Copy area sx sy) screen = λ copy e.
+    let same : record { to = area; sx = sx; sy = sy } ≡ copy = cc in
+    subst (λ (c : HintOf). copied area sx sy screen ≡ copied c.to c.sx c.sy screen) same refl
+drawn_copied (Scroll area dx dy) screen = λ copy e.
+    let same : scroll_hint area dx dy ≡ copy = cc in
+    subst (λ (c : HintOf). scrolled area dx dy screen ≡ copied c.to c.sx c.sy screen) same refl
+drawn_copied (Hint area sx sy) screen = λ copy e. absurd (none_told copy e)
+
+-- it is what its notice says
+pub drawn_told : (s : Stroke) (screen : Grid Colour) → IsGrid screen →
+    IsTold (notice_of s) screen (drawn_by s screen)
+drawn_told s screen whole = record {
+  whole = whole_drawn s screen whole;
+  outside = drawn_outside s screen whole;
+  copied = drawn_copied s screen;
+}
+
 -- a session that was told of it follows the screen that it leaves
 pub follows_stroke : (s : Stroke) (old new : Session) (screen : Grid Colour) → Follows screen old →
-    ((before after : Grid Colour) → Follows before old → IsGrid after → IsSameOutside (area_of s) before after →
-    Follows after new) →
+    ((before after : Grid Colour) → Follows before old → IsTold (notice_of s) before after → Follows after new) →
     Follows (drawn_by s screen) new
 follows_stroke s old new screen follows told =
-    told screen (drawn_by s screen) follows (whole_drawn s screen follows.whole) (drawn_outside s screen follows.whole)
+    told screen (drawn_by s screen) follows (drawn_told s screen follows.whole)

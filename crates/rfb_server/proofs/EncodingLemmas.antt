@@ -1,5 +1,6 @@
 -- Lists of encodings, each once: what one more makes of them, and that there is room for it.
-use Rattle.std.proofs.Common.{Bool, List, [], ap, arith, false, get_or, if◌then◌else◌, length, refl, suc, take, true, zero, ℕ, ◌++◌, ◌+◌, ◌<◌, ◌||◌, ◌∙◌, ◌∷◌, ◌≡◌, ◌≤◌}
+use Rattle.std.proofs.Common.{Bool, List, [], ap, arith, false, get_or, if◌then◌else◌, length, refl, suc, take, true}
+use Rattle.std.proofs.Common.{zero, ℕ, ◌++◌, ◌+◌, ◌<◌, ◌||◌, ◌∙◌, ◌∷◌, ◌≡◌, ◌≤◌}
 use Rattle.std.proofs.lemmas.List.{take_more}
 use Rattle.rfb_wire.specs.declared.encoding.Encoding.{Encoding}
 use Rattle.rfb_wire.specs.declared.encoding.Encoding.TheVariants.{Raw, CopyRect, Rre, Hextile}
@@ -37,11 +38,14 @@ neither true b h = cc
 neither false b h = (refl, h)
 
 -- one encoding more at the end
-pub listed_more : (e : Encoding) (xs : List Encoding) (y : Encoding) → is_listed e (xs ++ y ∷ []) ≡ (is_listed e xs || is_same e y)
+pub listed_more : (e : Encoding) (xs : List Encoding) (y : Encoding) →
+    is_listed e (xs ++ y ∷ []) ≡ (is_listed e xs || is_same e y)
 listed_more e [] y = or_false (is_same e y)
-listed_more e (x ∷ xs) y = ap (λ (b : Bool). is_same e x || b) (listed_more e xs y) ∙ or_assoc (is_same e x) (is_listed e xs) (is_same e y)
+listed_more e (x ∷ xs) y =
+    ap (λ (b : Bool). is_same e x || b) (listed_more e xs y) ∙ or_assoc (is_same e x) (is_listed e xs) (is_same e y)
 
-times_more : (e : Encoding) (xs : List Encoding) (y : Encoding) → times_listed e (xs ++ y ∷ []) ≡ times_listed e xs + (if is_same e y then 1 else 0)
+times_more : (e : Encoding) (xs : List Encoding) (y : Encoding) →
+    times_listed e (xs ++ y ∷ []) ≡ times_listed e xs + (if is_same e y then 1 else 0)
 times_more e [] y = omega arith
 times_more e (x ∷ xs) y = omega (arith, times_more e xs y)
 
@@ -60,7 +64,8 @@ once_more e xs once h = λ a. rw (times_more a xs e) (by_same a (is_same a e) re
     by_same a false s = omega (arith, once a)
 
 -- a list has each encoding as often as it has it
-counted : (xs : List Encoding) → length xs ≡ times_listed Raw xs + times_listed CopyRect xs + times_listed Rre xs + times_listed Hextile xs
+counted : (xs : List Encoding) →
+    length xs ≡ times_listed Raw xs + times_listed CopyRect xs + times_listed Rre xs + times_listed Hextile xs
 counted [] = refl
 counted (Raw ∷ xs) = omega (arith, counted xs)
 counted (CopyRect ∷ xs) = omega (arith, counted xs)
@@ -79,16 +84,19 @@ or_true true = refl
 or_true false = refl
 
 -- an encoding that stands at an index is listed
-pub listed_at : (e : Encoding) (xs : List Encoding) (i : ℕ) (d : Encoding) → i < length xs → is_same e (get_or xs i d) ≡ true → is_listed e xs ≡ true
+pub listed_at : (e : Encoding) (xs : List Encoding) (i : ℕ) (d : Encoding) → i < length xs →
+    is_same e (get_or xs i d) ≡ true → is_listed e xs ≡ true
 listed_at e [] i d l s = absurd (omega arith)
 listed_at e (x ∷ xs) zero d l s = rw s refl
 listed_at e (x ∷ xs) (suc i) d l s = rw (listed_at e xs i d (omega arith) s) (or_true (is_same e x))
 
 -- if none of the first is it, and the next is not, none of these is
-pub none_more : (e : Encoding) (xs : List Encoding) (i : ℕ) (d : Encoding) → i < length xs → is_listed e (take i xs) ≡ false →
+pub none_more : (e : Encoding) (xs : List Encoding) (i : ℕ) (d : Encoding) → i < length xs →
+    is_listed e (take i xs) ≡ false →
     is_same e (get_or xs i d) ≡ false → is_listed e (take (i + 1) xs) ≡ false
 none_more e xs i d l before s =
-    ap (λ (zs : List Encoding). is_listed e zs) (take_more xs i d l) ∙ (listed_more e (take i xs) (get_or xs i d) ∙ (rw (before, s) refl))
+    ap (λ (zs : List Encoding). is_listed e zs) (take_more xs i d l)
+    ∙ (listed_more e (take i xs) (get_or xs i d) ∙ (rw (before, s) refl))
 
 same_self : (e : Encoding) → is_same e e ≡ true
 same_self Raw = refl

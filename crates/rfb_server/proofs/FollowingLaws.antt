@@ -1,14 +1,13 @@
 -- A session that was notified where its screen is drawn on follows the screen that a drawing
 -- leaves.
-use Rattle.std.proofs.Common.{◌≡◌, ℕ, false, sym, subst, ◌∙◌}
+use Rattle.std.proofs.Common.{◌≡◌, ℕ, false, ◌∙◌}
 use Rattle.rfb_pixel.specs.declared.colour.Colour.{Colour}
 use Rattle.rfb_picture.specs.declared.rect.Rect.{Rect}
 use Rattle.rfb_picture.specs.Rect.{contains}
 use Rattle.rfb_picture.specs.Grid.{Grid, IsGrid, at_or, changed}
-use Rattle.rfb_picture.proofs.GridLaws.{at-changed, width-changed, height-changed, whole-changed}
-use Rattle.rfb_server.specs.declared.session.Session.{Session}
+use Rattle.rfb_picture.proofs.GridLaws.{at-changed, width-changed, height-changed}
 use Rattle.rfb_server.specs.Server.{black}
-use Rattle.rfb_server.specs.Following.{IsSameOutside, Follows}
+use Rattle.rfb_server.specs.Following.{IsSameOutside}
 
 -- a change inside a rectangle leaves the places outside
 pub outside_changed : (rect : Rect) (f : ℕ → ℕ → Colour → Colour) (picture : Grid Colour) → IsGrid picture →
@@ -20,14 +19,3 @@ outside_changed rect f picture whole stays =
       rows = height-changed f picture;
       same = λ x y p q e. at-changed f picture x y black whole p q ∙ stays x y (at_or picture x y black) e;
     }
-
--- what holds of every change inside the rectangle holds of this one
-pub follows_changed : (old new : Session) (screen after : Grid Colour) (rect : Rect) (f : ℕ → ℕ → Colour → Colour) →
-    Follows screen old →
-    ((before later : Grid Colour) → Follows before old → IsGrid later → IsSameOutside rect before later → Follows later new) →
-    after ≡ changed f screen →
-    ((x y : ℕ) (c : Colour) → contains rect x y ≡ false → f x y c ≡ c) →
-    Follows after new
-follows_changed old new screen after rect f follows told e stays =
-    subst (λ (g : Grid Colour). Follows g new) (sym e)
-    (told screen (changed f screen) follows (whole-changed f screen follows.whole) (outside_changed rect f screen follows.whole stays))

@@ -1,5 +1,6 @@
 -- Heads of a client's messages that are gathered: which bytes are the beginning of one, and which a whole one.
-use Rattle.std.proofs.Common.{◌≡◌, ℕ, zero, suc, ◌+◌, ◌-◌, ◌<◌, ◌≤◌, Bool, true, List, [], ◌∷◌, ◌++◌, Option, Some, None, length, take, replicate, min, refl, sym, ap, subst, ◌∙◌, length-append, arith}
+use Rattle.std.proofs.Common.{◌≡◌, ℕ, zero, suc, ◌+◌, ◌-◌, ◌<◌, ◌≤◌, Bool, true, List, [], ◌∷◌, ◌++◌, Option, Some}
+use Rattle.std.proofs.Common.{None, length, take, replicate, min, refl, sym, ap, subst, ◌∙◌, length-append, arith}
 use Rattle.std.proofs.lemmas.Bool.Decides.{nat_tests}
 use Rattle.std.proofs.lemmas.List.{length-replicate, length-take-le, take-take, take_all}
 use Rattle.std.proofs.Math.Seq.{take-append-add}
@@ -42,8 +43,10 @@ misses_begun n (first ∷ rest) misses =
     let missing = replicate n 0 in
     let long : length missing ≡ n = length-replicate n 0 in
     let made = misses.1 missing long in
-    let told : client_head_size first ≡ Some (length (first ∷ (rest ++ missing))) = (client_headed.only made.0 (first ∷ (rest ++ missing)) made.1).1 in
-    is_less_than (length (first ∷ rest)) (length (first ∷ (rest ++ missing))) (client_head_size first) told (omega (arith, length-append rest missing, long, misses.0))
+    let told : client_head_size first ≡ Some (length (first ∷ (rest ++ missing))) =
+    (client_headed.only made.0 (first ∷ (rest ++ missing)) made.1).1 in
+    is_less_than (length (first ∷ rest)) (length (first ∷ (rest ++ missing))) (client_head_size first) told
+    (omega (arith, length-append rest missing, long, misses.0))
 
 pub begun_misses : (bytes : List ℕ) → IsHeadBegun bytes → (n : ℕ) × Misses SpellsClientHead n bytes
 begun_misses [] h = (1, refl)
@@ -60,7 +63,8 @@ begun_misses (first ∷ rest) h =
     )
 
 -- a head that stands where one was begun is longer than what was there
-pub head_longer : (part bytes : List ℕ) (size : ℕ) (head : ClientHead) → is_head_begun part ≡ true → size ≤ length (part ++ bytes) →
+pub head_longer : (part bytes : List ℕ) (size : ℕ) (head : ClientHead) → is_head_begun part ≡ true →
+    size ≤ length (part ++ bytes) →
     SpellsClientHead head (take size (part ++ bytes)) → length part < size
 head_longer [] bytes size head e within s =
     let some = (client_headed.only head (take size bytes) s).2 in
@@ -69,16 +73,19 @@ head_longer [] bytes size head e within s =
 head_longer (first ∷ rest) bytes zero head e within s =
     let some = (client_headed.only head [] s).2 in absurd (omega (arith, some))
 head_longer (first ∷ rest) bytes (suc size) head e within s =
-    let told : client_head_size first ≡ Some (length (take (suc size) (first ∷ (rest ++ bytes)))) = (client_headed.only head (take (suc size) (first ∷ (rest ++ bytes))) s).1 in
+    let told : client_head_size first ≡ Some (length (take (suc size) (first ∷ (rest ++ bytes)))) =
+    (client_headed.only head (take (suc size) (first ∷ (rest ++ bytes))) s).1 in
     let count = length-take-le (suc size) (first ∷ (rest ++ bytes)) within in
     let h = less_is (length (first ∷ rest)) (client_head_size first) e in
     let same : h.0 ≡ length (take (suc size) (first ∷ (rest ++ bytes))) = cc in
     omega (arith, h.2, same, count)
 
 -- a request that is all of the bytes after a part of none
-pub request_after : (part bytes : List ℕ) (size : ℕ) (incremental : Bool) (rect : Rect) → length part ≡ 0 → size ≡ length bytes →
+pub request_after : (part bytes : List ℕ) (size : ℕ) (incremental : Bool) (rect : Rect) →
+    length part ≡ 0 → size ≡ length bytes →
     SpellsRequest incremental rect (take size bytes) → SpellsRequest incremental rect (part ++ bytes)
-request_after [] bytes size incremental rect none all s = subst (SpellsRequest incremental rect) (take_all size bytes (omega (arith, all))) s
+request_after [] bytes size incremental rect none all s =
+    subst (SpellsRequest incremental rect) (take_all size bytes (omega (arith, all))) s
 request_after (first ∷ rest) bytes size incremental rect none all s = absurd (omega (arith, none))
 
 -- the first bytes of a part and of what stands after it
@@ -88,10 +95,12 @@ head_taken part bytes k size less within =
     let m = size - length part in
     let whole : length part + m ≡ size = omega (arith, less) in
     let inner : take m (take k bytes) ≡ take m bytes = take-take m k bytes (omega (arith, within, less)) in
-    ap (λ (ys : List ℕ). part ++ ys) (sym inner) ∙ sym (take-append-add part (take k bytes) m) ∙ ap (λ (n : ℕ). take n (part ++ take k bytes)) whole
+    ap (λ (ys : List ℕ). part ++ ys) (sym inner) ∙ sym (take-append-add part (take k bytes) m)
+    ∙ ap (λ (n : ℕ). take n (part ++ take k bytes)) whole
 
 -- a type that no message has is the first byte of all
-pub bad_type : (fault : WireFault) (part bytes : List ℕ) (k : ℕ) → is_head_begun part ≡ true → IsUnknown SpellsClientHead fault (part ++ take k bytes) →
+pub bad_type : (fault : WireFault) (part bytes : List ℕ) (k : ℕ) → is_head_begun part ≡ true →
+    IsUnknown SpellsClientHead fault (part ++ take k bytes) →
     (kind : ℕ) × (fault ≡ UnknownMessage kind) × FaultsClientMessage (UnknownType kind) (part ++ take 1 bytes)
 bad_type (UnknownEncoding number) part bytes k e h = absurd h
 bad_type RectOutside part bytes k e h = absurd h
@@ -118,9 +127,11 @@ bad_type (UnknownMessage kind) [] (b ∷ bytes) (suc k) e h =
 -- ---- a part with as many bytes after it as the longest head has room for
 
 gathered_long : (part bytes : List ℕ) (k : ℕ) → k ≤ length bytes → length (part ++ take k bytes) ≡ length part + k
-gathered_long part bytes k within = length-append part (take k bytes) ∙ ap (λ (n : ℕ). length part + n) (length-take-le k bytes within)
+gathered_long part bytes k within =
+    length-append part (take k bytes) ∙ ap (λ (n : ℕ). length part + n) (length-take-le k bytes within)
 
-pub gathered_more : (part bytes all : List ℕ) (n k : ℕ) → length part < 20 → k ≡ min (length bytes) (20 - length part) → all ≡ part ++ take k bytes → Misses SpellsClientHead n all →
+pub gathered_more : (part bytes all : List ℕ) (n k : ℕ) → length part < 20 → k ≡ min (length bytes) (20 - length part) →
+    all ≡ part ++ take k bytes → Misses SpellsClientHead n all →
     (length part + length bytes ≤ 20) × (all ≡ part ++ take (length bytes) bytes) × (is_head_begun all ≡ true)
 gathered_more part bytes all n k few is e misses =
     let begun = misses_begun n all misses in
@@ -130,12 +141,19 @@ gathered_more part bytes all n k few is e misses =
     let whole : k ≡ length bytes = omega (arith, is, long, short, few) in
     (omega (arith, long, short, whole), e ∙ ap (λ (j : ℕ). part ++ take j bytes) whole, begun)
 
-pub gathered_got : (part bytes all : List ℕ) (k size : ℕ) (head : ClientHead) → is_head_begun part ≡ true → k ≤ length bytes → all ≡ part ++ take k bytes →
+pub gathered_got : (part bytes all : List ℕ) (k size : ℕ) (head : ClientHead) → is_head_begun part ≡ true →
+    k ≤ length bytes → all ≡ part ++ take k bytes →
     size ≤ length all → SpellsClientHead head (take size all) →
-    (length part < size) × (size ≤ length part + length bytes) × SpellsClientHead head (part ++ take (size - length part) bytes)
+    (length part < size) × (size ≤ length part + length bytes)
+    × SpellsClientHead head (part ++ take (size - length part) bytes)
 gathered_got part bytes all k size head begun within e fits s =
-    let spelled : SpellsClientHead head (take size (part ++ take k bytes)) = subst (λ (zs : List ℕ). SpellsClientHead head (take size zs)) e s in
+    let spelled : SpellsClientHead head (take size (part ++ take k bytes)) =
+    subst (λ (zs : List ℕ). SpellsClientHead head (take size zs)) e s in
     let fits_there : size ≤ length (part ++ take k bytes) = subst (λ (zs : List ℕ). size ≤ length zs) e fits in
     let long = gathered_long part bytes k within in
-    let less = head_longer part (take k bytes) size head begun fits_there spelled in
-    (less, omega (arith, fits_there, long, within), subst (λ (zs : List ℕ). SpellsClientHead head zs) (sym (head_taken part bytes k size less (omega (arith, fits_there, long)))) spelled)
+    let less = head_longer part (take k bytes) size head begun fits_there spelled in (
+      less,
+      omega (arith, fits_there, long, within),
+      subst (λ (zs : List ℕ). SpellsClientHead head zs)
+          (sym (head_taken part bytes k size less (omega (arith, fits_there, long)))) spelled,
+    )

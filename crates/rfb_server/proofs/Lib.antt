@@ -4,6 +4,11 @@ pub mod RecordLemmas
 pub mod ComposingLaws
 pub mod FollowingLaws
 pub mod DrawingLaws
+pub mod StaleLemmas
+pub mod ClaimLemmas
+pub mod ChainLemmas
+pub mod LedOnLemmas
+pub mod UnclaimedLemmas
 pub mod MarksLemmas
 pub mod EnteringLemmas
 pub mod GreetLemmas
@@ -40,3 +45,5 @@ pub mod QuietLemmas
 mod NeedingBits
 mod NeededLemmas
 mod SingleLemmas
+pub mod ClaimedCountLemmas
+pub mod ClaimedRowLemmas

@@ -1,5 +1,7 @@
 -- Which places of a row need sending, by the bits of sets and the pixels that are known.
-use Rattle.std.proofs.Common.{List, ◌≡◌, ◌∙◌, ℕ, ◌+◌, ◌-◌, ◌*◌, ◌/◌, ◌%◌, ◌^◌, ◌<◌, ◌≤◌, ◌&&◌, ◌||◌, ◌==◌, subst, Bool, true, false, not, nat_le, nat_lt, bit_and, bit_or, Option, Some, None, length, map, slice_index, sym, ap, refl, arith}
+use Rattle.std.proofs.Common.{List, ◌≡◌, ◌∙◌, ℕ, ◌+◌, ◌-◌, ◌*◌, ◌/◌, ◌%◌, ◌^◌, ◌<◌, ◌≤◌, ◌&&◌, ◌||◌, ◌==◌, subst, Bool}
+use Rattle.std.proofs.Common.{true, false, not, nat_le, nat_lt, bit_and, bit_or, Option, Some, None, length, map}
+use Rattle.std.proofs.Common.{slice_index, sym, ap, refl, arith}
 use Rattle.std.specs.Int.{w64, trailing_zeros, leading_zeros}
 use Rattle.std.specs.Int.Bits.{and_lt}
 use Rattle.std.proofs.lemmas.Bool.{both_ways}
@@ -34,35 +36,42 @@ within x width l = grind (arith, nat_tests)
 -- ---- a row of pixels
 
 -- the differences of the pixels of a row from those of the screen, moved to their columns
-pub other_told : (screen : Grid Colour) (form : PixelFormat) (known : Grid (Option ℕ)) (pixels : Grid ℕ) (y from to word : ℕ) →
-    from < to → to ≤ from / 64 * 64 + 64 → to ≤ known.width → y < known.height → ShowsKnown known pixels → (fits : word < 2 ^ 64) →
+pub other_told : (screen : Grid Colour) (form : PixelFormat) (known : Grid (Option ℕ))
+    (pixels : Grid ℕ) (y from to word : ℕ) →
+    from < to → to ≤ from / 64 * 64 + 64 → to ≤ known.width → y < known.height →
+    ShowsKnown known pixels → (fits : word < 2 ^ 64) →
     TellsDifferences (row_of pixels from y (to - from)) (map (pixel_of form) (row_of screen from y (to - from))) word →
     length (row_of pixels from y (to - from)) ≡ to - from → length (row_of screen from y (to - from)) ≡ to - from →
     TellsOther (wanted_at screen form) known y from to (word * 2 ^ (from % 64) % 2 ^ 64)
-other_told screen form known pixels y from to word some cell columns row shows fits told long long_screen i pixel low a b is =
+other_told screen form known pixels y from to word some cell columns row shows fits told long
+    long_screen i pixel low a b is =
     let k = from % 64 in
     let j = i - from % 64 in
     let x = from / 64 * 64 + i in
     let place : from + j ≡ x = omega arith in
     let inside : j < to - from = omega arith in
     let old : slice_index (row_of pixels from y (to - from)) j ≡ pixel =
-    slice_index_or-row_of pixels from y (to - from) j 0 inside ∙ ap (λ c. at_or pixels c y 0) place ∙ shows x y pixel (omega (arith, columns)) row is in
+    slice_index_or-row_of pixels from y (to - from) j 0 inside ∙ ap (λ c. at_or pixels c y 0) place
+    ∙ shows x y pixel (omega (arith, columns)) row is in
     let new : slice_index (map (pixel_of form) (row_of screen from y (to - from))) j ≡ wanted_at screen form x y =
     get_or-map (pixel_of form) (row_of screen from y (to - from)) j black 0 (omega (arith, inside, long_screen))
-    ∙ ap (pixel_of form) (slice_index_or-row_of screen from y (to - from) j black inside ∙ ap (λ c. at_or screen c y black) place) in
+    ∙ ap (pixel_of form) (slice_index_or-row_of screen from y (to - from) j black inside
+    ∙ ap (λ c. at_or screen c y black) place) in
     let reached : nat_lt j (length (row_of pixels from y (to - from))) ≡ true = rw long (within j (to - from) inside) in
     has_bit-up word k i low (omega arith) ∙ told j (omega arith) ∙ (λ h. reached h && not (old h == new h))
 
 -- two rows that are the same have no differences
 none_differs : (a b : List ℕ) → a ≡ b → TellsDifferences a b 0
 none_differs a b e = λ i low.
-    rw (bit_at-zero i) (sym (by_place (nat_lt i (length a)) (slice_index a i) (slice_index b i) (ap (λ (l : List ℕ). slice_index l i) e)))
+    rw (bit_at-zero i) (sym (by_place (nat_lt i (length a)) (slice_index a i) (slice_index b i)
+    (ap (λ (l : List ℕ). slice_index l i) e)))
   where
     by_place : (inside : Bool) (v w : ℕ) → v ≡ w → (inside && not (v == w)) ≡ false
     by_place false v w same = refl
     by_place true v w same = grind (arith, nat_tests)
 
-pub none_told : (screen : Grid Colour) (form : PixelFormat) (known : Grid (Option ℕ)) (pixels : Grid ℕ) (y from to : ℕ) →
+pub none_told : (screen : Grid Colour) (form : PixelFormat) (known : Grid (Option ℕ))
+    (pixels : Grid ℕ) (y from to : ℕ) →
     from < to → to ≤ from / 64 * 64 + 64 → to ≤ known.width → y < known.height → ShowsKnown known pixels →
     row_of pixels from y (to - from) ≡ map (pixel_of form) (row_of screen from y (to - from)) →
     length (row_of pixels from y (to - from)) ≡ to - from → length (row_of screen from y (to - from)) ≡ to - from →
@@ -70,7 +79,8 @@ pub none_told : (screen : Grid Colour) (form : PixelFormat) (known : Grid (Optio
 none_told screen form known pixels y from to some cell columns row shows same long long_screen =
     let zero : 0 * 2 ^ (from % 64) % 2 ^ 64 ≡ 0 = omega arith in
     subst (λ (word : ℕ). TellsOther (wanted_at screen form) known y from to word) zero
-    (other_told screen form known pixels y from to 0 some cell columns row shows (omega arith) (none_differs _ _ same) long long_screen)
+    (other_told screen form known pixels y from to 0 some cell columns row shows (omega arith)
+    (none_differs _ _ same) long long_screen)
 
 -- ---- one place
 
@@ -146,7 +156,8 @@ fourth_of true true true false false w e = e
 pub record AreWords (session : Session) (y from to m a k w : ℕ) : Type 0 where
   pub marks : HasBitsBetween (is_in session.marks) y from to m
   pub asked : HasRowBits session.area.asked (from / 64 * 64) y a
-  pub known : (i : ℕ) → i < 64 → has_bit k i ≡ (nat_lt (from / 64 * 64 + i) session.known.width && is_known (at_or session.known (from / 64 * 64 + i) y None))
+  pub known : (i : ℕ) → i < 64 → has_bit k i ≡ (nat_lt (from / 64 * 64 + i) session.known.width
+      && is_known (at_or session.known (from / 64 * 64 + i) y None))
   pub whole : HasRowBits session.area.whole (from / 64 * 64) y w
   pub small_marks : m < 2 ^ 64
   pub small_asked : a < 2 ^ 64
@@ -158,7 +169,8 @@ abbrev pub judged : ℕ → ℕ → ℕ → ℕ → ℕ
 judged m a k w = bit_and (bit_and (bit_and m a) k) (2 ^ 64 - 1 - w)
 
 module _ (screen : Grid Colour) (session : Session) (y from to m a k w : ℕ) (about : Follows screen session)
-    (row : y < session.known.height) (columns : to ≤ session.known.width) (words : AreWords session y from to m a k w) where
+    (row : y < session.known.height) (columns : to ≤ session.known.width)
+    (words : AreWords session y from to m a k w) where
   abbrev place : ℕ → ℕ
   place i = from / 64 * 64 + i
 
@@ -166,14 +178,16 @@ module _ (screen : Grid Colour) (session : Session) (y from to m a k w : ℕ) (a
   reach i = nat_le from (from / 64 * 64 + i) && nat_lt (from / 64 * 64 + i) to
 
   sizes : (i : ℕ) → (nat_le from (from / 64 * 64 + i) && nat_lt (from / 64 * 64 + i) to) ≡ true →
-      (nat_lt (from / 64 * 64 + i) session.area.asked.width ≡ true) × (nat_lt (from / 64 * 64 + i) session.known.width ≡ true)
+      (nat_lt (from / 64 * 64 + i) session.area.asked.width ≡ true)
+      × (nat_lt (from / 64 * 64 + i) session.known.width ≡ true)
       × (nat_lt (from / 64 * 64 + i) session.area.whole.width ≡ true)
   sizes i e =
       let (l, u) = range_of from (from / 64 * 64 + i) to e in
       let is = session.alike in (
         within (from / 64 * 64 + i) session.area.asked.width (rw is.area_wide (omega (arith, columns))),
         within (from / 64 * 64 + i) session.known.width (omega (arith, columns)),
-        within (from / 64 * 64 + i) session.area.whole.width (rw (is.area_is.wide, is.area_wide) (omega (arith, columns))),
+        within (from / 64 * 64 + i) session.area.whole.width
+            (rw (is.area_is.wide, is.area_wide) (omega (arith, columns))),
       )
 
   -- what the sets say of a place
@@ -190,11 +204,13 @@ module _ (screen : Grid Colour) (session : Session) (y from to m a k w : ℕ) (a
   place_whole i = whole_at session.area (from / 64 * 64 + i) y
 
   abbrev differing : ℕ → Bool
-  differing i = differs (wanted_at screen session.format (from / 64 * 64 + i) y) (at_or session.known (from / 64 * 64 + i) y None)
+  differing i =
+      differs (wanted_at screen session.format (from / 64 * 64 + i) y) (at_or session.known (from / 64 * 64 + i) y None)
 
   abbrev masked : ℕ → Bool
   masked i = (((reach i && marked i) && (nat_lt (place i) session.area.asked.width && place_asked i))
-      && (nat_lt (place i) session.known.width && place_known i)) && not (nat_lt (place i) session.area.whole.width && place_whole i)
+      && (nat_lt (place i) session.known.width && place_known i))
+      && not (nat_lt (place i) session.area.whole.width && place_whole i)
 
   asked_bit : (i : ℕ) → i < 64 → has_bit (bit_and m a) i
       ≡ ((reach i && marked i) && (nat_lt (place i) session.area.asked.width && place_asked i))
@@ -207,7 +223,8 @@ module _ (screen : Grid Colour) (session : Session) (y from to m a k w : ℕ) (a
       && (has_bit-not w i words.small low ∙ (λ j. not (words.whole i low j))) j)
 
   judged_small : judged m a k w < 2 ^ 64
-  judged_small = and_lt 64 (bit_and (bit_and m a) k) (2 ^ 64 - 1 - w) (and_lt 64 (bit_and m a) k (and_lt 64 m a words.small_marks words.small_asked) words.small_known) (omega arith)
+  judged_small = and_lt 64 (bit_and (bit_and m a) k) (2 ^ 64 - 1 - w)
+      (and_lt 64 (bit_and m a) k (and_lt 64 m a words.small_marks words.small_asked) words.small_known) (omega arith)
 
   quiet : (i : ℕ) → reach i ≡ true → marked i ≡ false → (place_asked i && (place_whole i || differing i)) ≡ false
   quiet i e none =
@@ -215,13 +232,15 @@ module _ (screen : Grid Colour) (session : Session) (y from to m a k w : ℕ) (a
       unmarked_quiet screen session (from / 64 * 64 + i) y about (omega (arith, columns)) row none
 
   unknown : (i : ℕ) → place_known i ≡ false → differing i ≡ true
-  unknown i e = unknown_differs (wanted_at screen session.format (from / 64 * 64 + i) y) (at_or session.known (from / 64 * 64 + i) y None) e
+  unknown i e = unknown_differs (wanted_at screen session.format (from / 64 * 64 + i) y)
+      (at_or session.known (from / 64 * 64 + i) y None) e
 
   -- where no place has to be looked at
   pub none_judged : judged m a k w ≡ 0 → HasBitsBetween (needs_of screen session) y from to (bit_and m a)
   none_judged none i low =
       asked_bit i low ∙
-      none_in_range (reach i) (marked i) (nat_lt (place i) session.area.asked.width) (place_asked i) (nat_lt (place i) session.known.width) (place_known i)
+      none_in_range (reach i) (marked i) (nat_lt (place i) session.area.asked.width) (place_asked i)
+      (nat_lt (place i) session.known.width) (place_known i)
       (nat_lt (place i) session.area.whole.width) (place_whole i) (differing i) (sizes i) (quiet i) (unknown i)
       (sym (judged_bit i low) ∙ ap (λ n. has_bit n i) none ∙ has_bit-zero i)
 
@@ -233,25 +252,31 @@ module _ (screen : Grid Colour) (session : Session) (y from to m a k w : ℕ) (a
       let (low, here, least) = first_bit (judged m a k w) some judged_small in
       let (few, there, most) = last_bit (judged m a k w) some judged_small in
       let order = most (trailing_zeros w64 (judged m a k w)) here in
-      let (f, u) = range_of from (from / 64 * 64 + (63 - leading_zeros w64 (judged m a k w))) to (reached (63 - leading_zeros w64 (judged m a k w)) (omega arith) there) in
+      let (f, u) = range_of from (from / 64 * 64 + (63 - leading_zeros w64 (judged m a k w))) to
+      (reached (63 - leading_zeros w64 (judged m a k w)) (omega arith) there) in
       (omega (arith, order, few), omega (arith, u, columns, few))
     where
       reached : (i : ℕ) → i < 64 → has_bit (judged m a k w) i ≡ true → reach i ≡ true
       reached i l e = first_of (reach i) (marked i) (nat_lt (place i) session.area.asked.width && place_asked i)
-          (nat_lt (place i) session.known.width && place_known i) (not (nat_lt (place i) session.area.whole.width && place_whole i)) (sym (judged_bit i l) ∙ e)
+          (nat_lt (place i) session.known.width && place_known i)
+          (not (nat_lt (place i) session.area.whole.width && place_whole i)) (sym (judged_bit i l) ∙ e)
 
   -- a look at those tells which need sending
   pub judged_bits : (d : ℕ) → 0 < judged m a k w →
-      TellsOther (wanted_at screen session.format) session.known y (from / 64 * 64 + trailing_zeros w64 (judged m a k w))
+      TellsOther (wanted_at screen session.format) session.known y
+      (from / 64 * 64 + trailing_zeros w64 (judged m a k w))
       (from / 64 * 64 + 64 - leading_zeros w64 (judged m a k w)) d →
       HasBitsBetween (needs_of screen session) y from to
       (bit_or (bit_and (bit_and m a) (2 ^ 64 - 1 - judged m a k w)) (bit_and (judged m a k w) d))
   judged_bits d some told i low =
       has_bit-or (bit_and (bit_and m a) (2 ^ 64 - 1 - judged m a k w)) (bit_and (judged m a k w) d) i
-      ∙ (λ j. (has_bit-and (bit_and m a) (2 ^ 64 - 1 - judged m a k w) i ∙ (λ h. asked_bit i low h && (has_bit-not (judged m a k w) i judged_small low ∙ ap not (judged_bit i low)) h)) j
+      ∙ (λ j. (has_bit-and (bit_and m a) (2 ^ 64 - 1 - judged m a k w) i ∙ (λ h. asked_bit i low h
+      && (has_bit-not (judged m a k w) i judged_small low ∙ ap not (judged_bit i low)) h)) j
       || (has_bit-and (judged m a k w) d i ∙ (λ h. judged_bit i low h && has_bit d i)) j)
-      ∙ in_range (reach i) (marked i) (nat_lt (place i) session.area.asked.width) (place_asked i) (nat_lt (place i) session.known.width) (place_known i)
-      (nat_lt (place i) session.area.whole.width) (place_whole i) (differing i) (has_bit d i) (sizes i) (quiet i) (unknown i) look
+      ∙ in_range (reach i) (marked i) (nat_lt (place i) session.area.asked.width) (place_asked i)
+      (nat_lt (place i) session.known.width) (place_known i)
+      (nat_lt (place i) session.area.whole.width) (place_whole i) (differing i) (has_bit d i)
+      (sizes i) (quiet i) (unknown i) look
     where
       look : masked i ≡ true → has_bit d i ≡ differing i
       look e =
@@ -260,10 +285,12 @@ module _ (screen : Grid Colour) (session : Session) (y from to m a k w : ℕ) (a
           let (less, there, most) = last_bit (judged m a k w) some judged_small in
           let from_first = least i bit in
           let to_last = most i bit in
-          let left : (from / 64 * 64 + trailing_zeros w64 (judged m a k w)) / 64 * 64 ≡ from / 64 * 64 = omega (arith, few) in
+          let left : (from / 64 * 64 + trailing_zeros w64 (judged m a k w)) / 64 * 64 ≡ from / 64 * 64 =
+          omega (arith, few) in
           let (pixel, is) = known_some (at_or session.known (from / 64 * 64 + i) y None)
           (fourth_of (reach i) (marked i) (nat_lt (place i) session.area.asked.width && place_asked i)
-          (nat_lt (place i) session.known.width) (place_known i) (not (nat_lt (place i) session.area.whole.width && place_whole i)) e) in
+          (nat_lt (place i) session.known.width) (place_known i)
+          (not (nat_lt (place i) session.area.whole.width && place_whole i)) e) in
           let tells : has_bit d i ≡ differs (wanted_at screen session.format (from / 64 * 64 + i) y) (Some pixel) =
           rw left at (told i pixel low) (omega (arith, left, from_first)) (omega (arith, left, to_last, less)) is in
           tells ∙ ap (λ old. differs (wanted_at screen session.format (from / 64 * 64 + i) y) old) (sym is)
@@ -276,20 +303,23 @@ pub row_words : (session : Session) (known : Places) (y from to m a k w : ℕ) (
     record_asked ≡ known.asked → HasRowBits record_asked (from / 64 * 64) y k →
     whole ≡ session.area.whole → HasRowBits whole (from / 64 * 64) y w →
     m < 2 ^ 64 → a < 2 ^ 64 → k < 2 ^ 64 → w < 2 ^ 64 → AreWords session y from to m a k w
-row_words session known y from to m a k w asked record_asked whole wide tells row marks the_asked asked_there the_known known_there the_whole whole_there small_m small_a small_k small_w = record {
-  marks = marks;
-  asked = subst (λ (g : Grid Bool). HasRowBits g (from / 64 * 64) y a) the_asked asked_there;
-  known = λ i low. (subst (λ (g : Grid Bool). HasRowBits g (from / 64 * 64) y k) the_known known_there) i low
-      ∙ by_width i (nat_lt (from / 64 * 64 + i) session.known.width) refl;
-  whole = subst (λ (g : Grid Bool). HasRowBits g (from / 64 * 64) y w) the_whole whole_there;
-  small_marks = small_m;
-  small_asked = small_a;
-  small_known = small_k;
-  small = small_w;
-}
+row_words session known y from to m a k w asked record_asked whole wide tells row marks the_asked asked_there the_known
+    known_there the_whole whole_there small_m small_a small_k small_w = record {
+      marks = marks;
+      asked = subst (λ (g : Grid Bool). HasRowBits g (from / 64 * 64) y a) the_asked asked_there;
+      known = λ i low. (subst (λ (g : Grid Bool). HasRowBits g (from / 64 * 64) y k) the_known known_there) i low
+          ∙ by_width i (nat_lt (from / 64 * 64 + i) session.known.width) refl;
+      whole = subst (λ (g : Grid Bool). HasRowBits g (from / 64 * 64) y w) the_whole whole_there;
+      small_marks = small_m;
+      small_asked = small_a;
+      small_known = small_k;
+      small = small_w;
+    }
   where
     by_width : (i : ℕ) (b : Bool) → nat_lt (from / 64 * 64 + i) session.known.width ≡ b →
         (nat_lt (from / 64 * 64 + i) known.asked.width && is_in known.asked (from / 64 * 64 + i) y)
-        ≡ (nat_lt (from / 64 * 64 + i) session.known.width && is_known (at_or session.known (from / 64 * 64 + i) y None))
+        ≡ (nat_lt (from / 64 * 64 + i) session.known.width
+        && is_known (at_or session.known (from / 64 * 64 + i) y None))
     by_width i false e = rw (wide, e) refl
-    by_width i true e = rw (wide, e) (rw wide at (tells (from / 64 * 64 + i) y (from_lt (from / 64 * 64 + i) session.known.width e) row))
+    by_width i true e = rw (wide, e)
+        (rw wide at (tells (from / 64 * 64 + i) y (from_lt (from / 64 * 64 + i) session.known.width e) row))

@@ -1,5 +1,6 @@
 -- Places of a row that need sending, as bits of a word.
-use Rattle.std.proofs.Common.{◌≡◌, ◌∙◌, ℕ, ◌+◌, ◌-◌, ◌*◌, ◌/◌, ◌%◌, ◌^◌, ◌<◌, ◌≤◌, ◌&&◌, Bool, true, false, not, nat_eq, nat_le, nat_lt, sym, ap, refl, arith}
+use Rattle.std.proofs.Common.{◌≡◌, ◌∙◌, ℕ, ◌+◌, ◌-◌, ◌*◌, ◌/◌, ◌%◌, ◌^◌, ◌<◌, ◌≤◌, ◌&&◌, Bool, true, false, not, nat_eq}
+use Rattle.std.proofs.Common.{nat_le, nat_lt, sym, ap, refl, arith}
 use Rattle.std.specs.Int.{w64, bit_at, trailing_zeros, leading_zeros}
 use Rattle.std.proofs.Math.Nat.{div-add-mod'}
 use Rattle.std.proofs.lemmas.Bool.{both_ways}
@@ -25,9 +26,11 @@ pub has_bit-up : (n k i : ℕ) → i < 64 → k ≤ i → has_bit (n * 2 ^ k % 2
 has_bit-up n k i low from =
     let all = n * 2 ^ k in
     let parts : all / 2 ^ 64 * 2 ^ 64 + all % 2 ^ 64 ≡ all = div-add-mod' all (2 ^ 64) in
-    let kept : bit_at (all % 2 ^ 64) i ≡ bit_at all i = sym (bit_at_cat_low (all / 2 ^ 64) 64 (all % 2 ^ 64) i low) ∙ ap (λ m. bit_at m i) parts in
+    let kept : bit_at (all % 2 ^ 64) i ≡ bit_at all i =
+    sym (bit_at_cat_low (all / 2 ^ 64) 64 (all % 2 ^ 64) i low) ∙ ap (λ m. bit_at m i) parts in
     let plain : all ≡ n * 2 ^ k + 0 = omega arith in
-    let moved : bit_at all i ≡ bit_at n (i - k) = ap (λ m. bit_at m i) plain ∙ bit_at_cat_high n k 0 i (pow_pos k) from in
+    let moved : bit_at all i ≡ bit_at n (i - k) =
+    ap (λ m. bit_at m i) plain ∙ bit_at_cat_high n k 0 i (pow_pos k) from in
     ap (λ m. nat_eq m 1) (kept ∙ moved)
 
 -- ---- the first and the last place
@@ -65,20 +68,25 @@ unset_quiet p y from to word x told cell a b none =
     no_place (nat_le from x) (nat_lt x to) (p x y) (sym none ∙ bit) (to_le from x a) (to_lt x to b)
 
 -- and one that it has a bit for is
-pub set_marked : (p : ℕ → ℕ → Bool) (y from to word i : ℕ) → HasBitsBetween p y from to word → i < 64 → has_bit word i ≡ true →
+pub set_marked : (p : ℕ → ℕ → Bool) (y from to word i : ℕ) → HasBitsBetween p y from to word →
+    i < 64 → has_bit word i ≡ true →
     (from ≤ from / 64 * 64 + i) × (from / 64 * 64 + i < to) × (p (from / 64 * 64 + i) y ≡ true)
 set_marked p y from to word i told low some =
     let x = from / 64 * 64 + i in
     let (a, b, m) = some_place (nat_le from x) (nat_lt x to) (p x y) (sym some ∙ told i low) in
     (from_le from x a, from_lt x to b, m)
 
-pub none_between : (p : ℕ → ℕ → Bool) (y from to : ℕ) → HasBitsBetween p y from to 0 → to ≤ from / 64 * 64 + 64 → NoneInRow p y from to
-none_between p y from to told cell = λ x a b. unset_quiet p y from to 0 x told cell a b (has_bit-zero (x - from / 64 * 64))
+pub none_between : (p : ℕ → ℕ → Bool) (y from to : ℕ) → HasBitsBetween p y from to 0 →
+    to ≤ from / 64 * 64 + 64 → NoneInRow p y from to
+none_between p y from to told cell =
+    λ x a b. unset_quiet p y from to 0 x told cell a b (has_bit-zero (x - from / 64 * 64))
 
-pub first_between : (p : ℕ → ℕ → Bool) (y from to word : ℕ) → HasBitsBetween p y from to word → to ≤ from / 64 * 64 + 64 →
+pub first_between : (p : ℕ → ℕ → Bool) (y from to word : ℕ) → HasBitsBetween p y from to word →
+    to ≤ from / 64 * 64 + 64 →
     0 < word → word < 2 ^ 64 →
     (from ≤ from / 64 * 64 + trailing_zeros w64 word) × (from / 64 * 64 + trailing_zeros w64 word < to)
-    × (p (from / 64 * 64 + trailing_zeros w64 word) y ≡ true) × NoneInRow p y from (from / 64 * 64 + trailing_zeros w64 word)
+    × (p (from / 64 * 64 + trailing_zeros w64 word) y ≡ true)
+    × NoneInRow p y from (from / 64 * 64 + trailing_zeros w64 word)
 first_between p y from to word told cell some small =
     let (low, here, least) = first_bit word some small in
     let (a, b, m) = set_marked p y from to word (trailing_zeros w64 word) told low here in (
@@ -93,20 +101,25 @@ first_between p y from to word told cell some small =
     by_bit false e never = e
     by_bit true e never = absurd (never e)
 
-pub last_between : (p : ℕ → ℕ → Bool) (y from to word : ℕ) → HasBitsBetween p y from to word → to ≤ from / 64 * 64 + 64 →
+pub last_between : (p : ℕ → ℕ → Bool) (y from to word : ℕ) → HasBitsBetween p y from to word →
+    to ≤ from / 64 * 64 + 64 →
     0 < word → word < 2 ^ 64 →
-    (leading_zeros w64 word ≤ 63) × (from < from / 64 * 64 + 64 - leading_zeros w64 word) × (from / 64 * 64 + 64 - leading_zeros w64 word ≤ to)
-    × (p (from / 64 * 64 + 64 - leading_zeros w64 word - 1) y ≡ true) × NoneInRow p y (from / 64 * 64 + 64 - leading_zeros w64 word) to
+    (leading_zeros w64 word ≤ 63) × (from < from / 64 * 64 + 64 - leading_zeros w64 word)
+    × (from / 64 * 64 + 64 - leading_zeros w64 word ≤ to)
+    × (p (from / 64 * 64 + 64 - leading_zeros w64 word - 1) y ≡ true)
+    × NoneInRow p y (from / 64 * 64 + 64 - leading_zeros w64 word) to
 last_between p y from to word told cell some small =
     let (low, here, most) = last_bit word some small in
     let (a, b, m) = set_marked p y from to word (63 - leading_zeros w64 word) told (omega arith) here in
-    let place : from / 64 * 64 + (63 - leading_zeros w64 word) ≡ from / 64 * 64 + 64 - leading_zeros w64 word - 1 = omega arith in (
+    let place : from / 64 * 64 + (63 - leading_zeros w64 word) ≡ from / 64 * 64 + 64 - leading_zeros w64 word - 1 =
+    omega arith in (
       low,
       omega arith,
       omega arith,
       rw (← place) m,
       λ x c d. unset_quiet p y from to word x told cell (omega arith) d
-          (by_bit (has_bit word (x - from / 64 * 64)) refl (λ e. omega (arith, most (x - from / 64 * 64) e, c, d, low))),
+          (by_bit (has_bit word (x - from / 64 * 64)) refl
+          (λ e. omega (arith, most (x - from / 64 * 64) e, c, d, low))),
     )
   where
     by_bit : (b : Bool) → {c : Bool} → c ≡ b → (c ≡ true → ⊥) → c ≡ false

@@ -1,5 +1,6 @@
 -- Places that need sending are marked; and the least rectangle of them, row by row.
-use Rattle.std.proofs.Common.{◌≡◌, ℕ, ◌<◌, ◌≤◌, ◌+◌, ◌-◌, ◌&&◌, ◌||◌, ◌==◌, not, Bool, true, false, Option, Some, None, refl, arith, inl, inr, ◌⊎◌, subst}
+use Rattle.std.proofs.Common.{◌≡◌, ℕ, ◌<◌, ◌≤◌, ◌+◌, ◌-◌, ◌&&◌, ◌||◌, ◌==◌, not, Bool, true, false, Option, Some, None}
+use Rattle.std.proofs.Common.{refl, arith, inl, inr, ◌⊎◌, subst}
 use Rattle.std.proofs.lemmas.Bool.{cases_lt, cases_eq, both_ways}
 use Rattle.std.proofs.lemmas.Bool.Decides.{nat_tests}
 use Rattle.rfb_pixel.specs.declared.colour.Colour.{Colour}
@@ -34,7 +35,8 @@ unmarked_quiet screen session x y about p q e =
     let p' : x < session.marks.width = rw (session.alike.marks_wide) p in
     let q' : y < session.marks.height = rw (session.alike.marks_high) q in
     and_false (asked_at session.area x y) _
-    (rw (about.caught_up.not_whole x y p' q' e, about.caught_up.right x y p' q' e) (differs_not (wanted_at screen session.format x y)))
+    (rw (about.caught_up.not_whole x y p' q' e, about.caught_up.right x y p' q' e)
+    (differs_not (wanted_at screen session.format x y)))
 
 marked_by : (mark need : Bool) → (mark ≡ false → need ≡ false) → need ≡ true → mark ≡ true
 marked_by true need quiet e = refl
@@ -71,11 +73,13 @@ row_clear p zone y order above first = λ x j a b c d.
     ]
 
 move_column : (p : ℕ → ℕ → Bool) (box : Rect) (from to : ℕ) → from ≡ to →
-    ((j : ℕ) × (contains box from j ≡ true) × (p from j ≡ true)) → (j : ℕ) × (contains box to j ≡ true) × (p to j ≡ true)
+    ((j : ℕ) × (contains box from j ≡ true) × (p from j ≡ true)) →
+    (j : ℕ) × (contains box to j ≡ true) × (p to j ≡ true)
 move_column p box from to e t = subst (λ (k : ℕ). (j : ℕ) × (contains box k j ≡ true) × (p k j ≡ true)) e t
 
 move_row : (p : ℕ → ℕ → Bool) (box : Rect) (from to : ℕ) → from ≡ to →
-    ((i : ℕ) × (contains box i from ≡ true) × (p i from ≡ true)) → (i : ℕ) × (contains box i to ≡ true) × (p i to ≡ true)
+    ((i : ℕ) × (contains box i from ≡ true) × (p i from ≡ true)) →
+    (i : ℕ) × (contains box i to ≡ true) × (p i to ≡ true)
 move_row p box from to e t = subst (λ (k : ℕ). (i : ℕ) × (contains box i k ≡ true) × (p i k ≡ true)) e t
 
 -- ---- from the first row to the last
@@ -126,7 +130,8 @@ wide_top p zone top bottom columns order spans = record {
 }
 
 pub wide_more : (p : ℕ → ℕ → Bool) (zone : Rect) (top bottom y first end : ℕ) (columns : Columns) → top < y →
-    IsWide p zone top bottom y columns → IsFirst p y zone.x columns.first first → IsEnd p y columns.end (zone.x + zone.w) end →
+    IsWide p zone top bottom y columns → IsFirst p y zone.x columns.first first →
+    IsEnd p y columns.end (zone.x + zone.w) end →
     IsWide p zone top bottom (y - 1) (record { first = first; end = end })
 wide_more p zone top bottom y first end columns order wide is until = record {
   order = (is.order.0, omega (arith, is.order, until.order, wide.order), until.order.1);
@@ -145,7 +150,8 @@ wide_more p zone top bottom y first end columns order wide is until = record {
   last = by_last (cases_lt columns.end end);
 }
   where
-    by_first : (first < columns.first) ⊎ (columns.first ≤ first) → (j : ℕ) × (top ≤ j) × (j ≤ bottom) × (p first j ≡ true)
+    by_first : (first < columns.first) ⊎ (columns.first ≤ first) →
+        (j : ℕ) × (top ≤ j) × (j ≤ bottom) × (p first j ≡ true)
     by_first (inl less) = (y, omega arith, wide.row.1, is.here less)
     by_first (inr more) =
         let same : first ≡ columns.first = omega (arith, is.order) in
@@ -171,14 +177,16 @@ wide_all p zone top bottom y columns all wide = record {
   last = wide.last;
 }
   where
-    by_left : (y ≤ top) ⊎ ((columns.first ≤ zone.x) × (zone.x + zone.w ≤ columns.end)) → IsClear p zone.x columns.first top (bottom + 1)
+    by_left : (y ≤ top) ⊎ ((columns.first ≤ zone.x) × (zone.x + zone.w ≤ columns.end)) →
+        IsClear p zone.x columns.first top (bottom + 1)
     by_left (inr full) = λ x j a b d e. absurd (omega (arith, full))
     by_left (inl less) = λ x j a b d e. elim (cases_eq j top) [
       | inl same ↦ wide.top_left x j a b d (omega arith)
       | inr other ↦ wide.left x j a b (omega arith) e
     ]
 
-    by_right : (y ≤ top) ⊎ ((columns.first ≤ zone.x) × (zone.x + zone.w ≤ columns.end)) → IsClear p columns.end (zone.x + zone.w) top (bottom + 1)
+    by_right : (y ≤ top) ⊎ ((columns.first ≤ zone.x) × (zone.x + zone.w ≤ columns.end)) →
+        IsClear p columns.end (zone.x + zone.w) top (bottom + 1)
     by_right (inr full) = λ x j a b d e. absurd (omega (arith, full))
     by_right (inl less) = λ x j a b d e. elim (cases_eq j top) [
       | inl same ↦ wide.top_right x j a b d (omega arith)
@@ -198,13 +206,22 @@ box_is p zone top bottom columns order above some last spans = record {
       contains_row box x j f (omega arith) h (omega arith);
   tight = record {
     some = (omega (arith, spans.order), omega (arith, last.order));
-    left = let (j, a, b, m) = spans.first in
-        (j, contains_row box columns.first j (omega arith) (omega (arith, spans.order)) a (omega (arith, last.order)), m);
+    left = let (j, a, b, m) = spans.first in (
+      j,
+      contains_row box columns.first j (omega arith) (omega (arith, spans.order)) a (omega (arith, last.order)),
+      m,
+    );
     right = let (j, a, b, m) = spans.last in
-        move_column p box (columns.end - 1) (columns.first + (columns.end - columns.first) - 1) (omega (arith, spans.order))
-        (j, contains_row box (columns.end - 1) j (omega (arith, spans.order)) (omega (arith, spans.order)) a (omega (arith, last.order)), m);
+        move_column p box (columns.end - 1) (columns.first + (columns.end - columns.first) - 1)
+        (omega (arith, spans.order)) (
+          j,
+          contains_row box (columns.end - 1) j (omega (arith, spans.order)) (omega (arith, spans.order))
+              a (omega (arith, last.order)),
+          m,
+        );
     top = in_row top (omega arith) last.order.0 some;
-    bottom = move_row p box bottom (top + (bottom + 1 - top) - 1) (omega (arith, last.order)) (in_row bottom last.order.0 (omega arith) last.some);
+    bottom = move_row p box bottom (top + (bottom + 1 - top) - 1) (omega (arith, last.order))
+        (in_row bottom last.order.0 (omega arith) last.some);
   };
 }
   where
@@ -229,7 +246,12 @@ box_is p zone top bottom columns order above some last spans = record {
         ]
 
     in_row : (y : ℕ) → top ≤ y → y ≤ bottom → HasInRow p zone y →
-        (x : ℕ) × (contains (record { x = columns.first; y = top; w = columns.end - columns.first; h = bottom + 1 - top }) x y ≡ true) × (p x y ≡ true)
+        (x : ℕ) × (contains (record {
+          x = columns.first;
+          y = top;
+          w = columns.end - columns.first;
+          h = bottom + 1 - top;
+        }) x y ≡ true) × (p x y ≡ true)
     in_row y from to (x, a, b, m) =
         let (f, g, h, i) = inside x y a b (omega arith) (omega (arith, last.order)) m in
         (x, contains_row box x y f (omega arith) h (omega arith), m)
@@ -237,37 +259,48 @@ box_is p zone top bottom columns order above some last spans = record {
 -- ---- the cell from its marked zone
 
 -- where no place is marked none needs sending
-pub cell_quiet : (screen : Grid Colour) (session : Session) (cell : Rect) → Follows screen session → Holds session.known cell →
+pub cell_quiet : (screen : Grid Colour) (session : Session) (cell : Rect) →
+    Follows screen session → Holds session.known cell →
     IsClear (is_in session.marks) cell.x (cell.x + cell.w) cell.y (cell.y + cell.h) →
     HasBox (needs_of screen session) cell None
 cell_quiet screen session cell about held clear = λ x y a b c d.
     unmarked_quiet screen session x y about (omega (arith, held)) (omega (arith, held)) (clear x y a b c d)
 
 -- and each that does lies in the marked zone
-pub cell_zone : (screen : Grid Colour) (session : Session) (cell zone : Rect) (found : Option Rect) → Follows screen session → Holds session.known cell →
+pub cell_zone : (screen : Grid Colour) (session : Session) (cell zone : Rect) (found : Option Rect) →
+    Follows screen session → Holds session.known cell →
     IsBox (is_in session.marks) cell zone → HasBox (needs_of screen session) zone found →
     HasBox (needs_of screen session) cell found
 cell_zone screen session cell zone None about held box none = λ x y a b c d.
-    by_need x y (needs_of screen session x y) refl (omega (arith, held)) (omega (arith, held)) (contains_row cell x y a b c d)
+    by_need x y (needs_of screen session x y) refl (omega (arith, held)) (omega (arith, held))
+    (contains_row cell x y a b c d)
   where
-    by_need : (x y : ℕ) (need : Bool) → needs_of screen session x y ≡ need → x < session.known.width → y < session.known.height →
+    by_need : (x y : ℕ) (need : Bool) → needs_of screen session x y ≡ need →
+        x < session.known.width → y < session.known.height →
         contains cell x y ≡ true → need ≡ false
     by_need x y false e p q c = refl
     by_need x y true e p q c =
         let (f, g, h, i) = contains_true zone x y (box.holds x y c (needed_marked screen session x y about p q e)) in
         absurd (both_ways (needs_of screen session x y) (none x y f g h i) e)
 cell_zone screen session cell zone (Some r) about held box found = record {
-  within = (omega (arith, box.within, found.within), omega (arith, box.within, found.within), omega (arith, box.within, found.within), omega (arith, box.within, found.within));
+  within = (
+    omega (arith, box.within, found.within),
+    omega (arith, box.within, found.within),
+    omega (arith, box.within, found.within),
+    omega (arith, box.within, found.within),
+  );
   holds = λ x y c m.
       let (a, b, d, e) = contains_true cell x y c in
-      found.holds x y (box.holds x y c (needed_marked screen session x y about (omega (arith, held)) (omega (arith, held)) m)) m;
+      found.holds x y
+      (box.holds x y c (needed_marked screen session x y about (omega (arith, held)) (omega (arith, held)) m)) m;
   tight = found.tight;
 }
 
 -- ---- one place
 
 -- it needs sending where it is asked and known to have another pixel
-pub asked_other : (asked whole : Bool) (wanted pixel : ℕ) (old : Option ℕ) → asked ≡ true → whole ≡ false → is_known old ≡ true →
+pub asked_other : (asked whole : Bool) (wanted pixel : ℕ) (old : Option ℕ) → asked ≡ true →
+    whole ≡ false → is_known old ≡ true →
     ((known : ℕ) → old ≡ Some known → pixel ≡ known) → not (pixel == wanted) ≡ (asked && (whole || differs wanted old))
 asked_other true false wanted pixel (Some known) e f g shown = rw (shown known refl) refl
 asked_other true false wanted pixel None e f g shown = absurd (both_ways false refl g)
@@ -277,7 +310,8 @@ asked_other false whole wanted pixel old e f g shown = absurd (both_ways false r
 -- the least rectangle of a zone of one place
 pub single_box : (p : ℕ → ℕ → Bool) (zone : Rect) → zone.w ≡ 1 → zone.h ≡ 1 → p zone.x zone.y ≡ true → IsBox p zone zone
 single_box p zone wide high here =
-    let corner : contains zone zone.x zone.y ≡ true = contains_row zone zone.x zone.y (omega arith) (omega arith) (omega arith) (omega arith) in
+    let corner : contains zone zone.x zone.y ≡ true =
+    contains_row zone zone.x zone.y (omega arith) (omega arith) (omega arith) (omega arith) in
     let right : zone.x + zone.w - 1 ≡ zone.x = omega arith in
     let low : zone.y + zone.h - 1 ≡ zone.y = omega arith in
     record {

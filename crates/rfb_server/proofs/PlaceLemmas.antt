@@ -1,5 +1,6 @@
 -- With which byte of a slice a session fails.
-use Rattle.std.proofs.Common.{◌≡◌, ◌≢◌, ℕ, ◌+◌, ◌-◌, ◌<◌, ◌≤◌, List, [], ◌∷◌, ◌++◌, Option, None, Result, Ok, Err, length}
+use Rattle.std.proofs.Common.{◌≡◌, ◌≢◌, ℕ, ◌+◌, ◌-◌, ◌<◌, ◌≤◌, List, [], ◌∷◌, ◌++◌, Option, None, Result, Ok, Err}
+use Rattle.std.proofs.Common.{length}
 use Rattle.std.proofs.Common.{take, drop, refl, sym, subst, ◌∙◌, ap, arith, append_assoc, append-nil}
 use Rattle.std.proofs.Common.{length-append, length-drop, length-take-le, take-append-drop}
 use Rattle.std.proofs.lemmas.List.{take-take}

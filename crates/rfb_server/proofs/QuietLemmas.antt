@@ -1,7 +1,7 @@
--- A rectangle of which no place needs sending.
-use Rattle.std.proofs.Common.{◌≡◌, ℕ, zero, suc, ◌+◌, ◌-◌, ◌*◌, ◌<◌, ◌≤◌, ◌&&◌, ◌||◌, Bool, true, false, not, List, Option, Some, None, if◌then◌else◌, refl, sym, arith, inl, inr}
-use Rattle.std.specs.Bool.{OnTrue, OnFalse}
-use Rattle.std.proofs.lemmas.Bool.{cases_lt}
+-- Places that need no sending.
+use Rattle.std.proofs.Common.{◌≡◌, ℕ, zero, suc, ◌+◌, ◌-◌, ◌*◌, ◌<◌, ◌≤◌, ◌&&◌, ◌||◌, Bool, true, false, not, List, []}
+use Rattle.std.proofs.Common.{◌∷◌, Option, Some, None, if◌then◌else◌, refl, sym, arith, inl, inr, ◌⊎◌}
+use Rattle.std.proofs.lemmas.Bool.{cases_lt, both_ways}
 use Rattle.std.proofs.lemmas.Bool.Decides.{nat_tests}
 use Rattle.rfb_pixel.specs.declared.colour.Colour.{Colour}
 use Rattle.rfb_pixel.specs.Format.{PixelFormat}
@@ -15,10 +15,13 @@ use Rattle.rfb_server.specs.declared.hint.Hint.{Hint}
 use Rattle.rfb_server.specs.declared.session.Session.{Session}
 use Rattle.rfb_server.specs.Request.{wanted_at, differs}
 use Rattle.rfb_server.specs.Composing.{count_row, count_rows, count_in}
-use Rattle.rfb_server.specs.inside.Needs.{AreQuiet, IsQuiet, needs_of, HasBox}
+use Rattle.rfb_server.specs.declared.session.update.gains.Judged.{Judged}
+use Rattle.rfb_server.specs.declared.session.update.quiet.Quiet.{Quiet}
+use Rattle.rfb_server.specs.declared.claim.stale.Rows.{Rows}
+use Rattle.rfb_server.specs.Claims.{is_stale}
+use Rattle.rfb_server.specs.inside.Needs.{AreQuiet, IsQuiet, is_quiet, IsPartOf, needs_of, HasBox}
 use Rattle.rfb_server.specs.inside.Sends.{IsKept, AppendsPixels}
-use Rattle.rfb_server.specs.inside.Copies.{IsFree}
-use Rattle.rfb_server.specs.inside.Gains.{right_after}
+use Rattle.rfb_server.specs.inside.Gains.{IsJudged}
 use Rattle.rfb_server.proofs.CountLemmas.{at_most}
 use Rattle.rfb_server.proofs.SendsLemmas.{noted_at}
 
@@ -50,7 +53,8 @@ rows_bound p x y w (suc h) =
     let split : suc h * w ≡ h * w + w = grind arith in
     omega (arith, split, rows_bound p x y w h, row_bound p x (y + h) w)
 
-short_rows : (p : ℕ → ℕ → Bool) (x y w h i j : ℕ) → i < w → j < h → p (x + i) (y + j) ≡ false → count_rows p x y w h < h * w
+short_rows : (p : ℕ → ℕ → Bool) (x y w h i j : ℕ) → i < w → j < h → p (x + i) (y + j) ≡ false →
+    count_rows p x y w h < h * w
 short_rows p x y w zero i j l m e = absurd (omega arith)
 short_rows p x y w (suc h) i j l m e =
     let split : suc h * w ≡ h * w + w = grind arith in
@@ -63,7 +67,8 @@ short_rows p x y w (suc h) i j l m e =
     ]
 
 -- where as many count as there are, each does
-pub each_counts : (p : ℕ → ℕ → Bool) (r : Rect) → count_in p r ≡ r.h * r.w → (x y : ℕ) → contains r x y ≡ true → p x y ≡ true
+pub each_counts : (p : ℕ → ℕ → Bool) (r : Rect) → count_in p r ≡ r.h * r.w → (x y : ℕ) →
+    contains r x y ≡ true → p x y ≡ true
 each_counts p r all x y c = by (p x y) refl
   where
     by : (b : Bool) → p x y ≡ b → b ≡ true
@@ -75,18 +80,43 @@ each_counts p r all x y c = by (p x y) refl
         let none : p (r.x + (x - r.x)) (r.y + (y - r.y)) ≡ false = rw (column, row) e in
         absurd (omega (arith, all, short_rows p r.x r.y r.w r.h (x - r.x) (y - r.y) (omega arith) (omega arith) none))
 
--- ---- quiet rectangles
+-- ---- quiet places
 
-pub quiet_nowhere : (screen : Grid Colour) (known : Grid (Option ℕ)) (area : Places) (form : PixelFormat) → AreQuiet screen known area form (record { x = 0; y = 0; w = 0; h = 0 })
+quiet_by : (inside stale : Bool) → (inside && not stale) ≡ true → (inside ≡ true) × (stale ≡ false)
+quiet_by true true e = absurd (both_ways false refl e)
+quiet_by true false e = (refl, refl)
+quiet_by false stale e = absurd (both_ways false refl e)
+
+-- a quiet place lies in the rectangle, in a row that is not stale
+pub quiet_place : (quiet : Quiet) (x y : ℕ) → is_quiet quiet x y ≡ true →
+    (contains quiet.area x y ≡ true) × (is_stale quiet.stale y ≡ false)
+quiet_place quiet x y e = quiet_by (contains quiet.area x y) (is_stale quiet.stale y) e
+
+abbrev no_row : Rows
+no_row = record { first = 0; end = 0 }
+
+abbrev nowhere : Quiet
+nowhere = record {
+  area = record { x = 0; y = 0; w = 0; h = 0 };
+  stale = record {
+    runs = no_row ∷ no_row ∷ no_row ∷ no_row ∷ no_row ∷ no_row ∷ no_row ∷ no_row ∷ [];
+  };
+}
+
+-- a rectangle without a place
+pub quiet_nowhere : (screen : Grid Colour) (known : Grid (Option ℕ)) (area : Places) (form : PixelFormat) →
+    AreQuiet screen known area form nowhere
 quiet_nowhere screen known area form x y p q c =
-    let (a, b, c2, d) = contains_true (record { x = 0; y = 0; w = 0; h = 0 }) x y c in
-    absurd (omega (arith, b))
+    let (a, b, c2, d) = contains_true nowhere.area x y (quiet_place nowhere x y c).0 in
+    absurd (omega (arith, c2, d))
 
 -- what is known stays, and so does all else
-pub quiet_kept : (screen : Grid Colour) (old new : Session) (r : Rect) → IsKept old new → new.known ≡ old.known → IsQuiet screen old r → IsQuiet screen new r
+pub quiet_kept : (screen : Grid Colour) (old new : Session) (r : Quiet) → IsKept old new → new.known ≡ old.known →
+    IsQuiet screen old r → IsQuiet screen new r
 quiet_kept screen old new r kept known quiet = rw (known, kept.area, kept.format) quiet
 
-settled_by : (asked whole before : Bool) (wanted : ℕ) → (asked && (whole || before)) ≡ false → (asked && (whole || false)) ≡ false
+settled_by : (asked whole before : Bool) (wanted : ℕ) → (asked && (whole || before)) ≡ false →
+    (asked && (whole || false)) ≡ false
 settled_by false whole before wanted e = refl
 settled_by true false before wanted e = refl
 settled_by true true before wanted e = e
@@ -95,17 +125,22 @@ same_pixel : (wanted : ℕ) → differs wanted (Some wanted) ≡ false
 same_pixel wanted = grind (arith, nat_tests)
 
 -- pixels that are sent make no place need sending
-pub quiet_sent : (screen : Grid Colour) (old new : Session) (rect r : Rect) (before after : List ℕ) → IsKept old new → AppendsPixels screen rect old new before after → IsQuiet screen old r → IsQuiet screen new r
+pub quiet_sent : (screen : Grid Colour) (old new : Session) (rect : Rect) (r : Quiet)
+    (before after : List ℕ) → IsKept old new → AppendsPixels screen rect old new before after →
+    IsQuiet screen old r → IsQuiet screen new r
 quiet_sent screen old new rect r before after kept appends quiet x y p q c =
     let size = appends.sent.alike in
     let was : needs_of screen old x y ≡ false = quiet x y (rw size.columns p) (rw size.rows q) c in
-    let is = noted_at screen old.format rect appends.sent.block old.known new.known x y appends.sent.packed appends.sent.noted p q in
+    let is = noted_at screen old.format rect appends.sent.block old.known new.known x y
+    appends.sent.packed appends.sent.noted p q in
     rw (kept.area, kept.format, is) (by (contains rect x y) was)
   where
     by : (here : Bool) → needs_of screen old x y ≡ false →
-        (asked_at old.area x y && (whole_at old.area x y || differs (wanted_at screen old.format x y) (if here then Some (wanted_at screen old.format x y) else at_or old.known x y None))) ≡ false
+        (asked_at old.area x y && (whole_at old.area x y || differs (wanted_at screen old.format x y)
+        (if here then Some (wanted_at screen old.format x y) else at_or old.known x y None))) ≡ false
     by true was =
-        rw (same_pixel (wanted_at screen old.format x y)) (settled_by (asked_at old.area x y) (whole_at old.area x y) (differs (wanted_at screen old.format x y) (at_or old.known x y None)) 0 was)
+        rw (same_pixel (wanted_at screen old.format x y)) (settled_by (asked_at old.area x y) (whole_at old.area x y)
+        (differs (wanted_at screen old.format x y) (at_or old.known x y None)) 0 was)
     by false was = was
 
 right_is : (wanted : ℕ) (known : Option ℕ) → not (differs wanted known) ≡ true → differs wanted known ≡ false
@@ -119,32 +154,65 @@ idle_by : (asked : Bool) → (asked && (false || false)) ≡ false
 idle_by true = refl
 idle_by false = refl
 
--- so does a copy, of its own places, if it leaves them all right
-pub quiet_copied : (screen : Grid Colour) (old : Session) (now : Grid (Option ℕ)) (hint : Hint) → IsFree old hint.to →
+-- so are places that a copy has left right
+pub quiet_copied : (screen : Grid Colour) (old : Session) (now : Grid (Option ℕ)) (hint : Hint) (judged : Judged) →
     Holds old.known (record hint.to { x = hint.sx; y = hint.sy }) → now ≡ copied hint.to hint.sx hint.sy old.known →
-    count_in (right_after screen old hint) hint.to ≡ hint.to.h * hint.to.w → AreQuiet screen now old.area old.format hint.to
-quiet_copied screen old now hint free held known all =
+    judged.gain ≡ true → IsJudged screen old hint judged → AreQuiet screen now old.area old.format judged.right
+quiet_copied screen old now hint judged held known gain right =
     let wide : (copied hint.to hint.sx hint.sy old.known).width ≡ old.known.width = width-changed _ old.known in
     let high : (copied hint.to hint.sx hint.sy old.known).height ≡ old.known.height = height-changed _ old.known in
     rw known (λ x y p q c. quiet x y (rw wide at p) (rw high at q) c)
   where
-    quiet : (x y : ℕ) → x < old.known.width → y < old.known.height → contains hint.to x y ≡ true →
-        (asked_at old.area x y && (whole_at old.area x y || differs (wanted_at screen old.format x y) (at_or (copied hint.to hint.sx hint.sy old.known) x y None))) ≡ false
+    quiet : (x y : ℕ) → x < old.known.width → y < old.known.height → is_quiet judged.right x y ≡ true →
+        (asked_at old.area x y && (whole_at old.area x y
+        || differs (wanted_at screen old.format x y) (at_or (copied hint.to hint.sx hint.sy old.known) x y None)))
+        ≡ false
     quiet x y p q c =
-        let right : differs (wanted_at screen old.format x y) (at_or old.known (hint.sx + (x - hint.to.x)) (hint.sy + (y - hint.to.y)) None) ≡ false =
-        right_is (wanted_at screen old.format x y) (at_or old.known (hint.sx + (x - hint.to.x)) (hint.sy + (y - hint.to.y)) None) (each_counts (right_after screen old hint) hint.to all x y c) in
+        let (inside, part, after) = right x y c in
+        let source = at_or old.known (hint.sx + (x - hint.to.x)) (hint.sy + (y - hint.to.y)) None in
+        let same : differs (wanted_at screen old.format x y) source ≡ false =
+        right_is (wanted_at screen old.format x y) source (rw gain at after) in
         let read = at-copied hint.to hint.sx hint.sy old.known x y None old.alike.known_whole held p q in
-        rw (free.not_whole x y c, read, c, right) (idle_by (asked_at old.area x y))
+        rw (part, read, inside, same) (idle_by (asked_at old.area x y))
 
--- that copy's rectangle, or no place at all
-pub quiet_either : (screen : Grid Colour) (known : Grid (Option ℕ)) (area : Places) (form : PixelFormat) (to found : Rect) (all : Bool) (n : ℕ) →
-    OnTrue all (found ≡ to) → OnFalse all (found ≡ record { x = 0; y = 0; w = 0; h = 0 }) → OnTrue all (n ≡ to.h * to.w) →
-    (n ≡ to.h * to.w → AreQuiet screen known area form to) → AreQuiet screen known area form found
-quiet_either screen known area form to found true n same none right quiet = rw same (quiet right)
-quiet_either screen known area form to found false n same none right quiet = rw none (quiet_nowhere screen known area form)
+-- and those that are right as they are
+pub quiet_left : (screen : Grid Colour) (old : Session) (hint : Hint) (judged : Judged) →
+    judged.gain ≡ false → IsJudged screen old hint judged → IsQuiet screen old judged.right
+quiet_left screen old hint judged useless right x y p q c =
+    let (inside, part, before) = right x y c in
+    let (a, b, c2, d) = contains_true hint.to x y inside in
+    let column : hint.to.x + (x - hint.to.x) ≡ x = omega (arith, a) in
+    let row : hint.to.y + (y - hint.to.y) ≡ y = omega (arith, c2) in
+    let same : differs (wanted_at screen old.format x y) (at_or old.known x y None) ≡ false =
+    right_is (wanted_at screen old.format x y) (at_or old.known x y None) (rw (useless, column, row) at before) in
+    rw (part, same) (idle_by (asked_at old.area x y))
 
--- a cell that lies in a quiet rectangle has nothing to send
-pub quiet_cell : (screen : Grid Colour) (session : Session) (cell quiet : Rect) → Holds session.known cell → ((x y : ℕ) → contains cell x y ≡ true → contains quiet x y ≡ true) →
-    IsQuiet screen session quiet → HasBox (needs_of screen session) cell None
-quiet_cell screen session cell quiet held inside none x y a b c d =
-    none x y (omega (arith, held.0)) (omega (arith, held.1)) (inside x y (contains_row cell x y a b c d))
+-- the rows of a cell that have other places have all that needs sending of it
+pub quiet_rows : (screen : Grid Colour) (session : Session) (cell rows : Rect) (quiet : Quiet) (found : Option Rect) →
+    Holds session.known cell → IsPartOf cell rows →
+    ((x y : ℕ) → contains cell x y ≡ true → (contains rows x y ≡ true) ⊎ (is_quiet quiet x y ≡ true)) →
+    IsQuiet screen session quiet → HasBox (needs_of screen session) rows found →
+    HasBox (needs_of screen session) cell found
+quiet_rows screen session cell rows quiet None held part others none clear = λ x y a b c d.
+    elim (others x y (contains_row cell x y a b c d)) [
+      | inl inside ↦
+          let (e, f, g, h) = contains_true rows x y inside in
+          clear x y e f g h
+      | inr silent ↦ none x y (omega (arith, held.0, b)) (omega (arith, held.1, d)) silent
+    ]
+quiet_rows screen session cell rows quiet (Some r) held part others none box = record {
+  within = (
+    omega (arith, box.within.0, part.left),
+    omega (arith, box.within.1, part.left, part.wide),
+    omega (arith, box.within.2, part.top),
+    omega (arith, box.within.3, part.bottom),
+  );
+  holds = λ x y inside needs. elim (others x y inside) [
+    | inl there ↦ box.holds x y there needs
+    | inr silent ↦
+        let (a, b, c, d) = contains_true cell x y inside in
+        absurd (both_ways (needs_of screen session x y)
+        (none x y (omega (arith, held.0, b)) (omega (arith, held.1, d)) silent) needs)
+  ];
+  tight = box.tight;
+}

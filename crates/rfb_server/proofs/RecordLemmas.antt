@@ -1,5 +1,6 @@
 -- A record by its pixels and its set of known places.
-use Rattle.std.proofs.Common.{◌≡◌, ℕ, ◌<◌, ◌≤◌, ◌+◌, ◌-◌, ◌*◌, ◌||◌, Bool, true, false, Option, Some, None, if◌then◌else◌, List, length, ap, sym, ◌∙◌, refl, arith, zero-add}
+use Rattle.std.proofs.Common.{◌≡◌, ℕ, ◌<◌, ◌≤◌, ◌+◌, ◌-◌, ◌*◌, ◌||◌, Bool, true, false, Option, Some, None}
+use Rattle.std.proofs.Common.{if◌then◌else◌, List, length, ap, sym, ◌∙◌, refl, arith, zero-add}
 use Rattle.std.proofs.lemmas.Bool.Decides.{nat_tests}
 use Rattle.std.specs.Prelude.{slice_index_or}
 use Rattle.std.proofs.lemmas.List.{get_or_default}
@@ -8,7 +9,9 @@ use Rattle.rfb_picture.specs.Rect.{contains}
 use Rattle.rfb_picture.specs.Grid.{Grid, IsGrid, Holds, at_or, uniform, filled, copied, row_of, with_row}
 use Rattle.rfb_codec.specs.RectData.{moved_to}
 use Rattle.rfb_picture.specs.Box.{is_in}
-use Rattle.rfb_picture.proofs.GridLaws.{at-changed, width-changed, height-changed, whole-changed, at-uniform, width-uniform, height-uniform, whole-uniform, same_grid, place_below, contains_more, contains_true, at-with_row, at-filled, slice_index_or-row_of}
+use Rattle.rfb_picture.proofs.GridLaws.{at-changed, width-changed, height-changed, whole-changed, at-uniform}
+use Rattle.rfb_picture.proofs.GridLaws.{width-uniform, height-uniform, whole-uniform, same_grid, place_below}
+use Rattle.rfb_picture.proofs.GridLaws.{contains_more, contains_true, at-with_row, at-filled, slice_index_or-row_of}
 use Rattle.rfb_codec.specs.Effect.{IsRecorded}
 use Rattle.rfb_picture.specs.Area.{Places, IsArea, added}
 use Rattle.rfb_picture.specs.Places.{AllMarked}
@@ -33,7 +36,8 @@ pub at-record_of : (pixels : Grid ℕ) (known : Grid Bool) (x y : ℕ) (d : Opti
     at_or (record_of pixels known) x y d ≡ (if is_in known x y then Some (at_or pixels x y 0) else None)
 unfolding record_of
 at-record_of pixels known x y d p q =
-    at-changed _ (forgotten pixels) x y d (whole-uniform pixels.width pixels.height None) (rw width-uniform p) (rw height-uniform q)
+    at-changed _ (forgotten pixels) x y d (whole-uniform pixels.width pixels.height None)
+    (rw width-uniform p) (rw height-uniform q)
 
 some_is : (known : Bool) (value pixel : ℕ) → (if known then Some value else None) ≡ Some pixel → value ≡ pixel
 some_is true value pixel e = cc
@@ -70,7 +74,8 @@ pub record-none : (pixels : Grid ℕ) (w h : ℕ) →
     pixels.width ≡ w → pixels.height ≡ h →
     record_of pixels (uniform w h false) ≡ uniform w h None
 record-none pixels w h e f =
-    same_grid (record_of pixels (uniform w h false)) (uniform w h None) (whole-record_of pixels _) (whole-uniform w h None)
+    same_grid (record_of pixels (uniform w h false)) (uniform w h None)
+    (whole-record_of pixels _) (whole-uniform w h None)
     (width-record_of pixels _ ∙ (e ∙ sym (width-uniform w h None)))
     (height-record_of pixels _ ∙ (f ∙ sym (height-uniform w h None)))
     (λ x y d p q.
@@ -103,18 +108,23 @@ pub record IsPut (rect : Rect) (rows : ℕ) (block first now : Grid ℕ) : Type 
   pub width : now.width ≡ first.width
   pub height : now.height ≡ first.height
   pub each : (x y : ℕ) → x < first.width → y < first.height →
-      at_or now x y 0 ≡ (if contains (record rect { h = rows }) x y then at_or block (x - rect.x) (y - rect.y) 0 else at_or first x y 0)
+      at_or now x y 0 ≡ (if contains (record rect { h = rows }) x y
+      then at_or block (x - rect.x) (y - rect.y) 0 else at_or first x y 0)
 
 none_in_no_rows : (rect : Rect) (x y : ℕ) → contains (record rect { h = 0 }) x y ≡ false
 none_in_no_rows rect x y = grind (arith, nat_tests)
 
 pub put_start : (rect : Rect) (block first : Grid ℕ) → IsGrid first → IsPut rect 0 block first first
-put_start rect block first whole = record { whole = whole; width = refl; height = refl; each = λ x y p q. rw (none_in_no_rows rect x y) refl }
+put_start rect block first whole =
+    record { whole = whole; width = refl; height = refl; each = λ x y p q. rw (none_in_no_rows rect x y) refl }
 
 -- what a place of the next row is
-in_next_row : (rect : Rect) (n x y : ℕ) → contains (record { x = rect.x; y = rect.y + n; w = rect.w; h = 1 }) x y ≡ true →
+in_next_row : (rect : Rect) (n x y : ℕ) →
+    contains (record { x = rect.x; y = rect.y + n; w = rect.w; h = 1 }) x y ≡ true →
     (rect.x ≤ x) × (x - rect.x < rect.w) × (y ≡ rect.y + n)
-in_next_row rect n x y e = let h = contains_true (record { x = rect.x; y = rect.y + n; w = rect.w; h = 1 }) x y e in (h.0, omega arith, omega arith)
+in_next_row rect n x y e =
+    let h = contains_true (record { x = rect.x; y = rect.y + n; w = rect.w; h = 1 }) x y e in
+    (h.0, omega arith, omega arith)
 
 or_true : (b : Bool) → (b || true) ≡ true
 or_true true = refl
@@ -138,25 +148,32 @@ put_more rect n block first now row sound wide below long is put =
           let p' : x < now.width = rw (put.width) p in
           let q' : y < now.height = rw (put.height) q in
           let written = at-with_row rect.x (rect.y + n) row now x y 0 put.whole p' q' in
-          written ∙ by_row x y (contains (record { x = rect.x; y = rect.y + n; w = length row; h = 1 }) x y) refl (put.each x y p q);
+          written ∙ by_row x y (contains (record { x = rect.x; y = rect.y + n; w = length row; h = 1 }) x y)
+          refl (put.each x y p q);
     }
   where
-    by_row : (x y : ℕ) (here : Bool) → contains (record { x = rect.x; y = rect.y + n; w = length row; h = 1 }) x y ≡ here →
-        at_or now x y 0 ≡ (if contains (record rect { h = n }) x y then at_or block (x - rect.x) (y - rect.y) 0 else at_or first x y 0) →
+    by_row : (x y : ℕ) (here : Bool) →
+        contains (record { x = rect.x; y = rect.y + n; w = length row; h = 1 }) x y ≡ here →
+        at_or now x y 0 ≡ (if contains (record rect { h = n }) x y then at_or block (x - rect.x) (y - rect.y) 0
+        else at_or first x y 0) →
         (if here then slice_index_or row (x - rect.x) (at_or now x y 0) else at_or now x y 0)
-        ≡ (if contains (record rect { h = n + 1 }) x y then at_or block (x - rect.x) (y - rect.y) 0 else at_or first x y 0)
+        ≡ (if contains (record rect { h = n + 1 }) x y
+        then at_or block (x - rect.x) (y - rect.y) 0 else at_or first x y 0)
     by_row x y true e before =
         let there : contains (record { x = rect.x; y = rect.y + n; w = rect.w; h = 1 }) x y ≡ true = rw (← long) e in
         let place = in_next_row rect n x y there in
-        let inside : contains (record rect { h = n + 1 }) x y ≡ true = rw (contains_more rect n x y, there) (or_true (contains (record rect { h = n }) x y)) in
+        let inside : contains (record rect { h = n + 1 }) x y ≡ true =
+        rw (contains_more rect n x y, there) (or_true (contains (record rect { h = n }) x y)) in
         let row_is : y - rect.y ≡ n = omega (arith, place.2) in
         let shown : x - rect.x < block.width = rw wide place.1 in
         rw (inside, row_is, is)
         (slice_index_or-row_of block 0 n block.width (x - rect.x) (at_or now x y 0) shown
-        ∙ (ap (λ (k : ℕ). at_or block k n (at_or now x y 0)) (zero-add (x - rect.x)) ∙ at_any block (x - rect.x) n _ 0 sound shown below))
+        ∙ (ap (λ (k : ℕ). at_or block k n (at_or now x y 0)) (zero-add (x - rect.x))
+        ∙ at_any block (x - rect.x) n _ 0 sound shown below))
     by_row x y false e before =
         let there : contains (record { x = rect.x; y = rect.y + n; w = rect.w; h = 1 }) x y ≡ false = rw (← long) e in
-        let same : contains (record rect { h = n + 1 }) x y ≡ contains (record rect { h = n }) x y = contains_more rect n x y ∙ (rw there (or_false (contains (record rect { h = n }) x y))) in
+        let same : contains (record rect { h = n + 1 }) x y ≡ contains (record rect { h = n }) x y =
+        contains_more rect n x y ∙ (rw there (or_false (contains (record rect { h = n }) x y))) in
         rw same before
 
 -- the record whose pixels and set of known places have taken a block
@@ -190,7 +207,8 @@ known_there : (b : Bool) (v w : ℕ) → (if b then Some v else None) ≡ Some w
 known_there true v w h = refl
 known_there false v w h = absurd cc
 
-in_source : (to : Rect) (sx sy x y : ℕ) → to.x ≤ x → x < to.x + to.w → to.y ≤ y → y < to.y + to.h → contains (moved_to sx sy to) (sx + (x - to.x)) (sy + (y - to.y)) ≡ true
+in_source : (to : Rect) (sx sy x y : ℕ) → to.x ≤ x → x < to.x + to.w → to.y ≤ y → y < to.y + to.h →
+    contains (moved_to sx sy to) (sx + (x - to.x)) (sy + (y - to.y)) ≡ true
 in_source to sx sy x y a b c d = grind (arith, nat_tests)
 
 -- what is known of the source's places is known of the rectangle's from then on
@@ -217,45 +235,63 @@ record_copied pixels known to sx sy whole sound wide high held all =
 
     -- the source of a place of the rectangle
     source_known : (x y : ℕ) → contains to x y ≡ true →
-        (sx + (x - to.x) < pixels.width) × (sy + (y - to.y) < pixels.height) × (is_in known (sx + (x - to.x)) (sy + (y - to.y)) ≡ true)
+        (sx + (x - to.x) < pixels.width) × (sy + (y - to.y) < pixels.height)
+        × (is_in known (sx + (x - to.x)) (sy + (y - to.y)) ≡ true)
     source_known x y e =
         let h = contains_true to x y e in
         let p : sx + (x - to.x) < pixels.width = omega (arith, held.0, h.0, h.1) in
         let q : sy + (y - to.y) < pixels.height = omega (arith, held.1, h.2, h.3) in
-        let there = all (sx + (x - to.x)) (sy + (y - to.y)) (in_source to sx sy x y h.0 h.1 h.2 h.3) in
-        (p, q, known_there (is_in known (sx + (x - to.x)) (sy + (y - to.y))) (at_or pixels (sx + (x - to.x)) (sy + (y - to.y)) 0) there.0 (sym (at-record_of pixels known (sx + (x - to.x)) (sy + (y - to.y)) None p q) ∙ there.1))
+        let there = all (sx + (x - to.x)) (sy + (y - to.y)) (in_source to sx sy x y h.0 h.1 h.2 h.3) in (
+          p,
+          q,
+          known_there (is_in known (sx + (x - to.x)) (sy + (y - to.y)))
+              (at_or pixels (sx + (x - to.x)) (sy + (y - to.y)) 0) there.0
+              (sym (at-record_of pixels known (sx + (x - to.x)) (sy + (y - to.y)) None p q) ∙ there.1),
+        )
 
-    by_place : (x y : ℕ) (d : Option ℕ) (inside : Bool) → contains to x y ≡ inside → x < pixels.width → y < pixels.height →
-        (if (if inside then true else is_in known x y) then Some (if inside then at_or pixels (sx + (x - to.x)) (sy + (y - to.y)) (at_or pixels x y 0) else at_or pixels x y 0) else None)
-        ≡ (if inside then at_or (record_of pixels known) (sx + (x - to.x)) (sy + (y - to.y)) (at_or (record_of pixels known) x y d) else at_or (record_of pixels known) x y d)
+    by_place : (x y : ℕ) (d : Option ℕ) (inside : Bool) → contains to x y ≡ inside →
+        x < pixels.width → y < pixels.height →
+        (if (if inside then true else is_in known x y) then Some (if inside then at_or pixels (sx + (x - to.x))
+        (sy + (y - to.y)) (at_or pixels x y 0) else at_or pixels x y 0) else None)
+        ≡ (if inside then at_or (record_of pixels known) (sx + (x - to.x)) (sy + (y - to.y))
+        (at_or (record_of pixels known) x y d) else at_or (record_of pixels known) x y d)
     by_place x y d true e pp qq =
         let s = source_known x y e in
-        sym (at-record_of pixels known (sx + (x - to.x)) (sy + (y - to.y)) (at_or (record_of pixels known) x y d) s.0 s.1
-        ∙ (rw (s.2) (ap (λ (v : ℕ). Some v) (at_any pixels (sx + (x - to.x)) (sy + (y - to.y)) 0 (at_or pixels x y 0) whole s.0 s.1))))
+        sym (at-record_of pixels known (sx + (x - to.x)) (sy + (y - to.y))
+        (at_or (record_of pixels known) x y d) s.0 s.1
+        ∙ (rw (s.2) (ap (λ (v : ℕ). Some v)
+        (at_any pixels (sx + (x - to.x)) (sy + (y - to.y)) 0 (at_or pixels x y 0) whole s.0 s.1))))
     by_place x y d false e pp qq = sym (at-record_of pixels known x y d pp qq)
 
-    each : (x y : ℕ) (d : Option ℕ) → x < (record_of (copied to sx sy pixels) (filled to true known)).width → y < (record_of (copied to sx sy pixels) (filled to true known)).height →
-        at_or (record_of (copied to sx sy pixels) (filled to true known)) x y d ≡ at_or (copied to sx sy (record_of pixels known)) x y d
+    each : (x y : ℕ) (d : Option ℕ) → x < (record_of (copied to sx sy pixels) (filled to true known)).width →
+        y < (record_of (copied to sx sy pixels) (filled to true known)).height →
+        at_or (record_of (copied to sx sy pixels) (filled to true known)) x y d
+        ≡ at_or (copied to sx sy (record_of pixels known)) x y d
     each x y d p q =
         let pp : x < pixels.width = rw (← left_wide) p in
         let qq : y < pixels.height = rw (← left_high) q in
-        let pc : x < (copied to sx sy pixels).width = rw (width-changed (λ i j old. if contains to i j then at_or pixels (sx + (i - to.x)) (sy + (j - to.y)) old else old) pixels) pp in
-        let qc : y < (copied to sx sy pixels).height = rw (height-changed (λ i j old. if contains to i j then at_or pixels (sx + (i - to.x)) (sy + (j - to.y)) old else old) pixels) qq in
+        let pc : x < (copied to sx sy pixels).width = rw (width-changed (λ i j old. if contains to i j
+        then at_or pixels (sx + (i - to.x)) (sy + (j - to.y)) old else old) pixels) pp in
+        let qc : y < (copied to sx sy pixels).height = rw (height-changed (λ i j old. if contains to i j
+        then at_or pixels (sx + (i - to.x)) (sy + (j - to.y)) old else old) pixels) qq in
         let pk : x < known.width = rw wide pp in
         let qk : y < known.height = rw high qq in
         let pr : x < (record_of pixels known).width = rw (width-record_of pixels known) pp in
         let qr : y < (record_of pixels known).height = rw (height-record_of pixels known) qq in
         let left = at-record_of (copied to sx sy pixels) (filled to true known) x y d pc qc in
         let now = at-filled to true known x y false sound pk qk in
-        let pixel = at-changed (λ i j old. if contains to i j then at_or pixels (sx + (i - to.x)) (sy + (j - to.y)) old else old) pixels x y 0 whole pp qq in
-        let right = at-changed (λ i j old. if contains to i j then at_or (record_of pixels known) (sx + (i - to.x)) (sy + (j - to.y)) old else old) (record_of pixels known) x y d (whole-record_of pixels known) pr qr in
+        let pixel = at-changed (λ i j old. if contains to i j then at_or pixels (sx + (i - to.x)) (sy + (j - to.y)) old
+        else old) pixels x y 0 whole pp qq in
+        let right = at-changed (λ i j old. if contains to i j then at_or (record_of pixels known) (sx + (i - to.x))
+        (sy + (j - to.y)) old else old) (record_of pixels known) x y d (whole-record_of pixels known) pr qr in
         left ∙ (rw (now, pixel) (by_place x y d (contains to x y) refl pp qq) ∙ sym right)
 
 -- ---- places that are known already
 
 filled_already : (g : Grid Bool) (rect : Rect) → IsGrid g → AllMarked (is_in g) rect → g ≡ filled rect true g
 filled_already g rect whole all =
-    same_grid g (filled rect true g) whole (whole-changed _ g whole) (sym (width-changed _ g)) (sym (height-changed _ g))
+    same_grid g (filled rect true g) whole (whole-changed _ g whole)
+    (sym (width-changed _ g)) (sym (height-changed _ g))
     (λ x y d p q. sym (at-filled rect true g x y d whole p q ∙ by_place x y d p q (contains rect x y) refl))
   where
     by_place : (x y : ℕ) (d : Bool) → x < g.width → y < g.height → (inside : Bool) → contains rect x y ≡ inside →
@@ -265,6 +301,7 @@ filled_already g rect whole all =
         sym (get_or_default g.places (y * g.width + x) d false below ∙ all x y e)
     by_place x y d p q false e = refl
 
-pub added_already : (area : Places) (rect : Rect) → IsArea area → AllMarked (is_in area.asked) rect → area ≡ added rect false area
+pub added_already : (area : Places) (rect : Rect) → IsArea area → AllMarked (is_in area.asked) rect →
+    area ≡ added rect false area
 added_already area rect sound all =
     ap (λ (g : Grid Bool). record { asked = g; whole = area.whole }) (filled_already area.asked rect sound.asks all)

@@ -1,5 +1,7 @@
 -- Places of a copy of one row that have the wanted pixel, given by bits and by rows of pixels.
-use Rattle.std.proofs.Common.{sym, ◌≡◌, ◌∙◌, ℕ, zero, suc, ◌+◌, ◌-◌, ◌*◌, ◌/◌, ◌%◌, ◌^◌, ◌<◌, ◌≤◌, ◌==◌, ◌&&◌, Bool, true, false, cond, not, nat_le, nat_lt, List, [], ◌∷◌, length, map, slice_index, bit_and, Option, Some, None, ap, refl, arith}
+use Rattle.std.proofs.Common.{sym, ◌≡◌, ◌∙◌, ℕ, zero, suc, ◌+◌, ◌-◌, ◌*◌, ◌/◌, ◌%◌, ◌^◌, ◌<◌, ◌≤◌, ◌==◌, ◌&&◌, Bool}
+use Rattle.std.proofs.Common.{true, false, cond, not, nat_le, nat_lt, List, [], ◌∷◌, length, map, slice_index, bit_and}
+use Rattle.std.proofs.Common.{Option, Some, None, ap, refl, arith}
 use Rattle.std.specs.Int.{w64, bit_not}
 use Rattle.std.proofs.Math.Nat.{mod-lt}
 use Rattle.std.proofs.lemmas.Bool.Decides.{nat_tests}
@@ -40,7 +42,8 @@ equal_row (v ∷ a) (w ∷ b) p x y (suc n) long_a long_b same =
     let rest = equal_row a b p (x + 1) y n (omega arith) (omega arith)
     (λ i l. let place : x + suc i ≡ x + 1 + i = omega arith in same (suc i) (omega arith) ∙ ap (λ k. p k y) place) in
     let here : ◌≡◌ {A = ℕ} (cond (v == w) 1 0) (cond (p (x + 0) y) 1 0) = ap (λ b. cond b 1 0) (same 0 (omega arith)) in
-    let split : count_row p x y (suc n) ≡ count_row p x y 1 + count_row p (x + 1) y n = ap (count_row p x y) next ∙ row_split p x y 1 n in
+    let split : count_row p x y (suc n) ≡ count_row p x y 1 + count_row p (x + 1) y n =
+    ap (count_row p x y) next ∙ row_split p x y 1 n in
     let one : count_row p x y 1 ≡ cond (p (x + 0) y) 1 0 = omega arith in
     omega (arith, rest, here, split, one)
 
@@ -78,20 +81,23 @@ within x from to e = (grind (arith, nat_tests), grind (arith, nat_tests))
 
 module _ (screen : Grid Colour) (session : Session) (part : Hint) (pixels : Grid ℕ) (wanted : List ℕ)
     (about : Follows screen session) (may : MayCopy session.known part) (single : part.to.h ≡ 1)
-    (shown : ShowsKnown session.known pixels) (wide : pixels.width ≡ session.known.width) (high : pixels.height ≡ session.known.height)
+    (shown : ShowsKnown session.known pixels) (wide : pixels.width ≡ session.known.width)
+    (high : pixels.height ≡ session.known.height)
     (packed : wanted ≡ map (pixel_of session.format) (row_of screen part.to.x part.to.y part.to.w)) where
   wanted_is : (i : ℕ) → i < part.to.w → slice_index wanted i ≡ wanted_at screen session.format (part.to.x + i) part.to.y
   wanted_is i l =
       let row = row_of screen part.to.x part.to.y part.to.w in
       let long : length row ≡ part.to.w =
-      length-row_of screen part.to.x part.to.y part.to.w about.whole (omega (arith, may.target, about.alike)) (omega (arith, may.target, about.alike)) in
+      length-row_of screen part.to.x part.to.y part.to.w about.whole (omega (arith, may.target, about.alike))
+      (omega (arith, may.target, about.alike)) in
       rw packed
       (get_or-map (pixel_of session.format) row i black 0 (omega arith)
       ∙ ap (pixel_of session.format) (slice_index_or-row_of screen part.to.x part.to.y part.to.w i black l))
 
   -- what is right after the copy
   pub after_right : (i : ℕ) → i < part.to.w →
-      (slice_index wanted i == slice_index (row_of pixels part.sx part.sy part.to.w) i) ≡ right_after screen session part (part.to.x + i) part.to.y
+      (slice_index wanted i == slice_index (row_of pixels part.sx part.sy part.to.w) i)
+      ≡ right_after screen session part (part.to.x + i) part.to.y
   after_right i l =
       let column : part.sx + (part.to.x + i - part.to.x) ≡ part.sx + i = omega arith in
       let row : part.sy + (part.to.y - part.to.y) ≡ part.sy = omega arith in
@@ -99,12 +105,15 @@ module _ (screen : Grid Colour) (session : Session) (part : Hint) (pixels : Grid
       let (pixel, known) = may.source_known (part.sx + i) part.sy
       (contains_row source (part.sx + i) part.sy (omega arith) (omega arith) (omega arith) (omega arith)) in
       let read = slice_index_or-row_of pixels part.sx part.sy part.to.w i 0 l in
-      let there : at_or pixels (part.sx + i) part.sy 0 ≡ pixel = shown (part.sx + i) part.sy pixel (omega (arith, may.source)) (omega (arith, may.source)) known in
-      rw (column, row, wanted_is i l, read, there, known) (same_pixel (wanted_at screen session.format (part.to.x + i) part.to.y) pixel)
+      let there : at_or pixels (part.sx + i) part.sy 0 ≡ pixel =
+      shown (part.sx + i) part.sy pixel (omega (arith, may.source)) (omega (arith, may.source)) known in
+      rw (column, row, wanted_is i l, read, there, known)
+      (same_pixel (wanted_at screen session.format (part.to.x + i) part.to.y) pixel)
 
   -- what is right as it is
   before_right : (area : Places) (j : ℕ) → TellsKnown session.known area → j < part.to.w →
-      (is_in area.asked (part.to.x + j) part.to.y && not (not (slice_index wanted j == slice_index (row_of pixels part.to.x part.to.y part.to.w) j)))
+      (is_in area.asked (part.to.x + j) part.to.y
+      && not (not (slice_index wanted j == slice_index (row_of pixels part.to.x part.to.y part.to.w) j)))
       ≡ right_before screen session part (part.to.x + j) part.to.y
   before_right area j told l =
       let x = part.to.x + j in
@@ -112,7 +121,8 @@ module _ (screen : Grid Colour) (session : Session) (part : Hint) (pixels : Grid
       let column : part.to.x + (part.to.x + j - part.to.x) ≡ part.to.x + j = omega arith in
       let row : part.to.y + (part.to.y - part.to.y) ≡ part.to.y = omega arith in
       let read = slice_index_or-row_of pixels part.to.x part.to.y part.to.w j 0 l in
-      let known : is_in area.asked x y ≡ is_known (at_or session.known x y None) = told x y (omega (arith, may.target)) (omega (arith, may.target)) in
+      let known : is_in area.asked x y ≡ is_known (at_or session.known x y None) =
+      told x y (omega (arith, may.target)) (omega (arith, may.target)) in
       rw (column, row, wanted_is j l, read, known)
       (known_right (wanted_at screen session.format x y) (at_or pixels x y 0) (at_or session.known x y None)
       (λ pixel e. shown x y pixel (omega (arith, may.target)) (omega (arith, may.target)) e))
@@ -130,13 +140,18 @@ module _ (screen : Grid Colour) (session : Session) (part : Hint) (pixels : Grid
       let moved = other * 2 ^ (part.to.x % 64) % 2 ^ 64 in
       has_bit-without known moved i (mod-lt (other * 2 ^ (part.to.x % 64)) (pow_pos 64)) low
       ∙ (rw (bits i low)
-      (gated (nat_le part.to.x x && nat_lt x (part.to.x + part.to.w)) (is_in area.asked x y) (not (has_bit moved i)) (right_before screen session part x y)
+      (gated (nat_le part.to.x x && nat_lt x (part.to.x + part.to.w)) (is_in area.asked x y) (not (has_bit moved i))
+      (right_before screen session part x y)
       (λ e.
       let (from, to) = within x part.to.x (part.to.x + part.to.w) e in
       let j = i - part.to.x % 64 in
       let place : part.to.x + j ≡ x = omega arith in
       let inside : nat_lt j (length wanted) ≡ true = grind (arith, nat_tests) in
-      let told_bit : has_bit other j ≡ (nat_lt j (length wanted) && not (slice_index wanted j == slice_index (row_of pixels part.to.x part.to.y part.to.w) j)) = differ j (omega arith) in
-      let bit : has_bit moved i ≡ not (slice_index wanted j == slice_index (row_of pixels part.to.x part.to.y part.to.w) j) =
-      has_bit-up other (part.to.x % 64) i low (omega arith) ∙ told_bit ∙ ap (λ b. b && not (slice_index wanted j == slice_index (row_of pixels part.to.x part.to.y part.to.w) j)) inside in
+      let told_bit : has_bit other j ≡ (nat_lt j (length wanted)
+      && not (slice_index wanted j == slice_index (row_of pixels part.to.x part.to.y part.to.w) j)) =
+      differ j (omega arith) in
+      let bit : has_bit moved i
+      ≡ not (slice_index wanted j == slice_index (row_of pixels part.to.x part.to.y part.to.w) j) =
+      has_bit-up other (part.to.x % 64) i low (omega arith) ∙ told_bit ∙ ap (λ b. b
+      && not (slice_index wanted j == slice_index (row_of pixels part.to.x part.to.y part.to.w) j)) inside in
       rw bit (rw place at (before_right area j told (omega arith))))))

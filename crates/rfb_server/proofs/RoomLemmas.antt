@@ -1,5 +1,7 @@
 -- Room for the rectangles of an update, cell by cell.
-use Rattle.std.proofs.Common.{◌≡◌, ℕ, zero, suc, ◌+◌, ◌-◌, ◌*◌, ◌<◌, ◌≤◌, ◌&&◌, Bool, true, false, nat_eq, nat_lt, Option, Some, None, is_some, if◌then◌else◌, refl, ap, subst, ◌∙◌, arith, inl, inr, add-one}
+use Rattle.std.proofs.Common.{◌≡◌, ℕ, zero, suc, ◌+◌, ◌-◌, ◌*◌, ◌<◌, ◌≤◌, ◌&&◌, Bool, true, false, nat_eq, nat_lt}
+use Rattle.std.proofs.Common.{Option, Some, None, is_some, if◌then◌else◌, refl, ap, subst, ◌∙◌, arith, inl, inr}
+use Rattle.std.proofs.Common.{add-one}
 use Rattle.std.specs.Int.{div_ceil}
 use Rattle.std.proofs.lemmas.Bool.{cases_eq, cases_lt, both_ways}
 use Rattle.std.proofs.lemmas.Bool.Decides.{nat_tests}
@@ -64,8 +66,12 @@ pub sum_cut : (n m : ℕ) (cost : ℕ → ℕ) → n ≤ m → sum_below (cut n 
 sum_cut n zero cost l = let e : n ≡ 0 = omega arith in rw e refl
 sum_cut n (suc m) cost l =
     elim (cases_eq n (suc m)) [
-      | inl e ↦ subst (λ (k : ℕ). sum_below (cut n cost) k ≡ sum_below cost n) e (sum_same (cut n cost) cost n (cut_before n cost))
-      | inr other ↦ let rest = sum_cut n m cost (omega arith) in let none = cut_after n cost m (omega arith) in omega (arith, rest, none)
+      | inl e ↦ subst (λ (k : ℕ). sum_below (cut n cost) k ≡ sum_below cost n) e
+          (sum_same (cut n cost) cost n (cut_before n cost))
+      | inr other ↦
+          let rest = sum_cut n m cost (omega arith) in
+          let none = cut_after n cost m (omega arith) in
+          omega (arith, rest, none)
     ]
 
 module _ (width height across : ℕ) (p : ℕ → ℕ → Bool) (form : PixelFormat) where
@@ -98,18 +104,22 @@ module _ (width height across : ℕ) (p : ℕ → ℕ → Bool) (form : PixelFor
             (λ r tight a b c d.
             let (j, inside, e) = tight.left in
             let (x0, x1, y0, y1) = contains_true r r.x j inside in
-            let there : contains cell r.x j ≡ true = contains_row cell r.x j (omega arith) (omega arith) (omega arith) (omega arith) in
+            let there : contains cell r.x j ≡ true =
+            contains_row cell r.x j (omega arith) (omega arith) (omega arith) (omega arith) in
             let of_cell : cell_of across r.x j ≡ i = is.inside r.x j there in
-            absurd (both_ways (p r.x j) (none r.x j (omega (arith, is.held)) (omega (arith, is.held)) (omega arith) (omega arith)) e))
+            absurd (both_ways (p r.x j)
+            (none r.x j (omega (arith, is.held)) (omega (arith, is.held)) (omega arith) (omega arith)) e))
       ]
 
   -- an edge of a rectangle in a cell is a place of the cell
-  edge : (n : ℕ) (cell other r : Rect) (x y : ℕ) → IsCell width height across n cell → IsCell width height across n other →
+  edge : (n : ℕ) (cell other r : Rect) (x y : ℕ) → IsCell width height across n cell →
+      IsCell width height across n other →
       cell.x ≤ r.x → r.x + r.w ≤ cell.x + cell.w → cell.y ≤ r.y → r.y + r.h ≤ cell.y + cell.h →
       contains r x y ≡ true → contains other x y ≡ true
   edge n cell other r x y is that a b d e c =
       let (x0, x1, y0, y1) = contains_true r x y c in
-      let there : contains cell x y ≡ true = contains_row cell x y (omega arith) (omega arith) (omega arith) (omega arith) in
+      let there : contains cell x y ≡ true =
+      contains_row cell x y (omega arith) (omega arith) (omega arith) (omega arith) in
       let (f, g, h, i) = contains_true cell x y there in
       that.all x y (omega (arith, is.held)) (omega (arith, is.held)) (is.inside x y there)
 
@@ -139,7 +149,8 @@ module _ (width height across : ℕ) (p : ℕ → ℕ → Bool) (form : PixelFor
       omega arith
 
   -- a cell in which no place is such costs nothing, so any number is enough
-  pub cost_nothing : (cost n : ℕ) (other cell : Rect) → IsCell width height across n other → IsCell width height across n cell →
+  pub cost_nothing : (cost n : ℕ) (other cell : Rect) → IsCell width height across n other →
+      IsCell width height across n cell →
       IsClear p other.x (other.x + other.w) other.y (other.y + other.h) → IsCost p form cell cost
   cost_nothing cost n other cell that is none = λ r tight a b c d.
       let (j, inside, here) = tight.left in
@@ -147,13 +158,16 @@ module _ (width height across : ℕ) (p : ℕ → ℕ → Bool) (form : PixelFor
       absurd (both_ways (p r.x j) (none r.x j (omega arith) (omega arith) (omega arith) (omega arith)) here)
 
   -- where all cells cost nothing no place is such
-  pub none_without_room : (cost : ℕ → ℕ) (n : ℕ) (cell : Rect) (x y : ℕ) → AreCosts width height across p form n cost → sum_below cost n ≤ 0 →
-      cell_of across x y < n → IsCell width height across (cell_of across x y) cell → contains cell x y ≡ true → p x y ≡ true → ⊥
+  pub none_without_room : (cost : ℕ → ℕ) (n : ℕ) (cell : Rect) (x y : ℕ) →
+      AreCosts width height across p form n cost → sum_below cost n ≤ 0 →
+      cell_of across x y < n → IsCell width height across (cell_of across x y) cell →
+      contains cell x y ≡ true → p x y ≡ true → ⊥
   none_without_room cost n cell x y costs none below is inside here =
       let (a, b, c, d) = contains_true cell x y inside in
       let more = sum_more cost (cell_of across x y) in
       let order = sum_order cost (cell_of across x y + 1) n (omega arith) in
-      let at : contains (record { x = x; y = y; w = 1; h = 1 }) x y ≡ true = contains_row (record { x = x; y = y; w = 1; h = 1 }) x y (omega arith) (omega arith) (omega arith) (omega arith) in
+      let at : contains (record { x = x; y = y; w = 1; h = 1 }) x y ≡ true = contains_row
+      (record { x = x; y = y; w = 1; h = 1 }) x y (omega arith) (omega arith) (omega arith) (omega arith) in
       let last : x + 1 - 1 ≡ x = omega arith in
       let lower : y + 1 - 1 ≡ y = omega arith in
       let tight : IsTight p (record { x = x; y = y; w = 1; h = 1 }) = record {
@@ -163,7 +177,8 @@ module _ (width height across : ℕ) (p : ℕ → ℕ → Bool) (form : PixelFor
         top = (x, at, here);
         bottom = (x, rw lower at, rw lower here);
       } in
-      let cost_is = costs (cell_of across x y) cell below is (record { x = x; y = y; w = 1; h = 1 }) tight (omega arith) (omega arith) (omega arith) (omega arith) in
+      let cost_is = costs (cell_of across x y) cell below is (record { x = x; y = y; w = 1; h = 1 }) tight (omega arith)
+      (omega arith) (omega arith) (omega arith) in
       omega (arith, cost_is, more, order, none)
 
 -- few columns and rows have few places
@@ -185,7 +200,8 @@ few_cells w h a b =
 -- ---- how much room there is at most
 
 -- a cell more costs at most what it may
-pub one_cell_more : (most : ℕ → ℕ) (at index room cost : ℕ) → at ≤ index → room ≤ sum_below most at → cost ≤ most index →
+pub one_cell_more : (most : ℕ → ℕ) (at index room cost : ℕ) → at ≤ index →
+    room ≤ sum_below most at → cost ≤ most index →
     room + cost ≤ sum_below most (index + 1)
 one_cell_more most at index room cost after before one =
     let order = sum_order most at index after in
@@ -225,7 +241,8 @@ box_asked area cell box is =
     let y_is : j ≡ cell.y + (j - cell.y) = omega arith in
     some_at (λ j. some_below (λ i. asked_at area (cell.x + i) (cell.y + j)) cell.w) cell.h (j - cell.y) (omega arith)
     (some_at (λ i. asked_at area (cell.x + i) (cell.y + (j - cell.y))) cell.w (box.x - cell.x) (omega arith)
-    (subst (λ (x : ℕ). asked_at area x (cell.y + (j - cell.y)) ≡ true) x_is (subst (λ (y : ℕ). asked_at area box.x y ≡ true) y_is here)))
+    (subst (λ (x : ℕ). asked_at area x (cell.y + (j - cell.y)) ≡ true) x_is
+    (subst (λ (y : ℕ). asked_at area box.x y ≡ true) y_is here)))
 
 -- where the asked places of a cell have a box, one is; and where they have none, none is
 pub found_asked : (area : Places) (cell : Rect) (found : Option Rect) → HasBox (asked_at area) cell found →

@@ -11,8 +11,10 @@ use Rattle.rfb_codec.specs.Codec.{Appends}
 use Rattle.rfb_codec.specs.ByRule.{StandsIn, GivesUp}
 use Rattle.rfb_server.specs.inside.Rectangle.{AppendsIn, SendsRect}
 
-pub coded_in : (stands : PixelFormat → Grid ℕ → List ℕ → Type 0) (f : PixelFormat) (rect : Rect) (encoding : Encoding) (block : Grid ℕ) (old mid new head : List ℕ) →
-    ((width height : ℕ) (bytes : List ℕ) → stands f block bytes → SpellsData f width height rect encoding (Pixels block) bytes) →
+pub coded_in : (stands : PixelFormat → Grid ℕ → List ℕ → Type 0) (f : PixelFormat) (rect : Rect) (encoding : Encoding)
+    (block : Grid ℕ) (old mid new head : List ℕ) →
+    ((width height : ℕ) (bytes : List ℕ) → stands f block bytes →
+    SpellsData f width height rect encoding (Pixels block) bytes) →
     ((bytes : List ℕ) → stands f block bytes → StandsIn encoding f block bytes) →
     mid ≡ old ++ head → SpellsRectHead (record { rect = rect; encoding = encoding }) head →
     Appends stands f block mid new → AppendsIn f rect encoding block old new
@@ -32,7 +34,9 @@ coded_in stands f rect encoding block old mid new head reads rule e spelled appe
     }
 
 -- a codec that answers true has sent it
-pub sent_coded : (result : Bool) (f : PixelFormat) (rect : Rect) (encoding given : Encoding) (block : Grid ℕ) (old new : List ℕ) → result ≡ true → encoding ≡ given →
-    OnTrue result (AppendsIn f rect given block old new) → OnTrue result (GivesUp given f block → ⊥) → SendsRect f rect encoding block old new
+pub sent_coded : (result : Bool) (f : PixelFormat) (rect : Rect) (encoding given : Encoding) (block : Grid ℕ)
+    (old new : List ℕ) → result ≡ true → encoding ≡ given →
+    OnTrue result (AppendsIn f rect given block old new) → OnTrue result (GivesUp given f block → ⊥) →
+    SendsRect f rect encoding block old new
 sent_coded true f rect encoding given block old new e is sent taken = rw is (inl (taken, sent))
 sent_coded false f rect encoding given block old new e is sent taken = absurd cc

@@ -1,5 +1,7 @@
 -- A cell more in a composing: one that has nothing to send, and one of which a rectangle is sent.
-use Rattle.std.proofs.Common.{◌≡◌, ℕ, ◌+◌, ◌-◌, ◌<◌, ◌≤◌, ◌&&◌, ◌||◌, Bool, true, false, not, List, [], ◌∷◌, ◌++◌, map, Option, Some, None, if◌then◌else◌, refl, sym, ap, ◌∙◌, arith, inl, inr, append_assoc, append-nil, length-append, ◌==◌}
+use Rattle.std.proofs.Common.{◌≡◌, ℕ, ◌+◌, ◌-◌, ◌<◌, ◌≤◌, ◌&&◌, ◌||◌, Bool, true, false, not, List, [], ◌∷◌, ◌++◌, map}
+use Rattle.std.proofs.Common.{Option, Some, None, if◌then◌else◌, refl, sym, ap, ◌∙◌, arith, inl, inr, append_assoc}
+use Rattle.std.proofs.Common.{append-nil, length-append, ◌==◌}
 use Rattle.std.proofs.lemmas.Bool.{cases_eq, cases_lt, both_ways, or_left, or_right}
 use Rattle.std.proofs.lemmas.Bool.Decides.{nat_tests}
 use Rattle.rfb_pixel.specs.declared.colour.Colour.{Colour}
@@ -19,7 +21,8 @@ use Rattle.rfb_codec.proofs.EffectLaws.{effect_painted, effects_picture, agrees_
 use Rattle.rfb_server.specs.Server.{ServerState, black}
 use Rattle.rfb_server.specs.Request.{wanted_at, wanted, recorded, is_asked, is_whole, differs, needs_at, needs_sending}
 use Rattle.rfb_server.specs.Cells.{cell_of, IsCell}
-use Rattle.rfb_server.specs.Composing.{Part, sent_as, between, IsPlace, HasItsData, HaveTheirData, IsBlockOf, AreBlocksOf, IsBoxOf, is_in_some}
+use Rattle.rfb_server.specs.Composing.{Part, sent_as, between, IsPlace, HasItsData, HaveTheirData, IsBlockOf}
+use Rattle.rfb_server.specs.Composing.{AreBlocksOf, IsBoxOf, is_in_some}
 use Rattle.rfb_server.specs.inside.Sends.{SendsPixels, Sends}
 use Rattle.rfb_server.proofs.BoxesLemmas.{boxes_none, boxes_push}
 
@@ -44,32 +47,39 @@ quiet_place false whole pixel old e a = absurd cc
 module _ (s : ServerState) where
   pub effects_push : (parts : List Part) (part : Part) (picture : Grid Colour) →
       effects (between s) (map item_of (map sent_as (parts ++ part ∷ []))) picture
-      ≡ effect (between s) (Rectangle part.head part.body) (effects (between s) (map item_of (map sent_as parts)) picture)
+      ≡ effect (between s) (Rectangle part.head part.body)
+      (effects (between s) (map item_of (map sent_as parts)) picture)
   effects_push [] part picture = refl
-  effects_push (first ∷ parts) part picture = effects_push parts part (effect (between s) (Rectangle first.head first.body) picture)
+  effects_push (first ∷ parts) part picture =
+      effects_push parts part (effect (between s) (Rectangle first.head first.body) picture)
 
-  pub spelled_push : (parts : List Part) (part : Part) (bytes more : List ℕ) → SpellsRectangles (between s) (map sent_as parts) bytes →
+  pub spelled_push : (parts : List Part) (part : Part) (bytes more : List ℕ) →
+      SpellsRectangles (between s) (map sent_as parts) bytes →
       SpellsRectangles (between s) (sent_as part ∷ []) more →
       SpellsRectangles (between s) (map sent_as (parts ++ part ∷ [])) (bytes ++ more)
   spelled_push [] part bytes more none one = rw none one
   spelled_push (first ∷ parts) part bytes more (front, back, whole, here, rest) one =
       (front, back ++ more, rw whole (append_assoc front back more), here, spelled_push parts part back more rest one)
 
-  pub data_push : (parts : List Part) (part : Part) → HaveTheirData s parts → HasItsData s part → HaveTheirData s (parts ++ part ∷ [])
+  pub data_push : (parts : List Part) (part : Part) → HaveTheirData s parts → HasItsData s part →
+      HaveTheirData s (parts ++ part ∷ [])
   data_push [] part all one = (one, tt)
   data_push (first ∷ parts) part (here, rest) one = (here, data_push parts part rest one)
 
-  pub blocks_push : (parts : List Part) (part : Part) → AreBlocksOf s parts → IsBlockOf s part → AreBlocksOf s (parts ++ part ∷ [])
+  pub blocks_push : (parts : List Part) (part : Part) → AreBlocksOf s parts → IsBlockOf s part →
+      AreBlocksOf s (parts ++ part ∷ [])
   blocks_push [] part all one = (one, tt)
   blocks_push (first ∷ parts) part (here, rest) one = (here, blocks_push parts part rest one)
 
-pub in_push : (parts : List Part) (part : Part) (x y : ℕ) → is_in_some (parts ++ part ∷ []) x y ≡ (is_in_some parts x y || contains part.head.rect x y)
+pub in_push : (parts : List Part) (part : Part) (x y : ℕ) →
+    is_in_some (parts ++ part ∷ []) x y ≡ (is_in_some parts x y || contains part.head.rect x y)
 in_push [] part x y = or_none (contains part.head.rect x y)
   where
     or_none : (b : Bool) → (b || false) ≡ (false || b)
     or_none true = refl
     or_none false = refl
-in_push (first ∷ parts) part x y = rw (in_push parts part x y) (or_swing (contains first.head.rect x y) (is_in_some parts x y) (contains part.head.rect x y))
+in_push (first ∷ parts) part x y = rw (in_push parts part x y)
+    (or_swing (contains first.head.rect x y) (is_in_some parts x y) (contains part.head.rect x y))
   where
     or_swing : (a b c : Bool) → (a || (b || c)) ≡ ((a || b) || c)
     or_swing true b c = refl
@@ -78,7 +88,8 @@ in_push (first ∷ parts) part x y = rw (in_push parts part x y) (or_swing (cont
 -- ---- a rectangle
 
 -- what is recorded after it
-pub noted_at : (screen : Grid Colour) (form : PixelFormat) (rect : Rect) (block : Grid ℕ) (known now : Grid (Option ℕ)) (x y : ℕ) →
+pub noted_at : (screen : Grid Colour) (form : PixelFormat) (rect : Rect) (block : Grid ℕ)
+    (known now : Grid (Option ℕ)) (x y : ℕ) →
     PacksRect form screen rect block → IsRecorded rect block known now → x < now.width → y < now.height →
     at_or now x y None ≡ (if contains rect x y then Some (wanted_at screen form x y) else at_or known x y None)
 noted_at screen form rect block known now x y packed noted p q = noted x y p q ∙ by (contains rect x y) refl
@@ -95,7 +106,8 @@ noted_at screen form rect block known now x y packed noted p q = noted x y p q �
     by false e = refl
 
 -- it as a part of an update
-abbrev pub part_of : (rect : Rect) (screen : Grid Colour) (s : ServerState) (known now : Grid (Option ℕ)) (bytes : List ℕ) → SendsPixels screen s.form s.encodings rect known now bytes → Part
+abbrev pub part_of : (rect : Rect) (screen : Grid Colour) (s : ServerState) (known now : Grid (Option ℕ))
+    (bytes : List ℕ) → SendsPixels screen s.form s.encodings rect known now bytes → Part
 part_of rect screen s known now bytes sent = record {
   head = record { rect = rect; encoding = sent.encoding };
   contents = Pixels sent.block;
@@ -123,7 +135,8 @@ module _ (across : ℕ) (s : ServerState) where
   }
 
   -- a cell of which nothing needs sending
-  pub sends_none : (n : ℕ) (known : Grid (Option ℕ)) (parts : List Part) (bytes : List ℕ) (cell : Rect) → IsArea s.area →
+  pub sends_none : (n : ℕ) (known : Grid (Option ℕ)) (parts : List Part) (bytes : List ℕ) (cell : Rect) →
+      IsArea s.area →
       s.area.asked.width ≡ s.screen.width → s.area.asked.height ≡ s.screen.height →
       IsCell s.screen.width s.screen.height across n cell →
       IsClear (needs_at s.screen known s.area s.form) cell.x (cell.x + cell.w) cell.y (cell.y + cell.h) →
@@ -150,7 +163,8 @@ module _ (across : ℕ) (s : ServerState) where
     later = λ x y p l. sends.later x y p (omega arith);
     renewed = λ x y p l w.
         elim (cases_eq (cell_of across x y) n) [
-          | inl here ↦ absurd (both_ways (is_whole s x y) (quiet x y p here (area.inside x y (rw wide p.0) (rw high p.1) w)).1 w)
+          | inl here ↦
+              absurd (both_ways (is_whole s x y) (quiet x y p here (area.inside x y (rw wide p.0) (rw high p.1) w)).1 w)
           | inr other ↦ sends.renewed x y p (omega arith) w
         ];
   }
@@ -162,12 +176,14 @@ module _ (across : ℕ) (s : ServerState) where
 
       quiet : (x y : ℕ) → IsPlace s x y → cell_of across x y ≡ n → is_asked s x y ≡ true →
           (at_or known x y None ≡ Some (wanted s x y)) × (is_whole s x y ≡ false)
-      quiet x y p here a = quiet_place (is_asked s x y) (is_whole s x y) (wanted s x y) (at_or known x y None) (clear_at x y p here) a
+      quiet x y p here a =
+          quiet_place (is_asked s x y) (is_whole s x y) (wanted s x y) (at_or known x y None) (clear_at x y p here) a
 
   -- cells of which nothing needs sending
   pub sends_skip : (n m : ℕ) (known : Grid (Option ℕ)) (parts : List Part) (bytes : List ℕ) → IsArea s.area →
       s.area.asked.width ≡ s.screen.width → s.area.asked.height ≡ s.screen.height → n ≤ m →
-      ((x y : ℕ) → IsPlace s x y → n ≤ cell_of across x y → cell_of across x y < m → needs_at s.screen known s.area s.form x y ≡ false) →
+      ((x y : ℕ) → IsPlace s x y → n ≤ cell_of across x y → cell_of across x y < m →
+      needs_at s.screen known s.area s.form x y ≡ false) →
       Sends across n s known parts bytes → Sends across m s known parts bytes
   sends_skip n m known parts bytes area wide high order clear sends = record {
     whole = sends.whole;
@@ -185,7 +201,8 @@ module _ (across : ℕ) (s : ServerState) where
     answered = λ x y p l a.
         elim (cases_lt (cell_of across x y) n) [
           | inl less ↦ sends.answered x y p less a
-          | inr more ↦ (quiet_place (is_asked s x y) (is_whole s x y) (wanted s x y) (at_or known x y None) (clear x y p more l) a).0
+          | inr more ↦ (quiet_place (is_asked s x y) (is_whole s x y) (wanted s x y)
+              (at_or known x y None) (clear x y p more l) a).0
         ];
     noted = sends.noted;
     later = λ x y p l. sends.later x y p (omega (arith, l, order));
@@ -194,7 +211,8 @@ module _ (across : ℕ) (s : ServerState) where
           | inl less ↦ sends.renewed x y p less w
           | inr more ↦
               absurd (both_ways (is_whole s x y)
-              (quiet_place (is_asked s x y) (is_whole s x y) (wanted s x y) (at_or known x y None) (clear x y p more l) (area.inside x y (rw wide p.0) (rw high p.1) w)).1 w)
+              (quiet_place (is_asked s x y) (is_whole s x y) (wanted s x y) (at_or known x y None) (clear x y p more l)
+              (area.inside x y (rw wide p.0) (rw high p.1) w)).1 w)
         ];
   }
 
@@ -224,24 +242,36 @@ module _ (across : ℕ) (s : ServerState) where
   }
     where
       part : Part
-      part = record { head = record { rect = rect; encoding = sent.encoding }; contents = Pixels sent.block; body = sent.coded.body }
+      part = record {
+        head = record { rect = rect; encoding = sent.encoding };
+        contents = Pixels sent.block;
+        body = sent.coded.body;
+      }
 
       not_empty : (parts : List Part) (last : Part) → parts ++ last ∷ [] ≡ [] → ⊥
       not_empty [] last e = cc
       not_empty (first ∷ parts) last e = cc
 
       in_now : (x y : ℕ) → IsPlace s x y → (x < now.width) × (y < now.height)
-      in_now x y p = (rw (← sent.alike.columns, ← sends.alike.columns, ← size.columns) p.0, rw (← sent.alike.rows, ← sends.alike.rows, ← size.rows) p.1)
+      in_now x y p = (
+        rw (← sent.alike.columns, ← sends.alike.columns, ← size.columns) p.0,
+        rw (← sent.alike.rows, ← sends.alike.rows, ← size.rows) p.1,
+      )
 
       -- what is known after it
-      step : (x y : ℕ) → IsPlace s x y → at_or now x y None ≡ (if contains rect x y then Some (wanted s x y) else at_or known x y None)
-      step x y p = let (a, b) = in_now x y p in noted_at s.screen s.form rect sent.block known now x y sent.packed sent.noted a b
+      step : (x y : ℕ) → IsPlace s x y →
+          at_or now x y None ≡ (if contains rect x y then Some (wanted s x y) else at_or known x y None)
+      step x y p =
+          let (a, b) = in_now x y p in
+          noted_at s.screen s.form rect sent.block known now x y sent.packed sent.noted a b
 
       -- a place of the rectangle is of the cell
-      in_cell : (x y : ℕ) → contains rect x y ≡ true → (contains cell x y ≡ true) × (IsPlace s x y) × (cell_of across x y ≡ n)
+      in_cell : (x y : ℕ) → contains rect x y ≡ true →
+          (contains cell x y ≡ true) × (IsPlace s x y) × (cell_of across x y ≡ n)
       in_cell x y c =
           let (a, b, d, e) = contains_true rect x y c in
-          let there : contains cell x y ≡ true = contains_row cell x y (omega (arith, box.within)) (omega (arith, box.within)) (omega (arith, box.within)) (omega (arith, box.within)) in
+          let there : contains cell x y ≡ true = contains_row cell x y (omega (arith, box.within))
+          (omega (arith, box.within)) (omega (arith, box.within)) (omega (arith, box.within)) in
           let (f, g, h, i) = contains_true cell x y there in
           (there, (omega (arith, is.held), omega (arith, is.held)), is.inside x y there)
 
@@ -271,7 +301,8 @@ module _ (across : ℕ) (s : ServerState) where
       data_are = sent.coded.body_is s.screen.width s.screen.height
 
       -- the places that need sending have not changed in this cell
-      same_need : (x y : ℕ) → contains rect x y ≡ true → needs_at s.screen known s.area s.form x y ≡ true → needs_sending s x y ≡ true
+      same_need : (x y : ℕ) → contains rect x y ≡ true → needs_at s.screen known s.area s.form x y ≡ true →
+          needs_sending s x y ≡ true
       same_need x y c e =
           let (there, p, here) = in_cell x y c in
           rw (sends.later x y p (omega arith)) at e
@@ -314,27 +345,40 @@ module _ (across : ℕ) (s : ServerState) where
       agrees picture whole alike before =
           let shown : Grid Colour = effects (between s) (map item_of (map sent_as parts)) picture in
           let kept = effects_picture (between s) (map item_of (map sent_as parts)) picture in
-          let fits : IsAlike shown known = record { columns = kept.columns ∙ (alike.columns ∙ sends.alike.columns); rows = kept.rows ∙ (alike.rows ∙ sends.alike.rows) } in
-          rw (effects_push s parts part picture, effect_painted (between s) part.head part.contents part.body shown data_are)
-          (agrees_placed s.form rect shown known sent.block now (kept.whole whole) fits sent.alike (sends.agrees picture whole alike before) sent.noted)
+          let fits : IsAlike shown known = record {
+            columns = kept.columns ∙ (alike.columns ∙ sends.alike.columns);
+            rows = kept.rows ∙ (alike.rows ∙ sends.alike.rows);
+          } in
+          rw (
+            effects_push s parts part picture,
+            effect_painted (between s) part.head part.contents part.body shown data_are,
+          )
+          (agrees_placed s.form rect shown known sent.block now (kept.whole whole) fits sent.alike
+          (sends.agrees picture whole alike before) sent.noted)
 
-      by_inside : (x y : ℕ) → IsPlace s x y → (here : Bool) → contains rect x y ≡ here → (here ≡ false → at_or known x y None ≡ Some (wanted s x y)) →
+      by_inside : (x y : ℕ) → IsPlace s x y → (here : Bool) → contains rect x y ≡ here →
+          (here ≡ false → at_or known x y None ≡ Some (wanted s x y)) →
           at_or now x y None ≡ Some (wanted s x y)
       by_inside x y p true e old = step x y p ∙ (rw e refl)
       by_inside x y p false e old = step x y p ∙ (rw e (old refl))
 
-      not_needed_by : (x y : ℕ) (need : Bool) → needs_at s.screen known s.area s.form x y ≡ need → contains cell x y ≡ true → contains rect x y ≡ false → need ≡ false
+      not_needed_by : (x y : ℕ) (need : Bool) → needs_at s.screen known s.area s.form x y ≡ need →
+          contains cell x y ≡ true → contains rect x y ≡ false → need ≡ false
       not_needed_by x y true e c out = absurd (both_ways (contains rect x y) out (box.holds x y c e))
       not_needed_by x y false e c out = refl
 
-      not_needed : (x y : ℕ) → IsPlace s x y → cell_of across x y ≡ n → contains rect x y ≡ false → needs_at s.screen known s.area s.form x y ≡ false
-      not_needed x y p here out = not_needed_by x y (needs_at s.screen known s.area s.form x y) refl (is.all x y p.0 p.1 here) out
+      not_needed : (x y : ℕ) → IsPlace s x y → cell_of across x y ≡ n → contains rect x y ≡ false →
+          needs_at s.screen known s.area s.form x y ≡ false
+      not_needed x y p here out =
+          not_needed_by x y (needs_at s.screen known s.area s.form x y) refl (is.all x y p.0 p.1 here) out
 
-      answered : (x y : ℕ) → IsPlace s x y → cell_of across x y < n + 1 → is_asked s x y ≡ true → at_or now x y None ≡ Some (wanted s x y)
+      answered : (x y : ℕ) → IsPlace s x y → cell_of across x y < n + 1 → is_asked s x y ≡ true →
+          at_or now x y None ≡ Some (wanted s x y)
       answered x y p l a =
           by_inside x y p (contains rect x y) refl
           (λ out. elim (cases_eq (cell_of across x y) n) [
-            | inl here ↦ (quiet_place (is_asked s x y) (is_whole s x y) (wanted s x y) (at_or known x y None) (not_needed x y p here out) a).0
+            | inl here ↦ (quiet_place (is_asked s x y) (is_whole s x y) (wanted s x y) (at_or known x y None)
+                (not_needed x y p here out) a).0
             | inr other ↦ sends.answered x y p (omega arith) a
           ])
 
@@ -345,21 +389,26 @@ module _ (across : ℕ) (s : ServerState) where
       either false true right old = refl
       either false false right old = refl
 
-      noted : (x y : ℕ) → IsPlace s x y → at_or now x y None ≡ (if is_in_some (parts ++ part ∷ []) x y then Some (wanted s x y) else recorded s x y)
+      noted : (x y : ℕ) → IsPlace s x y →
+          at_or now x y None ≡ (if is_in_some (parts ++ part ∷ []) x y then Some (wanted s x y) else recorded s x y)
       noted x y p =
           step x y p ∙
-          (rw (sends.noted x y p, in_push parts part x y) (either (is_in_some parts x y) (contains rect x y) (Some (wanted s x y)) (recorded s x y)))
+          (rw (sends.noted x y p, in_push parts part x y)
+          (either (is_in_some parts x y) (contains rect x y) (Some (wanted s x y)) (recorded s x y)))
 
-      renewed_by : (x y : ℕ) (here : Bool) → IsPlace s x y → contains rect x y ≡ here → cell_of across x y < n + 1 → is_whole s x y ≡ true →
+      renewed_by : (x y : ℕ) (here : Bool) → IsPlace s x y → contains rect x y ≡ here →
+          cell_of across x y < n + 1 → is_whole s x y ≡ true →
           (is_in_some parts x y || here) ≡ true
       renewed_by x y true p e l w = or_right (is_in_some parts x y) true refl
       renewed_by x y false p e l w =
           elim (cases_eq (cell_of across x y) n) [
             | inl here ↦
                 let a : is_asked s x y ≡ true = area.inside x y (rw wide p.0) (rw high p.1) w in
-                absurd (both_ways (is_whole s x y) (quiet_place (is_asked s x y) (is_whole s x y) (wanted s x y) (at_or known x y None) (not_needed x y p here e) a).1 w)
+                absurd (both_ways (is_whole s x y) (quiet_place (is_asked s x y) (is_whole s x y) (wanted s x y)
+                (at_or known x y None) (not_needed x y p here e) a).1 w)
             | inr other ↦ or_left (is_in_some parts x y) false (sends.renewed x y p (omega arith) w)
           ]
 
-      renewed : (x y : ℕ) → IsPlace s x y → cell_of across x y < n + 1 → is_whole s x y ≡ true → is_in_some (parts ++ part ∷ []) x y ≡ true
+      renewed : (x y : ℕ) → IsPlace s x y → cell_of across x y < n + 1 → is_whole s x y ≡ true →
+          is_in_some (parts ++ part ∷ []) x y ≡ true
       renewed x y p l w = rw (in_push parts part x y) (renewed_by x y (contains rect x y) p refl l w)

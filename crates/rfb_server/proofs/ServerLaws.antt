@@ -18,14 +18,17 @@ use Rattle.rfb_picture.specs.Area.{Places}
 use Rattle.rfb_wire.specs.declared.encoding.Encoding.{Encoding}
 use Rattle.rfb_server.specs.declared.server.Server.{Server}
 use Rattle.rfb_server.specs.declared.session.input.progress.Progress.{Progress}
-use Rattle.rfb_server.specs.declared.session.input.progress.Progress.TheVariants.{Handshake, Head, Encodings, CutText, Failed}
+use Rattle.rfb_server.specs.declared.session.input.progress.Progress.TheVariants.{Handshake, Head, Encodings, CutText}
+use Rattle.rfb_server.specs.declared.session.input.progress.Progress.TheVariants.{Failed}
 use Rattle.rfb_server.specs.ClientBytes.{ClientAt, client_two, client_bytes, client_bytes_say}
 use Rattle.rfb_server.specs.Server.{Serving, ServerState, server}
 use Rattle.rfb_server.specs.Progress.{ProgressStandsFor, fault_in}
-use Rattle.rfb_server.specs.Standing.{SessionStandsFor, StandsFor, session_fault, fault_of, with_screen, Notes, notes_in, notes_at}
+use Rattle.rfb_server.specs.Standing.{SessionStandsFor, StandsFor, session_fault, fault_of, with_screen, Notes}
+use Rattle.rfb_server.specs.Standing.{notes_in, notes_at}
 
 pub client_bytes_spelled : (offer : Version) → IsSpelled (client_bytes offer) (client_bytes_say offer)
-client_bytes_spelled offer = sequel_spelled (client_two offer) (client_item_says offer) (λ _. client_says) (client_handshake_spelled offer) client_spelled
+client_bytes_spelled offer = sequel_spelled (client_two offer) (client_item_says offer) (λ _. client_says)
+    (client_handshake_spelled offer) client_spelled
 
 pub client_bytes_laws : (offer : Version) → IsGrammar (client_bytes offer)
 client_bytes_laws offer = spelled_grammar (client_bytes offer) (client_bytes_say offer) (client_bytes_spelled offer)
@@ -42,8 +45,10 @@ going serving hello (CutText text_length left kept) point prefix stands = refl
 going serving hello (Failed fault) point prefix stands = absurd stands
 
 -- what a session stands for over one screen, it stands for over another with that one
-pub session_over : (serving : Serving) (before after : Grid Colour) (session : Session) (s : ServerState) (prefix : List ℕ) →
-    SessionStandsFor serving before session s prefix → SessionStandsFor serving after session (with_screen after s) prefix
+pub session_over : (serving : Serving) (before after : Grid Colour) (session : Session)
+    (s : ServerState) (prefix : List ℕ) →
+    SessionStandsFor serving before session s prefix →
+    SessionStandsFor serving after session (with_screen after s) prefix
 session_over serving before after session s prefix stands = record {
   setup_is = stands.setup_is;
   limit_is = stands.limit_is;
@@ -66,8 +71,10 @@ session_going serving screen session s prefix stands =
 abbrev notes : Grid (Option ℕ) → Places → PixelFormat → List Encoding → Notes
 notes known area form encodings = record { known = known; area = area; form = form; encodings = encodings }
 
-pub same_notes : (known record_now : Grid (Option ℕ)) (area places : Places) (form format : PixelFormat) (encodings list : List Encoding) →
-    known ≡ record_now → area ≡ places → form ≡ format → encodings ≡ list → notes known area form encodings ≡ notes record_now places format list
+pub same_notes : (known record_now : Grid (Option ℕ)) (area places : Places) (form format : PixelFormat)
+    (encodings list : List Encoding) →
+    known ≡ record_now → area ≡ places → form ≡ format → encodings ≡ list →
+    notes known area form encodings ≡ notes record_now places format list
 same_notes known record_now area places form format encodings list a b c d = rw (a, b, c, d) refl
 
 -- a session that stands for a state has its notes

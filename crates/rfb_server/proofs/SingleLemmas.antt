@@ -19,13 +19,15 @@ one_pixel : (f : PixelFormat) (block : Grid ℕ) → IsSized 1 1 block → raw_o
 one_pixel f block sized = rw (sized.width_is, sized.height_is) (omega arith)
 
 -- a tile that holds no colour from before names one, or has its pixels
-drawn_holds : (f : PixelFormat) (width height : ℕ) (pixels : List ℕ) (tile : Tile) → IsDrawn width height pixels nothing_held tile →
+drawn_holds : (f : PixelFormat) (width height : ℕ) (pixels : List ℕ) (tile : Tile) →
+    IsDrawn width height pixels nothing_held tile →
     size_of f ≤ tile_length f tile
 drawn_holds f width height pixels tile (inl one) = rw one.tile_is (omega arith)
 drawn_holds f width height pixels tile (inr (inl two)) = rw two.tile_is (omega arith)
 drawn_holds f width height pixels tile (inr (inr many)) = rw many.tile_is (omega arith)
 
-tile_holds : (f : PixelFormat) (width height : ℕ) (pixels : List ℕ) (tile : Tile) → 1 ≤ length pixels → IsRuleTile f width height pixels nothing_held tile →
+tile_holds : (f : PixelFormat) (width height : ℕ) (pixels : List ℕ) (tile : Tile) → 1 ≤ length pixels →
+    IsRuleTile f width height pixels nothing_held tile →
     size_of f ≤ tile_length f tile
 tile_holds f width height pixels tile some (inl drawn) = drawn_holds f width height pixels tile drawn.drawn
 tile_holds f width height pixels tile some (inr raw) =
@@ -33,7 +35,8 @@ tile_holds f width height pixels tile some (inr raw) =
     let whole : 1 * size_of f ≤ length pixels * size_of f = mul-le-mul_right (size_of f) some in
     rw raw.tile_is (omega (arith, long, whole))
 
-tiles_hold : (f : PixelFormat) (block : Grid ℕ) (tiles : List Tile) → IsSized 1 1 block → length tiles ≡ tile_count block.width block.height →
+tiles_hold : (f : PixelFormat) (block : Grid ℕ) (tiles : List Tile) → IsSized 1 1 block →
+    length tiles ≡ tile_count block.width block.height →
     AreRuleTiles f block 0 nothing_held tiles → size_of f ≤ tiles_length f tiles
 tiles_hold f block [] sized number rule =
     let none : 0 ≡ 1 = rw (sized.width_is, sized.height_is) at number in
@@ -41,9 +44,14 @@ tiles_hold f block [] sized number rule =
 tiles_hold f block (tile ∷ tiles) sized number rule =
     let first = rule.0 in
     let size : length first.pixels ≡ 1 = rw (sized.width_is, sized.height_is) at first.size in
-    omega (arith, tile_holds f (tile_part block.width block.height 0).w (tile_part block.width block.height 0).h first.pixels tile (omega (arith, size)) first.tile_is)
+    omega (
+      arith,
+      tile_holds f (tile_part block.width block.height 0).w (tile_part block.width block.height 0).h first.pixels tile
+          (omega (arith, size)) first.tile_is,
+    )
 
-pub single_gives_up : (f : PixelFormat) (block : Grid ℕ) → IsSized 1 1 block → GivesUp Rre f block × GivesUp Hextile f block
+pub single_gives_up : (f : PixelFormat) (block : Grid ℕ) → IsSized 1 1 block →
+    GivesUp Rre f block × GivesUp Hextile f block
 single_gives_up f block sized =
     let raw = one_pixel f block sized in (
       λ background subs _. omega (arith, raw),
@@ -51,7 +59,8 @@ single_gives_up f block sized =
     )
 
 -- so Raw stands in for it
-pub single_sent : (f : PixelFormat) (rect : Rect) (encoding : Encoding) (block : Grid ℕ) (old new : List ℕ) → IsSized 1 1 block →
+pub single_sent : (f : PixelFormat) (rect : Rect) (encoding : Encoding) (block : Grid ℕ) (old new : List ℕ) →
+    IsSized 1 1 block →
     AppendsIn f rect Raw block old new → SendsRect f rect encoding block old new
 single_sent f rect Raw block old new sized appended = inl ((λ gives. gives), appended)
 single_sent f rect CopyRect block old new sized appended = inr (tt, appended)

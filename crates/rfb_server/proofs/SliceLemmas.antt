@@ -1,5 +1,6 @@
 -- What a session takes of a slice, item by item.
-use Rattle.std.proofs.Common.{◌≡◌, ◌≢◌, ℕ, ◌+◌, ◌*◌, ◌<◌, ◌==◌, true, false, List, [], ◌∷◌, ◌++◌, Option, Some, None, is_some, Result, Ok, Err, length, refl, sym, ap, ◌∙◌, length-append, arith}
+use Rattle.std.proofs.Common.{◌≡◌, ◌≢◌, ℕ, ◌+◌, ◌*◌, ◌<◌, ◌==◌, true, false, List, [], ◌∷◌, ◌++◌, Option, Some, None}
+use Rattle.std.proofs.Common.{is_some, Result, Ok, Err, length, refl, sym, ap, ◌∙◌, length-append, arith}
 use Rattle.rfb_wire.specs.stream.Reading.{Next, More, Bad}
 use Rattle.rfb_wire.specs.stream.Parts.{named}
 use Rattle.rfb_wire.specs.stream.Sequel.{First, Second}
@@ -10,14 +11,20 @@ use Rattle.rfb_wire.proofs.stream_laws.PendingLaws.{length-pieces, head_pending}
 use Rattle.rfb_wire.proofs.PendingLaws.{numbers_pending, client_text_pending}
 use Rattle.rfb_wire.proofs.WaitLaws.{client_head_waits, encodings_wait, client_text_waits}
 use Rattle.rfb_wire.proofs.stream_laws.FeedLaws.{fed_start, step_feeds}
-use Rattle.rfb_pixel.specs.declared.fault.FormatFault.TheVariants.{BadBits, DepthTooLarge, NotTrueColour, BadMax, ShiftTooLarge, FieldsOverlap}
+use Rattle.rfb_pixel.specs.declared.fault.FormatFault.TheVariants.{BadBits, DepthTooLarge, NotTrueColour, BadMax}
+use Rattle.rfb_pixel.specs.declared.fault.FormatFault.TheVariants.{ShiftTooLarge, FieldsOverlap}
 use Rattle.rfb_hello.specs.declared.fault.HelloFault.{HelloFault}
-use Rattle.rfb_hello.specs.declared.fault.HelloFault.TheVariants.{BadVersion, VersionTooHigh, BadSecurityChoice, NoneNotOffered, Refused, BadSecurityWord, SecurityFailed, ScreenEmpty, ScreenTooLarge, NoMemory as HelloMemory}
+use Rattle.rfb_hello.specs.declared.fault.HelloFault.TheVariants.{BadVersion, VersionTooHigh, BadSecurityChoice}
+use Rattle.rfb_hello.specs.declared.fault.HelloFault.TheVariants.{NoneNotOffered, Refused, BadSecurityWord}
+use Rattle.rfb_hello.specs.declared.fault.HelloFault.TheVariants.{SecurityFailed, ScreenEmpty, ScreenTooLarge}
+use Rattle.rfb_hello.specs.declared.fault.HelloFault.TheVariants.{NoMemory as HelloMemory}
 use Rattle.rfb_hello.specs.declared.version.Version.{Version}
 use Rattle.rfb_hello.specs.declared.server_hello.ServerHello.{ServerHello}
 use Rattle.rfb_hello.specs.declared.server_hello.progress.Progress.{Progress as HelloProgress}
-use Rattle.rfb_hello.specs.declared.server_hello.progress.Progress.TheVariants.{Version as VersionPart, Choice, Init, Done, Failed as HelloFailed}
-use Rattle.rfb_hello.specs.ClientHandshake.{ClientPoint, AwaitsVersion, AwaitsChoice, AwaitsInit, Begun, ClientItem, FaultsClientItem, client_item}
+use Rattle.rfb_hello.specs.declared.server_hello.progress.Progress.TheVariants.{Version as VersionPart, Choice, Init}
+use Rattle.rfb_hello.specs.declared.server_hello.progress.Progress.TheVariants.{Done, Failed as HelloFailed}
+use Rattle.rfb_hello.specs.ClientHandshake.{ClientPoint, AwaitsVersion, AwaitsChoice, AwaitsInit, Begun, ClientItem}
+use Rattle.rfb_hello.specs.ClientHandshake.{FaultsClientItem, client_item}
 use Rattle.rfb_hello.specs.ServerProgress.{ProgressStandsFor as HelloProgressStandsFor}
 use Rattle.rfb_hello.specs.Pending.{client_handshake_pending}
 use Rattle.rfb_wire.specs.Pending.{client_pending, client_piece_size}
@@ -33,7 +40,8 @@ use Rattle.rfb_server.specs.declared.fault.ServerFault.TheVariants.{NoMemory}
 use Rattle.rfb_server.specs.declared.event.ServerEvent.{ServerEvent}
 use Rattle.rfb_server.specs.declared.session.Session.{Session}
 use Rattle.rfb_server.specs.declared.session.input.progress.Progress.{Progress}
-use Rattle.rfb_server.specs.declared.session.input.progress.Progress.TheVariants.{Handshake, Head, Encodings, CutText, Failed}
+use Rattle.rfb_server.specs.declared.session.input.progress.Progress.TheVariants.{Handshake, Head, Encodings, CutText}
+use Rattle.rfb_server.specs.declared.session.input.progress.Progress.TheVariants.{Failed}
 use Rattle.rfb_server.specs.Fault.{fault_of_hello, fault_of_message}
 use Rattle.rfb_server.specs.ClientBytes.{ClientAt, client_bytes, client_bytes_pending, is_between}
 use Rattle.rfb_server.specs.Told.{seen}
@@ -47,7 +55,8 @@ use Rattle.rfb_server.proofs.HeadLemmas.{begun_misses}
 
 -- ---- a session waits for more
 
-hello_waits : (offer : Version) (p : HelloProgress) (at : ClientPoint) (prefix : List ℕ) → HelloProgressStandsFor p at prefix → client_item offer at prefix ≡ More
+hello_waits : (offer : Version) (p : HelloProgress) (at : ClientPoint) (prefix : List ℕ) →
+    HelloProgressStandsFor p at prefix → client_item offer at prefix ≡ More
 hello_waits offer (VersionPart text) at prefix h = rw (h.0, h.1, piece_short {F = HelloFault} 12 text.items h.2) refl
 hello_waits offer (Choice version) at prefix h = rw (h.0, h.1) refl
 hello_waits offer (Init version) at prefix h = rw (h.0, h.1) refl
@@ -63,32 +72,39 @@ pub begun_waits : (serving : Serving) (bytes : List ℕ) → IsHeadBegun bytes �
 begun_waits serving bytes begun =
     ap (λ (n : Next ClientMessage ClientFault). named (λ m. Second m) fault_of_message n) (head_waits bytes begun)
 
-pub progress_waits : (serving : Serving) (hello : ServerHello) (p : Progress) (at : ClientAt) (prefix : List ℕ) → ProgressStandsFor serving hello p at prefix →
+pub progress_waits : (serving : Serving) (hello : ServerHello) (p : Progress) (at : ClientAt) (prefix : List ℕ) →
+    ProgressStandsFor serving hello p at prefix →
     (client_bytes serving.hello.offer).next at prefix ≡ More
 progress_waits serving hello Handshake (First at) prefix h =
-    ap (λ (n : Next ClientItem HelloFault). named (λ i. First i) fault_of_hello n) (hello_waits serving.hello.offer hello.progress at prefix h.0.progress_is)
+    ap (λ (n : Next ClientItem HelloFault). named (λ i. First i) fault_of_hello n)
+    (hello_waits serving.hello.offer hello.progress at prefix h.0.progress_is)
 progress_waits serving hello Handshake (Second q) prefix h = absurd h
 progress_waits serving hello (Head bytes) (First at) prefix h = absurd h
 progress_waits serving hello (Head bytes) (Second q) prefix h = rw h.0 (begun_waits serving bytes.items h.1)
 progress_waits serving hello (Encodings left number list) (First at) prefix h = absurd h
 progress_waits serving hello (Encodings left number list) (Second q) prefix h =
     let long = length-pieces _ 4 (λ value bytes is. is.size) h.numbers h.units h.listed in
-    let rest : length (h.units ++ number.items) < (length h.numbers + left) * 4 = omega (arith, length-append h.units number.items, long, h.short, h.some) in
-    let waits : client_message prefix ≡ More = rw h.prefix_is (encodings_wait (length h.numbers + left) h.head (h.units ++ number.items) h.head_is rest) in
+    let rest : length (h.units ++ number.items) < (length h.numbers + left) * 4 =
+    omega (arith, length-append h.units number.items, long, h.short, h.some) in
+    let waits : client_message prefix ≡ More =
+    rw h.prefix_is (encodings_wait (length h.numbers + left) h.head (h.units ++ number.items) h.head_is rest) in
     ap (λ (n : Next ClientMessage ClientFault). named (λ m. Second m) fault_of_message n) waits
 progress_waits serving hello (CutText text_length left kept) (First at) prefix h = absurd h
 progress_waits serving hello (CutText text_length left kept) (Second q) prefix h =
-    let waits : client_message prefix ≡ More = rw h.prefix_is (client_text_waits text_length h.head h.text h.head_is (omega (arith, h.count, h.some))) in
+    let waits : client_message prefix ≡ More =
+    rw h.prefix_is (client_text_waits text_length h.head h.text h.head_is (omega (arith, h.count, h.some))) in
     ap (λ (n : Next ClientMessage ClientFault). named (λ m. Second m) fault_of_message n) waits
 progress_waits serving hello (Failed fault) at prefix h = absurd h
 
 pub session_starts : (session : Session) → FeedsAs session [] None session
 session_starts session = λ serving screen.
-    fed_start (server serving) (SessionStandsFor serving screen) session (λ s prefix now. progress_waits serving session.hello session.progress s.point prefix now.progress_is)
+    fed_start (server serving) (SessionStandsFor serving screen) session
+    (λ s prefix now. progress_waits serving session.hello session.progress s.point prefix now.progress_is)
 
 -- ---- want of memory is no fault of a client's bytes
 
-not_hello : (offer : Version) (at : ClientPoint) (fault : HelloFault) (bytes : List ℕ) → NoMemory ≡ fault_of_hello fault → FaultsClientItem offer at fault bytes → ⊥
+not_hello : (offer : Version) (at : ClientPoint) (fault : HelloFault) (bytes : List ℕ) →
+    NoMemory ≡ fault_of_hello fault → FaultsClientItem offer at fault bytes → ⊥
 not_hello offer AwaitsVersion HelloMemory bytes e h = h
 not_hello offer (AwaitsChoice version) HelloMemory bytes e h = h
 not_hello offer (AwaitsInit version) HelloMemory bytes e h = h
@@ -112,15 +128,18 @@ not_message (BadFormat ShiftTooLarge) e = cc
 not_message (BadFormat FieldsOverlap) e = cc
 not_message (UnknownType kind) e = cc
 
-pub not_memory : (offer : Version) (at : ClientAt) (bytes : List ℕ) → (client_bytes offer).next at bytes ≡ Bad NoMemory → ⊥
+pub not_memory : (offer : Version) (at : ClientAt) (bytes : List ℕ) →
+    (client_bytes offer).next at bytes ≡ Bad NoMemory → ⊥
 not_memory offer (First at) bytes e =
-    let h = ((client_bytes_spelled offer).reads (First at)).blamed bytes NoMemory e in not_hello offer at h.3.0 h.0 h.3.1 h.3.2
+    let h = ((client_bytes_spelled offer).reads (First at)).blamed bytes NoMemory e in
+    not_hello offer at h.3.0 h.0 h.3.1 h.3.2
 not_memory offer (Second q) bytes e =
     let h = ((client_bytes_spelled offer).reads (Second q)).blamed bytes NoMemory e in not_message h.3.0 h.3.1
 
 -- ---- a session that has failed
 
-pub never_stands : (serving : Serving) (hello : ServerHello) (p : Progress) (fault : ServerFault) (at : ClientAt) (prefix : List ℕ) → fault_in p ≡ Some fault → ProgressStandsFor serving hello p at prefix → ⊥
+pub never_stands : (serving : Serving) (hello : ServerHello) (p : Progress) (fault : ServerFault) (at : ClientAt)
+    (prefix : List ℕ) → fault_in p ≡ Some fault → ProgressStandsFor serving hello p at prefix → ⊥
 never_stands serving hello Handshake fault at prefix e h = cc
 never_stands serving hello (Head bytes) fault at prefix e h = cc
 never_stands serving hello (Encodings left number list) fault at prefix e h = cc
@@ -129,9 +148,11 @@ never_stands serving hello (Failed other) fault at prefix e h = h
 
 -- ---- a step as a call
 
-pub step_fed : (old new : Session) (unit : List ℕ) (event : Option ServerEvent) → StepsAs old unit (Ok event) new → FeedsAs old unit event new
+pub step_fed : (old new : Session) (unit : List ℕ) (event : Option ServerEvent) → StepsAs old unit (Ok event) new →
+    FeedsAs old unit event new
 step_fed old new unit event steps = λ serving screen.
-    step_feeds (server serving) (server_machine serving) (SessionStandsFor serving screen) old new unit (seen event) (steps apart serving screen)
+    step_feeds (server serving) (server_machine serving) (SessionStandsFor serving screen) old new unit
+    (seen event) (steps apart serving screen)
   where
     apart : ◌≢◌ {A = Result (Option ServerEvent) ServerFault} (Ok event) (Err NoMemory)
     apart e = cc
@@ -155,16 +176,19 @@ some_bytes : (front rest : List ℕ) → 0 < length front → is_between (Second
 some_bytes [] rest some = absurd (omega arith)
 some_bytes (first ∷ front) rest some = refl
 
-pub idle_is : (serving : Serving) (hello : ServerHello) (p : Progress) (at : ClientAt) (prefix : List ℕ) → ProgressStandsFor serving hello p at prefix →
+pub idle_is : (serving : Serving) (hello : ServerHello) (p : Progress) (at : ClientAt) (prefix : List ℕ) →
+    ProgressStandsFor serving hello p at prefix →
     is_idle p ≡ is_between at prefix
 idle_is serving hello Handshake (First at) prefix h = refl
 idle_is serving hello Handshake (Second q) prefix h = absurd h
 idle_is serving hello (Head bytes) (First at) prefix h = absurd h
 idle_is serving hello (Head bytes) (Second q) prefix h = rw h.0 (no_bytes bytes.items)
 idle_is serving hello (Encodings left number list) (First at) prefix h = absurd h
-idle_is serving hello (Encodings left number list) (Second q) prefix h = rw h.prefix_is (sym (some_bytes h.head (h.units ++ number.items) (omega (arith, h.head_is.size))))
+idle_is serving hello (Encodings left number list) (Second q) prefix h =
+    rw h.prefix_is (sym (some_bytes h.head (h.units ++ number.items) (omega (arith, h.head_is.size))))
 idle_is serving hello (CutText text_length left kept) (First at) prefix h = absurd h
-idle_is serving hello (CutText text_length left kept) (Second q) prefix h = rw h.prefix_is (sym (some_bytes h.head h.text (omega (arith, h.head_is.size))))
+idle_is serving hello (CutText text_length left kept) (Second q) prefix h =
+    rw h.prefix_is (sym (some_bytes h.head h.text (omega (arith, h.head_is.size))))
 idle_is serving hello (Failed fault) at prefix h = absurd h
 
 pub failed_idle : (p : Progress) → fault_in p ≢ None → is_idle p ≡ false
@@ -174,8 +198,10 @@ failed_idle (Encodings left number list) not = refl
 failed_idle (CutText text_length left kept) not = refl
 failed_idle (Failed fault) not = refl
 
-pub hello_pending : (serving : Serving) (hello : ServerHello) (at : ClientAt) (prefix : List ℕ) (n : ℕ) → ProgressStandsFor serving hello Handshake at prefix →
-    ((p : ClientPoint) (bytes : List ℕ) → HelloStandsFor serving.hello hello p bytes → n ≡ client_handshake_pending p bytes) →
+pub hello_pending : (serving : Serving) (hello : ServerHello) (at : ClientAt) (prefix : List ℕ) (n : ℕ) →
+    ProgressStandsFor serving hello Handshake at prefix →
+    ((p : ClientPoint) (bytes : List ℕ) → HelloStandsFor serving.hello hello p bytes →
+    n ≡ client_handshake_pending p bytes) →
     n ≡ client_bytes_pending at prefix
 hello_pending serving hello (First p) prefix n h tells = tells p prefix h.0
 hello_pending serving hello (Second q) prefix n h tells = absurd h
@@ -184,21 +210,27 @@ begun_pending : (bytes : List ℕ) → IsHeadBegun bytes → client_pending byte
 begun_pending [] h = refl
 begun_pending (first ∷ rest) h = head_pending client_head_size client_piece_size first h.0 rest h.1 h.2
 
-pub part_pending : (serving : Serving) (hello : ServerHello) (part : ArrayVec ℕ) (at : ClientAt) (prefix : List ℕ) → ProgressStandsFor serving hello (Head part) at prefix →
+pub part_pending : (serving : Serving) (hello : ServerHello) (part : ArrayVec ℕ) (at : ClientAt) (prefix : List ℕ) →
+    ProgressStandsFor serving hello (Head part) at prefix →
     length part.items ≡ client_bytes_pending at prefix
 part_pending serving hello part (First p) prefix h = absurd h
 part_pending serving hello part (Second q) prefix h = sym (ap client_pending h.0 ∙ begun_pending part.items h.1)
 
-pub number_pending : (serving : Serving) (hello : ServerHello) (left : ℕ) (number : ArrayVec ℕ) (list : List Encoding) (at : ClientAt) (prefix : List ℕ) →
-    ProgressStandsFor serving hello (Encodings left number list) at prefix → length number.items ≡ client_bytes_pending at prefix
+pub number_pending : (serving : Serving) (hello : ServerHello) (left : ℕ) (number : ArrayVec ℕ) (list : List Encoding)
+    (at : ClientAt) (prefix : List ℕ) →
+    ProgressStandsFor serving hello (Encodings left number list) at prefix →
+    length number.items ≡ client_bytes_pending at prefix
 number_pending serving hello left number list (First p) prefix h = absurd h
 number_pending serving hello left number list (Second q) prefix h =
-    sym (ap client_pending h.prefix_is ∙ numbers_pending (length h.numbers + left) h.numbers h.head h.units number.items h.head_is h.listed h.short)
+    sym (ap client_pending h.prefix_is
+    ∙ numbers_pending (length h.numbers + left) h.numbers h.head h.units number.items h.head_is h.listed h.short)
 
-pub text_pending : (serving : Serving) (hello : ServerHello) (n left : ℕ) (kept : KeptText) (at : ClientAt) (prefix : List ℕ) →
+pub text_pending : (serving : Serving) (hello : ServerHello) (n left : ℕ) (kept : KeptText)
+    (at : ClientAt) (prefix : List ℕ) →
     ProgressStandsFor serving hello (CutText n left kept) at prefix → 0 ≡ client_bytes_pending at prefix
 text_pending serving hello n left kept (First p) prefix h = absurd h
-text_pending serving hello n left kept (Second q) prefix h = sym (ap client_pending h.prefix_is ∙ client_text_pending n h.head h.text h.head_is)
+text_pending serving hello n left kept (Second q) prefix h =
+    sym (ap client_pending h.prefix_is ∙ client_text_pending n h.head h.text h.head_is)
 
 -- an answer that is good keeps what follows of it
 pub ok_map : {A E : Type 0} (P Q : A → Type 0) (r : Result A E) → ((x : A) → P x → Q x) → IfOk r P → IfOk r Q

@@ -1,5 +1,7 @@
 -- An update that is composed: its head, what it leaves, and where there is none.
-use Rattle.std.proofs.Common.{◌≡◌, ℕ, ◌+◌, ◌-◌, ◌*◌, ◌<◌, ◌&&◌, ◌||◌, not, Bool, true, false, List, [], ◌∷◌, ◌++◌, length, get_or, set, Option, Some, None, refl, sym, subst, ◌∙◌, arith, append_assoc, length-append}
+use Rattle.std.proofs.Common.{◌≡◌, ℕ, ◌+◌, ◌-◌, ◌*◌, ◌<◌, ◌&&◌, ◌||◌, not, Bool, true, false, List, [], ◌∷◌, ◌++◌}
+use Rattle.std.proofs.Common.{length, get_or, set, Option, Some, None, refl, sym, subst, ◌∙◌, arith, append_assoc}
+use Rattle.std.proofs.Common.{length-append}
 use Rattle.std.specs.Int.{div_ceil}
 use Rattle.std.proofs.lemmas.List.{set-append_right}
 use Rattle.std.proofs.lemmas.Bool.{both_ways}
@@ -9,7 +11,8 @@ use Rattle.rfb_picture.specs.Grid.{Grid, at_or}
 use Rattle.rfb_picture.specs.Box.{is_in}
 use Rattle.rfb_picture.specs.Area.{Places, nothing}
 use Rattle.rfb_picture.specs.Places.{without}
-use Rattle.rfb_picture.proofs.GridLaws.{at-changed, width-changed, height-changed, whole-changed, width-uniform, height-uniform, contains_true}
+use Rattle.rfb_picture.proofs.GridLaws.{at-changed, width-changed, height-changed, whole-changed, width-uniform}
+use Rattle.rfb_picture.proofs.GridLaws.{height-uniform, contains_true}
 use Rattle.rfb_picture.proofs.AreaLaws.{whole_at-no_places, area-no_places}
 use Rattle.rfb_wire.specs.ServerHead.{SpellsUpdate}
 use Rattle.rfb_wire.specs.stream.Sequel.{Second}
@@ -27,6 +30,7 @@ use Rattle.rfb_server.specs.Composing.{Part, Move, IsDue, Composes}
 use Rattle.rfb_server.specs.inside.Sends.{IsKept, Sends, state_of, AppendsCells, IsEnough, may_need}
 use Rattle.rfb_server.specs.inside.Copies.{Copies, AppendsCopies, usable_hints}
 use Rattle.rfb_server.specs.Using.{AreUsed, usable}
+use Rattle.rfb_server.proofs.ClaimLemmas.{nothing_claimed}
 use Rattle.rfb_server.proofs.UsingLemmas.{used_all}
 use Rattle.rfb_server.specs.inside.Composed.{is_ready, HasComposed, StaysIdle, IsSettled, IsCounted}
 use Rattle.rfb_server.proofs.NeedingLemmas.{differs_not}
@@ -40,8 +44,10 @@ use Rattle.rfb_server.proofs.ComposesLemmas.{all_cells, composes}
 -- ---- the head
 
 -- the last two of four bytes, written over those after a front
-pub counted : (before bytes head : List ℕ) (at : ℕ) → length before ≡ at → length head ≡ 4 → get_or head 0 0 ≡ 0 → get_or head 1 0 ≡ 0 →
-    set (set (before ++ (0 ∷ 0 ∷ 0 ∷ 0 ∷ bytes)) (at + 2) (get_or head 2 0)) (at + 3) (get_or head 3 0) ≡ before ++ (head ++ bytes)
+pub counted : (before bytes head : List ℕ) (at : ℕ) → length before ≡ at → length head ≡ 4 →
+    get_or head 0 0 ≡ 0 → get_or head 1 0 ≡ 0 →
+    set (set (before ++ (0 ∷ 0 ∷ 0 ∷ 0 ∷ bytes)) (at + 2) (get_or head 2 0)) (at + 3) (get_or head 3 0)
+    ≡ before ++ (head ++ bytes)
 counted before bytes [] at long size first second = absurd (omega arith)
 counted before bytes (a ∷ []) at long size first second = absurd (omega arith)
 counted before bytes (a ∷ b ∷ []) at long size first second = absurd (omega arith)
@@ -57,7 +63,8 @@ counted before bytes (a ∷ b ∷ c ∷ d ∷ e ∷ more) at long size first sec
 -- ---- whether an update is due
 
 -- a rectangle has a place that needs sending
-pub sent_due : (across n : ℕ) (s : ServerState) (known : Grid (Option ℕ)) (parts : List Part) (bytes : List ℕ) → s.point ≡ Second tt →
+pub sent_due : (across n : ℕ) (s : ServerState) (known : Grid (Option ℕ)) (parts : List Part) (bytes : List ℕ) →
+    s.point ≡ Second tt →
     (length parts ≡ 0 → ⊥) → Sends across n s known parts bytes → IsDue s
 sent_due across n s known [] bytes ready some sends = absurd (some refl)
 sent_due across n s known (part ∷ parts) bytes ready some sends =
@@ -65,9 +72,16 @@ sent_due across n s known (part ∷ parts) bytes ready some sends =
     let (j, c, need) = sends.blocks_are.0.tight.left in
     let (front, back, whole, here, rest) = sends.spelled in
     let (a, b, d, e) = contains_true rect rect.x j c in
-    record { ready = ready; x = rect.x; y = j; is_place = (omega (arith, here.on_screen), omega (arith, here.on_screen)); needs = need }
+    record {
+      ready = ready;
+      x = rect.x;
+      y = j;
+      is_place = (omega (arith, here.on_screen), omega (arith, here.on_screen));
+      needs = need;
+    }
 
-needed : (asked whole differing : Bool) → (asked && (whole || differing)) ≡ true → (asked ≡ true → differing ≡ false) → (whole ≡ true → ⊥) → ⊥
+needed : (asked whole differing : Bool) → (asked && (whole || differing)) ≡ true →
+    (asked ≡ true → differing ≡ false) → (whole ≡ true → ⊥) → ⊥
 needed true true differing e right renewed = renewed refl
 needed true false true e right renewed = absurd (both_ways true (right refl) refl)
 needed true false false e right renewed = cc
@@ -75,13 +89,17 @@ needed false whole differing e right renewed = cc
 
 -- where there is none, none needs
 pub idle_not_due : (s : ServerState) (known : Grid (Option ℕ)) (bytes : List ℕ) →
-    Sends (div_ceil s.screen.width 64) (div_ceil s.screen.width 64 * div_ceil s.screen.height 64) s known [] bytes → IsDue s → ⊥
+    Sends (div_ceil s.screen.width 64) (div_ceil s.screen.width 64 * div_ceil s.screen.height 64) s known [] bytes →
+    IsDue s → ⊥
 idle_not_due s known bytes sends due =
     let cell = all_cells s.screen.width s.screen.height due.x due.y due.is_place.0 due.is_place.1 in
     let same : known ≡ s.known = sends.idle refl in
-    needed (is_asked s due.x due.y) (is_whole s due.x due.y) (differs (wanted s due.x due.y) (recorded s due.x due.y)) due.needs
+    needed (is_asked s due.x due.y) (is_whole s due.x due.y)
+    (differs (wanted s due.x due.y) (recorded s due.x due.y)) due.needs
     (λ asked.
-    let right : recorded s due.x due.y ≡ Some (wanted s due.x due.y) = subst (λ (k : Grid (Option ℕ)). at_or k due.x due.y None ≡ Some (wanted s due.x due.y)) same (sends.answered due.x due.y due.is_place cell asked) in
+    let right : recorded s due.x due.y ≡ Some (wanted s due.x due.y) =
+    subst (λ (k : Grid (Option ℕ)). at_or k due.x due.y None ≡ Some (wanted s due.x due.y)) same
+    (sends.answered due.x due.y due.is_place cell asked) in
     rw right (differs_not (wanted s due.x due.y)))
     (λ whole. let none : false ≡ true = sends.renewed due.x due.y due.is_place cell whole in cc)
 
@@ -93,25 +111,33 @@ lost true true e m = refl
 lost true false e m = cc
 lost false asked e m = cc
 
-pub caught_settled : (screen : Grid Colour) (known : Grid (Option ℕ)) (area : Places) (form : PixelFormat) (marks : Grid Bool) →
+pub caught_settled : (screen : Grid Colour) (known : Grid (Option ℕ)) (area : Places)
+    (form : PixelFormat) (marks : Grid Bool) →
     AreAlike known area marks → IsCaughtUp screen known area form marks →
-    ((x y : ℕ) → x < known.width → y < known.height → is_in area.asked x y ≡ true → at_or known x y None ≡ Some (wanted_at screen form x y)) →
+    ((x y : ℕ) → x < known.width → y < known.height → is_in area.asked x y ≡ true →
+    at_or known x y None ≡ Some (wanted_at screen form x y)) →
     IsCaughtUp screen known (nothing area) form (without area.asked marks)
 caught_settled screen known area form marks alike caught answered = record {
   right = λ x y p q e.
       let p' : x < marks.width = rw (← width-changed (λ i j (old : Bool). old && not (is_in area.asked i j)) marks) p in
-      let q' : y < marks.height = rw (← height-changed (λ i j (old : Bool). old && not (is_in area.asked i j)) marks) q in
-      let here = sym (at-changed (λ i j (old : Bool). old && not (is_in area.asked i j)) marks x y false alike.marks_whole p' q') ∙ e in
+      let q' : y < marks.height =
+      rw (← height-changed (λ i j (old : Bool). old && not (is_in area.asked i j)) marks) q in
+      let here = sym (at-changed (λ i j (old : Bool). old && not (is_in area.asked i j)) marks x y false
+      alike.marks_whole p' q') ∙ e in
       by x y p' q' (is_in marks x y) refl here;
   not_whole = λ x y p q e.
       let p' : x < marks.width = rw (← width-changed (λ i j (old : Bool). old && not (is_in area.asked i j)) marks) p in
-      let q' : y < marks.height = rw (← height-changed (λ i j (old : Bool). old && not (is_in area.asked i j)) marks) q in
-      whole_at-no_places area.asked.width area.asked.height x y (rw (alike.area_wide, ← alike.marks_wide) p') (rw (alike.area_high, ← alike.marks_high) q');
+      let q' : y < marks.height =
+      rw (← height-changed (λ i j (old : Bool). old && not (is_in area.asked i j)) marks) q in
+      whole_at-no_places area.asked.width area.asked.height x y (rw (alike.area_wide, ← alike.marks_wide) p')
+      (rw (alike.area_high, ← alike.marks_high) q');
 }
   where
-    by : (x y : ℕ) → x < marks.width → y < marks.height → (mark : Bool) → is_in marks x y ≡ mark → (mark && not (is_in area.asked x y)) ≡ false →
+    by : (x y : ℕ) → x < marks.width → y < marks.height → (mark : Bool) → is_in marks x y ≡ mark →
+        (mark && not (is_in area.asked x y)) ≡ false →
         at_or known x y None ≡ Some (wanted_at screen form x y)
-    by x y p q true m e = answered x y (rw (← alike.marks_wide) p) (rw (← alike.marks_high) q) (lost true (is_in area.asked x y) e refl)
+    by x y p q true m e =
+        answered x y (rw (← alike.marks_wide) p) (rw (← alike.marks_high) q) (lost true (is_in area.asked x y) e refl)
     by x y p q false m e = caught.right x y p q m
 
 -- what is asked of one screen still is, once it is answered
@@ -139,18 +165,23 @@ state_settled screen old mid new kept settled =
 
 -- the size of what is known is that of the screen
 sends_here : (screen : Grid Colour) (old mid : Session) (parts : List Part) (bytes : List ℕ) → Follows screen old →
-    Sends (div_ceil old.known.width 64) (div_ceil old.known.width 64 * div_ceil old.known.height 64) (state_of screen old) mid.known parts bytes →
-    Sends (div_ceil screen.width 64) (div_ceil screen.width 64 * div_ceil screen.height 64) (state_of screen old) mid.known parts bytes
+    Sends (div_ceil old.known.width 64) (div_ceil old.known.width 64 * div_ceil old.known.height 64)
+    (state_of screen old) mid.known parts bytes →
+    Sends (div_ceil screen.width 64) (div_ceil screen.width 64 * div_ceil screen.height 64)
+    (state_of screen old) mid.known parts bytes
 sends_here screen old mid parts bytes about sends =
-    subst (λ (h : ℕ). Sends (div_ceil screen.width 64) (div_ceil screen.width 64 * div_ceil h 64) (state_of screen old) mid.known parts bytes) (sym about.alike.rows)
-    (subst (λ (w : ℕ). Sends (div_ceil w 64) (div_ceil w 64 * div_ceil old.known.height 64) (state_of screen old) mid.known parts bytes) (sym about.alike.columns) sends)
+    subst (λ (h : ℕ). Sends (div_ceil screen.width 64) (div_ceil screen.width 64 * div_ceil h 64) (state_of screen old)
+    mid.known parts bytes) (sym about.alike.rows)
+    (subst (λ (w : ℕ). Sends (div_ceil w 64) (div_ceil w 64 * div_ceil old.known.height 64) (state_of screen old)
+    mid.known parts bytes) (sym about.alike.columns) sends)
 
 -- after an update the session has caught up
 pub about_updated : (screen : Grid Colour) (old mid new : Session) (before after : List ℕ) (count : ℕ) →
-    Follows screen old → Follows screen mid → IsKept old mid →
-    AppendsCells (div_ceil old.known.width 64) (div_ceil old.known.width 64 * div_ceil old.known.height 64) screen old mid before after count →
+    Follows screen old → old.claim ≡ None → Follows screen mid → IsKept old mid →
+    AppendsCells (div_ceil old.known.width 64) (div_ceil old.known.width 64 * div_ceil old.known.height 64)
+    screen old mid before after count →
     IsSettled mid new → Follows screen new
-about_updated screen old mid new before after count about later kept cells settled = record {
+about_updated screen old mid new before after count about unclaimed later kept cells settled = record {
   whole = later.whole;
   alike = rw (settled.known) later.alike;
   caught_up = rw (settled.known, settled.area, settled.format, settled.marks)
@@ -161,7 +192,9 @@ about_updated screen old mid new before after count about later kept cells settl
       let p'' : x < old.known.width = rw (← about.alike.columns) p' in
       let q'' : y < old.known.height = rw (← about.alike.rows) q' in
       let asked' : is_in old.area.asked x y ≡ true = rw (kept.area) at asked in
-      rw (kept.format) (cells.sent.answered x y (p', q') (all_cells old.known.width old.known.height x y p'' q'') asked')));
+      rw (kept.format)
+      (cells.sent.answered x y (p', q') (all_cells old.known.width old.known.height x y p'' q'') asked')));
+  claimed = nothing_claimed screen new.known new.format new.claim (settled.claim ∙ (kept.claim ∙ unclaimed));
 }
 
 no_parts : (parts : List Part) → length parts ≡ 0 → parts ≡ []
@@ -172,21 +205,26 @@ no_parts (part ∷ parts) e = absurd (omega arith)
 
 -- where no room is needed no update is due
 pub nothing_due : (screen : Grid Colour) (session : Session) → Follows screen session →
-    IsEnough session (div_ceil session.known.width 64) (div_ceil session.known.width 64 * div_ceil session.known.height 64) 0 →
+    IsEnough session (div_ceil session.known.width 64)
+    (div_ceil session.known.width 64 * div_ceil session.known.height 64) 0 →
     IsDue (state_of screen session) → ⊥
 nothing_due screen session about enough due =
     let wide : due.x < session.known.width = rw (← about.alike.columns) due.is_place.0 in
     let high : due.y < session.known.height = rw (← about.alike.rows) due.is_place.1 in
     let (cell, is) = place_cell session.known.width session.known.height due.x due.y wide high in
     by (may_need session.marks session.area due.x due.y) refl wide high
-    (λ here. none_without_room session.known.width session.known.height (div_ceil session.known.width 64) (may_need session.marks session.area) session.format enough.cost
+    (λ here. none_without_room session.known.width session.known.height (div_ceil session.known.width 64)
+    (may_need session.marks session.area) session.format enough.cost
     (div_ceil session.known.width 64 * div_ceil session.known.height 64) cell due.x due.y enough.costs enough.sum_is
-    (all_cells session.known.width session.known.height due.x due.y wide high) is (is.all due.x due.y wide high refl) here)
+    (all_cells session.known.width session.known.height due.x due.y wide high) is
+    (is.all due.x due.y wide high refl) here)
   where
-    by : (may : Bool) → may_need session.marks session.area due.x due.y ≡ may → due.x < session.known.width → due.y < session.known.height →
+    by : (may : Bool) → may_need session.marks session.area due.x due.y ≡ may → due.x < session.known.width →
+        due.y < session.known.height →
         (may ≡ true → ⊥) → ⊥
     by true e wide high some = some refl
-    by false e wide high some = absurd (both_ways (needs_of screen session due.x due.y) (quiet_unless screen session due.x due.y about wide high e) due.needs)
+    by false e wide high some = absurd (both_ways (needs_of screen session due.x due.y)
+        (quiet_unless screen session due.x due.y about wide high e) due.needs)
 
 -- ---- copies, and then cells
 
@@ -203,13 +241,16 @@ enough_kept old mid room kept alike enough = record {
 module _ (screen : Grid Colour) (old mid sent : Session) (before middle after : List ℕ) (k n : ℕ)
     (about : Follows screen old) (aware : Follows screen mid) (kept : IsKept old mid) (kept_on : IsKept mid sent)
     (copies : AppendsCopies screen (usable_hints old) old mid (before ++ (0 ∷ 0 ∷ 0 ∷ 0 ∷ [])) middle k)
-    (cells : AppendsCells (div_ceil mid.known.width 64) (div_ceil mid.known.width 64 * div_ceil mid.known.height 64) screen mid sent middle after n) where
+    (cells : AppendsCells (div_ceil mid.known.width 64) (div_ceil mid.known.width 64 * div_ceil mid.known.height 64)
+    screen mid sent middle after n) where
   abbrev s : ServerState
   s = state_of screen old
 
-  sends : Sends (div_ceil screen.width 64) (div_ceil screen.width 64 * div_ceil screen.height 64) (record (state_of screen old) { known = mid.known }) sent.known cells.parts cells.bytes
+  sends : Sends (div_ceil screen.width 64) (div_ceil screen.width 64 * div_ceil screen.height 64)
+      (record (state_of screen old) { known = mid.known }) sent.known cells.parts cells.bytes
   sends =
-      subst (λ (t : ServerState). Sends (div_ceil screen.width 64) (div_ceil screen.width 64 * div_ceil screen.height 64) t sent.known cells.parts cells.bytes)
+      subst (λ (t : ServerState). Sends (div_ceil screen.width 64)
+      (div_ceil screen.width 64 * div_ceil screen.height 64) t sent.known cells.parts cells.bytes)
       (state_copied screen old mid kept) (sends_here screen mid sent cells.parts cells.bytes aware cells.sent)
 
   -- all that was appended
@@ -217,43 +258,56 @@ module _ (screen : Grid Colour) (old mid sent : Session) (before middle after : 
   sent_whole =
       cells.appended
       ∙ (rw (copies.appended)
-      (append_assoc (before ++ (0 ∷ 0 ∷ 0 ∷ 0 ∷ [])) copies.bytes cells.bytes ∙ append_assoc before (0 ∷ 0 ∷ 0 ∷ 0 ∷ []) (copies.bytes ++ cells.bytes)))
+      (append_assoc (before ++ (0 ∷ 0 ∷ 0 ∷ 0 ∷ [])) copies.bytes cells.bytes
+      ∙ append_assoc before (0 ∷ 0 ∷ 0 ∷ 0 ∷ []) (copies.bytes ++ cells.bytes)))
 
   -- where nothing was copied, the cells are those of what was known
   sends_alone : (moves : List Move) → Copies (state_of screen old) moves [] mid.known copies.bytes →
-      Sends (div_ceil screen.width 64) (div_ceil screen.width 64 * div_ceil screen.height 64) (state_of screen old) sent.known cells.parts cells.bytes
+      Sends (div_ceil screen.width 64) (div_ceil screen.width 64 * div_ceil screen.height 64) (state_of screen old)
+      sent.known cells.parts cells.bytes
   sends_alone moves taken =
-      subst (λ (g : Grid (Option ℕ)). Sends (div_ceil screen.width 64) (div_ceil screen.width 64 * div_ceil screen.height 64) (record (state_of screen old) { known = g }) sent.known cells.parts cells.bytes)
+      subst (λ (g : Grid (Option ℕ)). Sends (div_ceil screen.width 64) (div_ceil screen.width 64
+      * div_ceil screen.height 64) (record (state_of screen old) { known = g }) sent.known cells.parts cells.bytes)
       (none_copied (state_of screen old) moves mid.known copies.bytes taken) sends
 
   due_by : (moves : List Move) (list : List Part) → Copies (state_of screen old) moves list mid.known copies.bytes →
       (length list + length cells.parts ≡ 0 → ⊥) → IsDue (state_of screen old)
   due_by moves [] taken some =
-      sent_due (div_ceil screen.width 64) (div_ceil screen.width 64 * div_ceil screen.height 64) (state_of screen old) sent.known cells.parts cells.bytes refl
+      sent_due (div_ceil screen.width 64) (div_ceil screen.width 64 * div_ceil screen.height 64) (state_of screen old)
+      sent.known cells.parts cells.bytes refl
       (λ none. some (omega (arith, none))) (sends_alone moves taken)
-  due_by moves (copy ∷ list) taken some = copied_due (state_of screen old) moves (copy ∷ list) mid.known copies.bytes refl (λ none. omega (arith, none)) taken
+  due_by moves (copy ∷ list) taken some = copied_due (state_of screen old) moves (copy ∷ list) mid.known copies.bytes
+      refl (λ none. omega (arith, none)) taken
 
   -- where rectangles were sent the update is done
   pub updated : (new : Session) (last : List ℕ) → (k + n ≡ 0 → ⊥) → IsCounted (length before) (k + n) after last →
       IsSettled sent new → is_ready old.progress ≡ true → HasComposed screen old new before last
   updated new last some counts settled ready =
       let (head, spelled, is) = counts before (copies.bytes ++ cells.bytes) refl sent_whole in
-      let total : k + n ≡ length (copies.copies ++ cells.parts) = rw (length-append copies.copies cells.parts) (omega (arith, copies.count_is, cells.count_is)) in
-      let head_is : SpellsUpdate (length (copies.copies ++ cells.parts)) head = subst (λ (m : ℕ). SpellsUpdate m head) total spelled in
-      let made : (c : Composes (state_of screen old) (state_of screen new) (head ++ (copies.bytes ++ cells.bytes)) copies.copies cells.parts) × (c.moves ≡ copies.moves) =
-      subst (λ (t : ServerState). (c : Composes (state_of screen old) t (head ++ (copies.bytes ++ cells.bytes)) copies.copies cells.parts) × (c.moves ≡ copies.moves))
+      let total : k + n ≡ length (copies.copies ++ cells.parts) =
+      rw (length-append copies.copies cells.parts) (omega (arith, copies.count_is, cells.count_is)) in
+      let head_is : SpellsUpdate (length (copies.copies ++ cells.parts)) head =
+      subst (λ (m : ℕ). SpellsUpdate m head) total spelled in
+      let made : (c : Composes (state_of screen old) (state_of screen new) (head ++ (copies.bytes ++ cells.bytes))
+      copies.copies cells.parts) × (c.moves ≡ copies.moves) =
+      subst (λ (t : ServerState). (c : Composes (state_of screen old) t (head ++ (copies.bytes ++ cells.bytes))
+      copies.copies cells.parts) × (c.moves ≡ copies.moves))
       (sym (state_settled screen old sent new (kept_then old mid sent kept kept_on) settled))
-      (composes (state_of screen old) copies.moves copies.copies cells.parts mid.known sent.known head copies.bytes cells.bytes
-      old.alike.area_is (old.alike.area_wide ∙ sym about.alike.columns) (old.alike.area_high ∙ sym about.alike.rows) copies.taken sends head_is) in
+      (composes (state_of screen old) copies.moves copies.copies cells.parts mid.known sent.known
+      head copies.bytes cells.bytes
+      old.alike.area_is (old.alike.area_wide ∙ sym about.alike.columns) (old.alike.area_high ∙ sym about.alike.rows)
+      copies.taken sends head_is) in
       record {
         ready = ready;
-        due = due_by copies.moves copies.copies copies.taken (λ none. some (omega (arith, none, copies.count_is, cells.count_is)));
+        due = due_by copies.moves copies.copies copies.taken
+            (λ none. some (omega (arith, none, copies.count_is, cells.count_is)));
         bytes = head ++ (copies.bytes ++ cells.bytes);
         copies = copies.copies;
         blocks = cells.parts;
         appended = is;
         composes = made.0;
-        used = subst (λ (moves : List Move). AreUsed (state_of screen old) (usable (state_of screen old) old.hints.items) moves) (sym made.1)
+        used = subst (λ (moves : List Move). AreUsed (state_of screen old)
+            (usable (state_of screen old) old.hints.items) moves) (sym made.1)
             (used_all (state_of screen old) old.hints.items copies.moves copies.used);
         hello = settled.hello ∙ (kept_on.hello ∙ kept.hello);
         progress = settled.progress ∙ (kept_on.progress ∙ kept.progress);
@@ -267,9 +321,13 @@ module _ (screen : Grid Colour) (old mid sent : Session) (before middle after : 
       let no_copies : copies.copies ≡ [] = no_parts copies.copies (omega (arith, none, copies.count_is)) in
       let empty : cells.parts ≡ [] = no_parts cells.parts (omega (arith, none, cells.count_is)) in
       let alone : Copies (state_of screen old) copies.moves [] mid.known copies.bytes =
-      subst (λ (list : List Part). Copies (state_of screen old) copies.moves list mid.known copies.bytes) no_copies copies.taken in
-      let quiet : Sends (div_ceil screen.width 64) (div_ceil screen.width 64 * div_ceil screen.height 64) (state_of screen old) sent.known [] cells.bytes =
-      subst (λ (parts : List Part). Sends (div_ceil screen.width 64) (div_ceil screen.width 64 * div_ceil screen.height 64) (state_of screen old) sent.known parts cells.bytes) empty (sends_alone copies.moves alone) in
+      subst (λ (list : List Part). Copies (state_of screen old) copies.moves list mid.known copies.bytes)
+      no_copies copies.taken in
+      let quiet : Sends (div_ceil screen.width 64) (div_ceil screen.width 64 * div_ceil screen.height 64)
+      (state_of screen old) sent.known [] cells.bytes =
+      subst (λ (parts : List Part). Sends (div_ceil screen.width 64)
+      (div_ceil screen.width 64 * div_ceil screen.height 64) (state_of screen old) sent.known parts cells.bytes)
+      empty (sends_alone copies.moves alone) in
       record {
         not_due = λ ready. idle_not_due (state_of screen old) sent.known cells.bytes quiet;
         appended = same;
@@ -288,15 +346,18 @@ module _ (screen : Grid Colour) (old mid sent : Session) (before middle after : 
 -- ---- marks
 
 -- marks that were made before are no part of what a session is
-pub composed_same : (screen : Grid Colour) (old mid new : Session) (before after : List ℕ) → IsSame old mid → mid.hints ≡ old.hints →
+pub composed_same : (screen : Grid Colour) (old mid new : Session) (before after : List ℕ) →
+    IsSame old mid → mid.hints ≡ old.hints →
     HasComposed screen mid new before after → HasComposed screen old new before after
 composed_same screen old mid new before after same hints done =
     let is = state_same screen old mid same in
     let made : (c : Composes (state_of screen old) (state_of screen new) done.bytes done.copies done.blocks)
     × AreUsed (state_of screen old) (usable (state_of screen old) old.hints.items) c.moves =
-    subst (λ (kept : Buffer Hint). (c : Composes (state_of screen old) (state_of screen new) done.bytes done.copies done.blocks)
+    subst (λ (kept : Buffer Hint).
+    (c : Composes (state_of screen old) (state_of screen new) done.bytes done.copies done.blocks)
     × AreUsed (state_of screen old) (usable (state_of screen old) kept.items) c.moves) hints
-    (subst (λ (t : ServerState). (c : Composes t (state_of screen new) done.bytes done.copies done.blocks) × AreUsed t (usable t mid.hints.items) c.moves) is
+    (subst (λ (t : ServerState). (c : Composes t (state_of screen new) done.bytes done.copies done.blocks)
+    × AreUsed t (usable t mid.hints.items) c.moves) is
     (done.composes, done.used)) in
     record {
       ready = rw (← same.progress) done.ready;

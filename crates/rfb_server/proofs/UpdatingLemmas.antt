@@ -1,5 +1,6 @@
 -- What composing leaves of what a session stands for, and a server.
-use Rattle.std.proofs.Common.{◌≡◌, ◌≢◌, ℕ, Bool, true, false, List, [], ◌++◌, Option, None, Result, Ok, Err, IfOk, OnOk, OnErr, refl, sym, ap, subst, ◌∙◌, append-nil}
+use Rattle.std.proofs.Common.{◌≡◌, ◌≢◌, ℕ, Bool, true, false, List, [], ◌++◌, Option, None, Result, Ok, Err, IfOk, OnOk}
+use Rattle.std.proofs.Common.{OnErr, refl, sym, ap, subst, ◌∙◌, append-nil}
 use Rattle.rfb_pixel.specs.declared.colour.Colour.{Colour}
 use Rattle.rfb_pixel.specs.Format.{PixelFormat}
 use Rattle.rfb_picture.specs.Grid.{Grid}
@@ -10,7 +11,8 @@ use Rattle.rfb_hello.specs.declared.server_hello.ServerHello.{ServerHello}
 use Rattle.rfb_server.specs.declared.session.Session.{Session}
 use Rattle.rfb_server.specs.declared.server.Server.{Server}
 use Rattle.rfb_server.specs.declared.session.input.progress.Progress.{Progress}
-use Rattle.rfb_server.specs.declared.session.input.progress.Progress.TheVariants.{Handshake, Head, Encodings, CutText, Failed}
+use Rattle.rfb_server.specs.declared.session.input.progress.Progress.TheVariants.{Handshake, Head, Encodings, CutText}
+use Rattle.rfb_server.specs.declared.session.input.progress.Progress.TheVariants.{Failed}
 use Rattle.rfb_server.specs.ClientBytes.{ClientAt}
 use Rattle.rfb_server.specs.Server.{Serving, ServerState}
 use Rattle.rfb_server.specs.Progress.{ProgressStandsFor, fault_in}
@@ -55,22 +57,28 @@ failed_unready (CutText text_length left kept) some = absurd (some refl)
 failed_unready (Failed fault) some = refl
 
 abbrev state : ClientAt → Grid Colour → Grid (Option ℕ) → Places → PixelFormat → List Encoding → ServerState
-state point screen known area form encodings = record { point = point; screen = screen; known = known; area = area; form = form; encodings = encodings }
+state point screen known area form encodings =
+    record { point = point; screen = screen; known = known; area = area; form = form; encodings = encodings }
 
-same_state : (point at : ClientAt) (screen picture : Grid Colour) (known record_now : Grid (Option ℕ)) (area places : Places) (form format : PixelFormat) (encodings list : List Encoding) →
+same_state : (point at : ClientAt) (screen picture : Grid Colour) (known record_now : Grid (Option ℕ))
+    (area places : Places) (form format : PixelFormat) (encodings list : List Encoding) →
     point ≡ at → screen ≡ picture → known ≡ record_now → area ≡ places → form ≡ format → encodings ≡ list →
     state point screen known area form encodings ≡ state at picture record_now places format list
-same_state point at screen picture known record_now area places form format encodings list a b c d e f = rw (a, b, c, d, e, f) refl
+same_state point at screen picture known record_now area places form format encodings list a b c d e f =
+    rw (a, b, c, d, e, f) refl
 
 -- the state that a ready session stands for
 pub state_is : (serving : Serving) (screen : Grid Colour) (session : Session) (s : ServerState) (prefix : List ℕ) →
     is_ready session.progress ≡ true → SessionStandsFor serving screen session s prefix → s ≡ state_of screen session
 state_is serving screen session s prefix ready stands =
-    same_state s.point (Second tt) s.screen screen s.known session.known s.area session.area s.form session.format s.encodings session.encodings
-    (point_ready serving session.hello session.progress s.point prefix ready stands.progress_is) stands.screen_is stands.known_is stands.area_is stands.form_is stands.encodings_are
+    same_state s.point (Second tt) s.screen screen s.known session.known s.area session.area s.form session.format
+    s.encodings session.encodings
+    (point_ready serving session.hello session.progress s.point prefix ready stands.progress_is) stands.screen_is
+    stands.known_is stands.area_is stands.form_is stands.encodings_are
 
 -- a session that has composed stands for what that leaves
-pub stands_composed : (serving : Serving) (screen : Grid Colour) (old new : Session) (s : ServerState) (prefix before after : List ℕ) →
+pub stands_composed : (serving : Serving) (screen : Grid Colour) (old new : Session) (s : ServerState)
+    (prefix before after : List ℕ) →
     HasComposed screen old new before after → SessionStandsFor serving screen old s prefix →
     SessionStandsFor serving screen new (state_of screen new) prefix
 stands_composed serving screen old new s prefix before after done stands =
@@ -78,7 +86,8 @@ stands_composed serving screen old new s prefix before after done stands =
     record {
       setup_is = rw (done.hello) stands.setup_is;
       limit_is = done.text_limit ∙ stands.limit_is;
-      progress_is = rw (done.hello, done.progress) (subst (λ (p : ClientAt). ProgressStandsFor serving old.hello old.progress p prefix) point stands.progress_is);
+      progress_is = rw (done.hello, done.progress) (subst
+          (λ (p : ClientAt). ProgressStandsFor serving old.hello old.progress p prefix) point stands.progress_is);
       screen_is = refl;
       known_is = refl;
       area_is = refl;
@@ -108,8 +117,10 @@ sends screen old new before after done = record {
   made_is = rw (done.hello, done.text_limit) refl;
   sent = λ serving s prefix stands.
       let is = state_is serving screen old s prefix done.ready stands in
-      let made : (c : Composes s (state_of screen new) done.bytes done.copies done.blocks) × AreUsed s (usable s (hints_in old)) c.moves =
-      subst (λ (t : ServerState). (c : Composes t (state_of screen new) done.bytes done.copies done.blocks) × AreUsed t (usable t (hints_in old)) c.moves) (sym is)
+      let made : (c : Composes s (state_of screen new) done.bytes done.copies done.blocks)
+      × AreUsed s (usable s (hints_in old)) c.moves =
+      subst (λ (t : ServerState). (c : Composes t (state_of screen new) done.bytes done.copies done.blocks)
+      × AreUsed t (usable t (hints_in old)) c.moves) (sym is)
       (done.composes, done.used) in
       record {
         due = subst (λ (t : ServerState). IsDue t) (sym is) done.due;
@@ -129,7 +140,8 @@ pub keeps_session : (old new : Session) → IsSame old new → KeepsSession old 
 keeps_session old new same = record {
   fault_is = ap fault_in same.progress;
   made_is = rw (same.hello, same.text_limit) refl;
-  notes_are = same_notes new.known old.known new.area old.area new.format old.format new.encodings old.encodings same.known same.area same.format same.encodings;
+  notes_are = same_notes new.known old.known new.area old.area new.format old.format new.encodings old.encodings
+      same.known same.area same.format same.encodings;
   stands = λ serving screen s prefix stands. stands_same serving screen old new s prefix same stands;
 }
 
@@ -196,7 +208,8 @@ then_kept (Ok value) screen old mid new drawn kept = record {
   notes_are = kept.notes_are ∙ drawn.notes_are;
   taken_is = kept.taken_is ∙ drawn.taken_is;
   stands = λ serving s prefix stands.
-      subst (λ (g : Grid Colour). SessionStandsFor serving new.screen new.session (with_screen g s) prefix) drawn.screen_is
+      subst (λ (g : Grid Colour). SessionStandsFor serving new.screen new.session (with_screen g s) prefix)
+      drawn.screen_is
       (kept.stands serving (with_screen screen s) prefix (drawn.stands serving s prefix stands));
 }
 then_kept (Err error) screen old mid new drawn kept = tt

@@ -9,7 +9,8 @@ use Rattle.rfb_wire.specs.ClientMessage.{ClientMessage, ClientFault, client_says
 use Rattle.rfb_wire.specs.ClientStream.{client_stream}
 use Rattle.rfb_hello.specs.declared.version.Version.{Version}
 use Rattle.rfb_hello.specs.declared.fault.HelloFault.{HelloFault}
-use Rattle.rfb_hello.specs.ClientHandshake.{ClientPoint, AwaitsInit, ClientItem, ClientInit, client_handshake, client_item_says}
+use Rattle.rfb_hello.specs.ClientHandshake.{ClientPoint, AwaitsInit, ClientItem, ClientInit, client_handshake}
+use Rattle.rfb_hello.specs.ClientHandshake.{client_item_says}
 use Rattle.rfb_hello.specs.Pending.{client_handshake_pending}
 use Rattle.rfb_server.specs.declared.fault.ServerFault.{ServerFault}
 use Rattle.rfb_server.specs.Fault.{fault_of_hello, fault_of_message}

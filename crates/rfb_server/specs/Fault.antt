@@ -2,12 +2,20 @@
 -- numbers.
 use Rattle.std.specs.Prelude.{ℕ}
 use Rattle.rfb_pixel.specs.declared.fault.FormatFault.{FormatFault}
-use Rattle.rfb_pixel.specs.declared.fault.FormatFault.TheVariants.{BadBits, DepthTooLarge, NotTrueColour, BadMax, ShiftTooLarge, FieldsOverlap}
+use Rattle.rfb_pixel.specs.declared.fault.FormatFault.TheVariants.{BadBits, DepthTooLarge, NotTrueColour, BadMax}
+use Rattle.rfb_pixel.specs.declared.fault.FormatFault.TheVariants.{ShiftTooLarge, FieldsOverlap}
 use Rattle.rfb_wire.specs.ClientMessage.{ClientFault, BadFormat, UnknownType}
 use Rattle.rfb_hello.specs.declared.fault.HelloFault.{HelloFault}
-use Rattle.rfb_hello.specs.declared.fault.HelloFault.TheVariants.{BadVersion, VersionTooHigh, BadSecurityChoice, NoneNotOffered, Refused, BadSecurityWord, SecurityFailed, ScreenEmpty, ScreenTooLarge, NoMemory}
+use Rattle.rfb_hello.specs.declared.fault.HelloFault.TheVariants.{BadVersion, VersionTooHigh, BadSecurityChoice}
+use Rattle.rfb_hello.specs.declared.fault.HelloFault.TheVariants.{NoneNotOffered, Refused, BadSecurityWord}
+use Rattle.rfb_hello.specs.declared.fault.HelloFault.TheVariants.{SecurityFailed, ScreenEmpty, ScreenTooLarge, NoMemory}
 use Rattle.rfb_server.specs.declared.fault.ServerFault.{ServerFault}
-use Rattle.rfb_server.specs.declared.fault.ServerFault.TheVariants.{BadBits as Bits, DepthTooLarge as Depth, NotTrueColour as Colours, BadMax as Max, ShiftTooLarge as Shift, FieldsOverlap as Overlap, UnknownMessage, BadVersion as Version, VersionTooHigh as High, BadSecurityChoice as Choice, NoMemory as Memory}
+use Rattle.rfb_server.specs.declared.fault.ServerFault.TheVariants.{BadBits as Bits, DepthTooLarge as Depth}
+use Rattle.rfb_server.specs.declared.fault.ServerFault.TheVariants.{NotTrueColour as Colours, BadMax as Max}
+use Rattle.rfb_server.specs.declared.fault.ServerFault.TheVariants.{ShiftTooLarge as Shift, FieldsOverlap as Overlap}
+use Rattle.rfb_server.specs.declared.fault.ServerFault.TheVariants.{UnknownMessage, BadVersion as Version}
+use Rattle.rfb_server.specs.declared.fault.ServerFault.TheVariants.{VersionTooHigh as High, BadSecurityChoice as Choice}
+use Rattle.rfb_server.specs.declared.fault.ServerFault.TheVariants.{NoMemory as Memory}
 
 -- of the handshake's a client's bytes show the first three alone; a server's have the next six
 abbrev pub fault_of_hello : HelloFault → ServerFault

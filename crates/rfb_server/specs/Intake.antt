@@ -9,7 +9,7 @@ use Rattle.rfb_server.specs.declared.event.ServerEvent.{ServerEvent}
 use Rattle.rfb_server.specs.declared.session.Session.{Session}
 use Rattle.rfb_server.specs.declared.drawing.notice.Notice.{Notice}
 use Rattle.rfb_server.specs.Drawing.{with_hint_of}
-use Rattle.rfb_server.specs.Following.{Follows, IsSameOutside}
+use Rattle.rfb_server.specs.Following.{Follows, IsTold}
 use Rattle.rfb_server.specs.Hints.{hints_in}
 use Rattle.rfb_server.specs.Server.{Serving, server, first_server}
 use Rattle.rfb_server.specs.Standing.{SessionStandsFor, KeepsSession, with_screen}
@@ -39,7 +39,7 @@ pub record Takes (bytes : List ℕ) (took : Fed ServerEvent) (old new : Session)
 
 -- it was told of a drawing: it follows whatever is drawn there, and has its hint
 pub record TakesNotice (notice : Notice) (old new : Session) : Type 0 where
-  pub follows : (before after : Grid Colour) → Follows before old → IsGrid after →
-      IsSameOutside notice.area before after → Follows after new
+  pub follows : (before after : Grid Colour) → Follows before old → IsTold notice before after →
+      Follows after new
   pub kept : KeepsSession old new
   pub hints : hints_in new ≡ with_hint_of notice.hint (hints_in old)

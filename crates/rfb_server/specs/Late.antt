@@ -1,5 +1,5 @@
 -- What a session is that takes the memory of its places late: one that has it from the start.
-use Rattle.std.specs.Prelude.{[], ◌∷◌}
+use Rattle.std.specs.Prelude.{[], ◌∷◌, None}
 use Rattle.rfb_pixel.specs.Format.{rgb888}
 use Rattle.rfb_picture.specs.Grid.{grid}
 use Rattle.rfb_picture.specs.Area.{no_places}
@@ -23,6 +23,7 @@ entered entrance = record {
   area = no_places entrance.width entrance.height;
   marks = all_marked entrance.width entrance.height;
   hints = entrance.hints;
+  claim = None;
   block = grid 1 1 (0 ∷ []);
   alike = entrance.alike;
   partial = entrance.partial;

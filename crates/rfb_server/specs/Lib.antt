@@ -9,6 +9,7 @@ pub mod Cells
 pub mod Drawing
 pub mod Composing
 pub mod Progress
+pub mod Claims
 pub mod Following
 pub mod Standing
 pub mod Intake

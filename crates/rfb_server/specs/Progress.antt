@@ -1,5 +1,6 @@
 -- How far a client's bytes have come in a session, and what it holds of the item under way.
-use Rattle.std.specs.Prelude.{◌≡◌, ℕ, ℤ, ◌+◌, ◌<◌, min, List, [], ◌∷◌, ◌++◌, length, take, Bool, true, false, ◌&&◌, ◌==◌, nat_lt, Option, Some, None}
+use Rattle.std.specs.Prelude.{◌≡◌, ℕ, ℤ, ◌+◌, ◌<◌, min, List, [], ◌∷◌, ◌++◌, length, take, Bool, true, false, ◌&&◌}
+use Rattle.std.specs.Prelude.{◌==◌, nat_lt, Option, Some, None}
 use Rattle.rfb_wire.specs.declared.encoding.Encoding.{Encoding}
 use Rattle.rfb_wire.specs.stream.Reading.{Listed}
 use Rattle.rfb_wire.specs.ClientHead.{client_head_size, SpellsSetEncodings, SpellsClientCutText}
@@ -11,7 +12,8 @@ use Rattle.rfb_hello.specs.declared.server_hello.ServerHello.{ServerHello}
 use Rattle.rfb_hello.specs.ServerStanding.{StandsFor as HelloStandsFor, is_open}
 use Rattle.rfb_server.specs.declared.fault.ServerFault.{ServerFault}
 use Rattle.rfb_server.specs.declared.session.input.progress.Progress.{Progress}
-use Rattle.rfb_server.specs.declared.session.input.progress.Progress.TheVariants.{Handshake, Head, Encodings, CutText, Failed}
+use Rattle.rfb_server.specs.declared.session.input.progress.Progress.TheVariants.{Handshake, Head, Encodings, CutText}
+use Rattle.rfb_server.specs.declared.session.input.progress.Progress.TheVariants.{Failed}
 use Rattle.rfb_server.specs.ClientBytes.{ClientAt}
 use Rattle.rfb_server.specs.Encodings.{known_among}
 use Rattle.rfb_server.specs.Server.{Serving}

@@ -1,11 +1,14 @@
 -- What a server tells of what its client sent: events, as values that hold what was spelled.
 use Rattle.std.specs.Prelude.{ℕ, Bool, List, [], length, take, Option, Some, None, Result, Ok, Err}
-use Rattle.rfb_wire.specs.ClientMessage.{ClientMessage, SetPixelFormat, SetEncodings, FramebufferUpdateRequest, KeyEvent, PointerEvent, ClientCutText}
+use Rattle.rfb_wire.specs.ClientMessage.{ClientMessage, SetPixelFormat, SetEncodings, FramebufferUpdateRequest}
+use Rattle.rfb_wire.specs.ClientMessage.{KeyEvent, PointerEvent, ClientCutText}
 use Rattle.rfb_hello.specs.declared.step.ServerStep.{ServerStep}
 use Rattle.rfb_hello.specs.declared.step.ServerStep.TheVariants.{Reply as ReplyStep, Ready as ReadyStep}
 use Rattle.rfb_server.specs.declared.fault.ServerFault.{ServerFault}
 use Rattle.rfb_server.specs.declared.event.ServerEvent.{ServerEvent}
-use Rattle.rfb_server.specs.declared.event.ServerEvent.TheVariants.{Reply as ReplyEvent, Ready as ReadyEvent, Key as KeyTold, Pointer as PointerTold, CutText as CutTextTold}
+use Rattle.rfb_server.specs.declared.event.ServerEvent.TheVariants.{Reply as ReplyEvent, Ready as ReadyEvent}
+use Rattle.rfb_server.specs.declared.event.ServerEvent.TheVariants.{Key as KeyTold, Pointer as PointerTold}
+use Rattle.rfb_server.specs.declared.event.ServerEvent.TheVariants.{CutText as CutTextTold}
 
 -- an answer that is to be sent; the last one, with the shared-flag; a key; the pointer; a text, as
 -- much of it as is kept and how many bytes it has

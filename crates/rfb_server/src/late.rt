@@ -21,8 +21,8 @@ use std::alloc::{AllocError, Global};
 use std::marker::Model;
 
 /// A session as `Session` is, but for when it takes memory: that of its places, which is nearly all
-/// of it, it takes where the client's handshake may come to its end. A connection that sends nothing
-/// costs little more than its name. Contracts say what session it is.
+/// of it, it takes where the client's handshake may come to its end. A connection that sends
+/// nothing costs little more than its name. Contracts say what session it is.
 #[derive(Debug, Drop)]
 pub struct LateSession {
     alloc: Global,

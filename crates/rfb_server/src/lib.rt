@@ -27,6 +27,7 @@
 #![tactic(auto)]
 
 mod cells;
+mod claim;
 mod drawing;
 mod encodings;
 mod event;

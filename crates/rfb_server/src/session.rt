@@ -6,11 +6,13 @@ ghost use Rattle.rfb_picture.specs.Grid.{Holds};
 ghost use Rattle.rfb_server.specs.inside.Marks.{AreAlike};
 ghost use Rattle.rfb_server.specs.Progress.{is_partial};
 
+mod claiming;
 mod entering;
 mod input;
 pub(crate) mod places;
 mod update;
 
+use crate::claim::Claim;
 use crate::drawing::Notice;
 use crate::encodings::EncodingList;
 use crate::hint::{Hint, MAX_HINTS};
@@ -41,6 +43,8 @@ pub struct Session {
     area: Area,
     marks: PlaceSet,
     hints: HeapCircularBuffer<Hint>,
+    // Of the latest copy on the screen: where the viewer has that already.
+    claim: Option<Claim>,
     // The latest rectangle that was sent, kept for its room.
     block: Block,
     ghost alike: { AreAlike known area marks },
@@ -54,7 +58,7 @@ impl Session {
     ghost use Rattle.rfb_server.specs.Server.{Serving, ServerState, first_server};
     ghost use Rattle.rfb_server.specs.Standing.{SessionStandsFor, serving_with, with_screen};
     ghost use Rattle.rfb_server.specs.Standing.{KeepsSession, notes_in};
-    ghost use Rattle.rfb_server.specs.Following.{Follows, IsSameOutside};
+    ghost use Rattle.rfb_server.specs.Following.{Follows, IsTold};
     ghost use Rattle.rfb_server.specs.Hints.{hints_in};
     ghost use Rattle.rfb_server.specs.Drawing.{with_hint_of};
     ghost use Rattle.rfb_hello.specs.Version.{version_text};
@@ -97,20 +101,22 @@ impl Session {
             area: places.area,
             marks: places.marks,
             hints,
+            claim: None,
             block: Block::single(0),
         })
     }
 
     /// Takes what it is told of a drawing (`Drawing::notice`), before the screen changes or after.
-    /// It marks where, and keeps the hint: the last sixteen are kept until an update is composed.
-    /// Whatever is drawn there, it follows the screen again; while nothing is, it does too.
+    /// It marks where, remembers a copy, and keeps the hint: the last sixteen are kept until an
+    /// update is composed. It follows the screen that the drawing leaves.
     pub fn notified(&mut self, notice: &Notice)
         requires held { Holds (notes_in self.old).known notice.now.area }
-        ensures follows { (before after : Grid Colour) → Follows before self.old → IsGrid after
-            → IsSameOutside notice.now.area before after → Follows after self.new }
+        ensures follows { (before after : Grid Colour) → Follows before self.old
+            → IsTold notice.now before after → Follows after self.new }
         ensures kept { KeepsSession self.old self.new }
         ensures hints { hints_in self.new ≡ with_hint_of notice.now.hint (hints_in self.old) }
     {
+        self.claim = self.claim_after(notice);
         self.marks.add(notice.area);
         if let Some(hint) = notice.hint {
             self.keep_hint(hint);

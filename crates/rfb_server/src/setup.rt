@@ -5,8 +5,8 @@ ghost use Rattle.rfb_hello.specs.declared.version.Version.TheVariants.{V38};
 
 use rfb_hello::Version;
 
-/// What a server or a session is made with, as `Server::new` takes it. `ServerSetup::usual` has what
-/// most owners want; each field may be another.
+/// What a server or a session is made with, as `Server::new` takes it. `ServerSetup::usual` has
+/// what most owners want; each field may be another.
 #[derive(Clone, Copy, Debug)]
 pub struct ServerSetup<'a> {
     /// How many columns the screen has: 1 to 4,096.

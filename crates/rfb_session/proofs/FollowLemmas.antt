@@ -5,11 +5,11 @@ use Rattle.std.specs.Option.{ForSome}
 use Rattle.std.proofs.lemmas.Bool.{cases_eq}
 use Rattle.rfb_pixel.specs.declared.colour.Colour.{Colour}
 use Rattle.rfb_picture.specs.declared.rect.Rect.{Rect}
-use Rattle.rfb_picture.specs.Grid.{Grid, IsGrid, Holds}
+use Rattle.rfb_picture.specs.Grid.{Grid, Holds}
 use Rattle.rfb_server.specs.declared.session.Session.{Session}
-use Rattle.rfb_server.specs.Following.{Follows, IsSameOutside}
+use Rattle.rfb_server.specs.Following.{Follows, IsTold}
 use Rattle.rfb_server.specs.Standing.{notes_in}
-use Rattle.rfb_server.specs.Drawing.{Stroke, drawn_by, area_of}
+use Rattle.rfb_server.specs.Drawing.{Stroke, drawn_by, notice_of}
 use Rattle.rfb_server.proofs.DrawingLaws.{follows_stroke}
 use Rattle.rfb_session.specs.Slots.{seat_at, OnSlot}
 use Rattle.rfb_session.proofs.SlotLemmas.{not_both, on_seat, each_seat, all_seats, seat_set_same}
@@ -40,7 +40,7 @@ module _ {X : Type 0} where
   pub all_notified : (session : X → Session) (R : X → X → Type 0) (screen : Grid Colour)
       (old new : List (Option X)) (s : Stroke) →
       ((a b : X) → R a b → (before later : Grid Colour) → Follows before (session a) →
-      IsGrid later → IsSameOutside (area_of s) before later → Follows later (session b)) →
+      IsTold (notice_of s) before later → Follows later (session b)) →
       AllFollow session screen old →
       ((k : ℕ) → OnSlot R (seat_at k old) (seat_at k new)) → AllFollow session (drawn_by s screen) new
   all_notified session R screen old new s told follow drawn =

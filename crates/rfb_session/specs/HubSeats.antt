@@ -1,8 +1,8 @@
 -- A seat at a hub: what it is made with, and what becomes of it.
 use Rattle.std.specs.Prelude.{◌≡◌, ◌≢◌, ◌⊎◌, ℕ, true, false, List, [], ◌++◌, None}
 use Rattle.rfb_pixel.specs.declared.colour.Colour.{Colour}
-use Rattle.rfb_picture.specs.Grid.{Grid, IsGrid}
-use Rattle.rfb_server.specs.Following.{Follows, IsSameOutside}
+use Rattle.rfb_picture.specs.Grid.{Grid}
+use Rattle.rfb_server.specs.Following.{Follows, IsTold}
 use Rattle.rfb_server.specs.Hints.{hints_in}
 use Rattle.rfb_server.specs.Server.{Serving}
 use Rattle.rfb_server.specs.declared.drawing.notice.Notice.{Notice}
@@ -76,8 +76,8 @@ pub record IsNotifiedOn (notice : Notice) (old new : HubSeat) : Type 0 where
   pub keeps : KeepsSeat old new
   pub hints : hints_in new.link.session
       ≡ with_hint_of (hint_told notice) (hints_in old.link.session)
-  pub follows : (before after : Grid Colour) → Follows before old.link.session → IsGrid after →
-      IsSameOutside (area_told notice) before after → Follows after new.link.session
+  pub follows : (before after : Grid Colour) → Follows before old.link.session →
+      IsTold notice before after → Follows after new.link.session
 
 -- bytes that no viewer sent joined those in flight to the session
 pub record TakesForeign (bytes : List ℕ) (old new : HubSeat) : Type 0 where

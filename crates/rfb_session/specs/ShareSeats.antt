@@ -2,13 +2,13 @@
 use Rattle.std.specs.Prelude.{◌≡◌, ℕ, ◌≤◌, Bool, true, false, List, [], ◌++◌, drop, length, Option}
 use Rattle.std.specs.Prelude.{None, Some}
 use Rattle.rfb_pixel.specs.declared.colour.Colour.{Colour}
-use Rattle.rfb_picture.specs.Grid.{Grid, IsGrid}
+use Rattle.rfb_picture.specs.Grid.{Grid}
 use Rattle.rfb_wire.specs.stream.End.{FedBy}
 use Rattle.rfb_hello.specs.Version.{version_text}
 use Rattle.rfb_server.specs.declared.fault.ServerFault.{ServerFault}
 use Rattle.rfb_server.specs.declared.session.Session.{Session}
 use Rattle.rfb_server.specs.Failing.{EndsAs}
-use Rattle.rfb_server.specs.Following.{Follows, IsSameOutside}
+use Rattle.rfb_server.specs.Following.{Follows, IsTold}
 use Rattle.rfb_server.specs.Hints.{hints_in}
 use Rattle.rfb_server.specs.Room.{update_room}
 use Rattle.rfb_server.specs.Server.{Serving, server, first_server}
@@ -151,5 +151,5 @@ pub record IsNotifiedIn (notice : Notice) (old new : ShareSeat) : Type 0 where
   pub keeps : KeepsShareSeat old new
   pub hints : hints_in (session_at new)
       ≡ with_hint_of (hint_told notice) (hints_in (session_at old))
-  pub follows : (before after : Grid Colour) → Follows before (session_at old) → IsGrid after →
-      IsSameOutside (area_told notice) before after → Follows after (session_at new)
+  pub follows : (before after : Grid Colour) → Follows before (session_at old) →
+      IsTold notice before after → Follows after (session_at new)

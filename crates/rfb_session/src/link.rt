@@ -35,9 +35,9 @@ pub struct Link {
 
 impl Link {
     ghost use Rattle.rfb_pixel.specs.declared.colour.Colour.{Colour};
-    ghost use Rattle.rfb_picture.specs.Grid.{Grid, IsGrid, Holds};
+    ghost use Rattle.rfb_picture.specs.Grid.{Grid, Holds};
     ghost use Rattle.rfb_server.specs.Standing.{KeepsSession};
-    ghost use Rattle.rfb_server.specs.Following.{Follows, IsSameOutside};
+    ghost use Rattle.rfb_server.specs.Following.{Follows, IsTold};
     ghost use Rattle.rfb_server.specs.Hints.{hints_in};
     ghost use Rattle.rfb_server.specs.Drawing.{area_told, hint_told, with_hint_of};
     ghost use Rattle.rfb_session.specs.Link.{Ends, LinkState, first_link};
@@ -69,8 +69,7 @@ impl Link {
     pub fn notified(&mut self, notice: &Notice)
         requires held { Holds (notes_in (session_of_link self.old)).known (area_told notice.now) }
         ensures follows { (before after : Grid Colour)
-            → Follows before (session_of_link self.old) → IsGrid after
-            → IsSameOutside (area_told notice.now) before after
+            → Follows before (session_of_link self.old) → IsTold notice.now before after
             → Follows after (session_of_link self.new) }
         ensures changes { ChangesSession self.old self.new }
         ensures kept { KeepsSession (session_of_link self.old) (session_of_link self.new) }

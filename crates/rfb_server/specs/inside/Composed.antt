@@ -7,7 +7,8 @@ use Rattle.rfb_picture.specs.Places.{without}
 use Rattle.rfb_wire.specs.ServerHead.{SpellsUpdate}
 use Rattle.rfb_server.specs.declared.session.Session.{Session}
 use Rattle.rfb_server.specs.declared.session.input.progress.Progress.{Progress}
-use Rattle.rfb_server.specs.declared.session.input.progress.Progress.TheVariants.{Handshake, Head, Encodings, CutText, Failed}
+use Rattle.rfb_server.specs.declared.session.input.progress.Progress.TheVariants.{Handshake, Head, Encodings, CutText}
+use Rattle.rfb_server.specs.declared.session.input.progress.Progress.TheVariants.{Failed}
 use Rattle.rfb_server.specs.Composing.{Part, Composes, IsDue}
 use Rattle.rfb_server.specs.Using.{AreUsed, usable}
 use Rattle.rfb_server.specs.inside.Sessions.{IsSame}
@@ -62,6 +63,7 @@ pub record IsSettled (old new : Session) : Type 0 where
   pub area : new.area ≡ nothing old.area
   pub marks : new.marks ≡ without old.area.asked old.marks
   pub hints : new.hints.items ≡ []
+  pub claim : new.claim ≡ old.claim
 
 -- the head of an update without rectangles, which stands at `at`, has become that of an update with
 -- `count` rectangles

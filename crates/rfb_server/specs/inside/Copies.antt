@@ -1,5 +1,6 @@
 -- Rectangles that are copied, one after another, at the front of an update.
-use Rattle.std.specs.Prelude.{◌≡◌, ◌≢◌, ℕ, ◌+◌, ◌-◌, ◌<◌, Bool, true, false, not, List, [], ◌++◌, length, take, map, slice_get, Option, Some, None, if◌then◌else◌}
+use Rattle.std.specs.Prelude.{◌≡◌, ◌≢◌, ℕ, ◌+◌, ◌-◌, ◌<◌, Bool, true, false, not, List, [], ◌++◌, length, take, map}
+use Rattle.std.specs.Prelude.{slice_get, Option, Some, None, if◌then◌else◌}
 use Rattle.rfb_pixel.specs.declared.colour.Colour.{Colour}
 use Rattle.rfb_pixel.specs.Format.{PixelFormat}
 use Rattle.rfb_picture.specs.declared.rect.Rect.{Rect}
@@ -18,7 +19,8 @@ use Rattle.rfb_server.specs.declared.session.Session.{Session}
 use Rattle.rfb_server.specs.Server.{ServerState}
 use Rattle.rfb_server.specs.Request.{wanted_at, recorded, is_asked, is_whole, differs}
 use Rattle.rfb_server.specs.Using.{move_of, AreUsed}
-use Rattle.rfb_server.specs.Composing.{Part, Move, sent_as, between, all_moved, IsGain, AllGain, AreCopies, HaveTheirData, IsPlace, is_in_some}
+use Rattle.rfb_server.specs.Composing.{Part, Move, sent_as, between, all_moved, IsGain, AllGain, AreCopies}
+use Rattle.rfb_server.specs.Composing.{HaveTheirData, IsPlace, is_in_some}
 use Rattle.rfb_server.specs.inside.Sends.{state_of}
 
 -- whether a place of a rectangle has the wanted pixel, if it takes over what is known of the place

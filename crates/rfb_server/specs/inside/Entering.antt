@@ -13,6 +13,7 @@ pub record IsMoved (old new : Session) : Type 0 where
   pub same : IsSame old new
   pub marks : new.marks ≡ old.marks
   pub hints : new.hints ≡ old.hints
+  pub claim : new.claim ≡ old.claim
 
 -- it has what it needs to be fed so many bytes: the memory of its places, or fewer bytes than the
 -- client has left of its handshake; one that has failed needs none

@@ -1,5 +1,6 @@
 -- What of a screen needs sending, as a session finds it.
-use Rattle.std.specs.Prelude.{◌≡◌, ℕ, ◌+◌, ◌-◌, ◌*◌, ◌/◌, ◌<◌, ◌≤◌, Bool, true, false, Option, Some, None, MatchOption}
+use Rattle.std.specs.Prelude.{◌≡◌, ℕ, ◌+◌, ◌-◌, ◌*◌, ◌/◌, ◌<◌, ◌≤◌, Bool, true, false, not, ◌&&◌, Option, Some, None}
+use Rattle.std.specs.Prelude.{MatchOption}
 use Rattle.rfb_pixel.specs.declared.colour.Colour.{Colour}
 use Rattle.rfb_pixel.specs.Format.{PixelFormat}
 use Rattle.rfb_picture.specs.declared.rect.Rect.{Rect}
@@ -9,6 +10,8 @@ use Rattle.rfb_picture.specs.Area.{Places}
 use Rattle.rfb_picture.specs.Box.{IsClear, IsBox}
 use Rattle.rfb_picture.specs.Places.{NoneInRow, has_bit}
 use Rattle.rfb_server.specs.Request.{needs_at, differs}
+use Rattle.rfb_server.specs.Claims.{is_stale}
+use Rattle.rfb_server.specs.declared.session.update.quiet.Quiet.{Quiet}
 use Rattle.rfb_server.specs.declared.session.update.needs.Columns.{Columns}
 use Rattle.rfb_server.specs.declared.session.Session.{Session}
 
@@ -16,15 +19,26 @@ use Rattle.rfb_server.specs.declared.session.Session.{Session}
 abbrev pub needs_of : Grid Colour → Session → ℕ → ℕ → Bool
 needs_of screen session x y = needs_at screen session.known session.area session.format x y
 
--- no place of the rectangle needs sending, by what is known, asked and shown
-abbrev pub AreQuiet : Grid Colour → Grid (Option ℕ) → Places → PixelFormat → Rect → Type 0
-AreQuiet screen known area form rect = (x y : ℕ) → x < known.width → y < known.height →
-    contains rect x y ≡ true → needs_at screen known area form x y ≡ false
+-- the place lies in the rectangle, and in a row that counts
+abbrev pub is_quiet : Quiet → ℕ → ℕ → Bool
+is_quiet quiet x y = contains quiet.area x y && not (is_stale quiet.stale y)
+
+-- no such place needs sending, by what is known, asked and shown
+abbrev pub AreQuiet : Grid Colour → Grid (Option ℕ) → Places → PixelFormat → Quiet → Type 0
+AreQuiet screen known area form quiet = (x y : ℕ) → x < known.width → y < known.height →
+    is_quiet quiet x y ≡ true → needs_at screen known area form x y ≡ false
 
 -- so it is for a session
-abbrev pub IsQuiet : Grid Colour → Session → Rect → Type 0
-IsQuiet screen session rect =
-    AreQuiet screen session.known session.area session.format rect
+abbrev pub IsQuiet : Grid Colour → Session → Quiet → Type 0
+IsQuiet screen session quiet =
+    AreQuiet screen session.known session.area session.format quiet
+
+-- it is some of the rows of the cell
+pub record IsPartOf (cell rows : Rect) : Type 0 where
+  pub left : rows.x ≡ cell.x
+  pub wide : rows.w ≡ cell.w
+  pub top : cell.y ≤ rows.y
+  pub bottom : rows.y + rows.h ≤ cell.y + cell.h
 
 -- the first marked place of row y from one column up to another is at that column, which is the
 -- last of them where there is none

@@ -1,5 +1,6 @@
 -- Composing, cell by cell: what the rectangles so far are, and what they leave known.
-use Rattle.std.specs.Prelude.{◌≡◌, ℕ, ◌+◌, ◌*◌, ◌<◌, ◌≤◌, ◌&&◌, Bool, List, [], ◌++◌, length, map, true, false, Option, Some, None, MatchOption, if◌then◌else◌}
+use Rattle.std.specs.Prelude.{◌≡◌, ℕ, ◌+◌, ◌*◌, ◌<◌, ◌≤◌, ◌&&◌, Bool, List, [], ◌++◌, length, map, true, false, Option}
+use Rattle.std.specs.Prelude.{Some, None, MatchOption, if◌then◌else◌}
 use Rattle.std.specs.Int.{div_ceil}
 use Rattle.rfb_pixel.specs.declared.colour.Colour.{Colour}
 use Rattle.rfb_pixel.specs.Format.{PixelFormat, size_of}
@@ -20,7 +21,8 @@ use Rattle.rfb_server.specs.inside.Needs.{HasBox, needs_of}
 use Rattle.rfb_server.specs.inside.Rectangle.{IsCoded}
 use Rattle.rfb_server.specs.Cells.{cell_of, IsCell}
 use Rattle.rfb_server.specs.Room.{sum_below}
-use Rattle.rfb_server.specs.Composing.{Part, sent_as, between, may_send, IsForPixels, is_in_some, IsPlace, HaveTheirData, AreBlocksOf, AreBoxes}
+use Rattle.rfb_server.specs.Composing.{Part, sent_as, between, may_send, IsForPixels, is_in_some, IsPlace}
+use Rattle.rfb_server.specs.Composing.{HaveTheirData, AreBlocksOf, AreBoxes}
 
 -- ---- one rectangle
 
@@ -34,6 +36,7 @@ pub record IsKept (old new : Session) : Type 0 where
   pub area : new.area ≡ old.area
   pub marks : new.marks ≡ old.marks
   pub hints : new.hints ≡ old.hints
+  pub claim : new.claim ≡ old.claim
 
 -- the bytes are a rectangle with the pixels of the screen, in an encoding that may be sent, and
 -- these pixels are known from then on

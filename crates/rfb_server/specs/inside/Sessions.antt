@@ -1,5 +1,5 @@
 -- What calls on a `Session` change of it.
-use Rattle.std.specs.Prelude.{◌≡◌, ℕ, zero, suc, ◌<◌, Bool, List, [], true, false}
+use Rattle.std.specs.Prelude.{◌≡◌, ℕ, zero, suc, ◌<◌, Bool, List, [], true, false, None}
 use Rattle.rfb_pixel.specs.declared.colour.Colour.{Colour}
 use Rattle.rfb_pixel.specs.Format.{PixelFormat}
 use Rattle.rfb_picture.specs.declared.rect.Rect.{Rect}
@@ -11,6 +11,7 @@ use Rattle.rfb_picture.specs.Box.{is_in}
 use Rattle.rfb_hello.specs.ServerEnd.{as_reply}
 use Rattle.rfb_hello.specs.ServerStanding.{setup_of, is_open}
 use Rattle.rfb_server.specs.Record.{forgotten}
+use Rattle.rfb_server.specs.Claims.{IsClaimed}
 use Rattle.rfb_server.specs.Following.{IsCaughtUp}
 use Rattle.rfb_server.specs.Hints.{with_hint}
 use Rattle.rfb_server.specs.declared.hint.Hint.{Hint}
@@ -38,12 +39,14 @@ pub record IsMarked (rect : Rect) (old new : Session) : Type 0 where
   pub same : IsSame old new
   pub hints : new.hints ≡ old.hints
   pub marks : new.marks ≡ filled rect true old.marks
+  pub claim : new.claim ≡ old.claim
 
 -- there is one hint more, of at most sixteen
 pub record IsHinted (hint : Hint) (old new : Session) : Type 0 where
   pub same : IsSame old new
   pub marks : new.marks ≡ old.marks
   pub hints : new.hints.items ≡ with_hint hint old.hints.items
+  pub claim : new.claim ≡ old.claim
 
 -- the handshake's end was fed, and its progress is the session's: while it goes on the session is
 -- in the handshake, and once it is done between two messages
@@ -58,6 +61,7 @@ pub record IsGreeted (old new : Session) : Type 0 where
   pub area : new.area ≡ old.area
   pub marks : new.marks ≡ old.marks
   pub hints : new.hints ≡ old.hints
+  pub claim : new.claim ≡ old.claim
 
 -- a message comes next
 pub record BeginsMessage (old new : Session) : Type 0 where
@@ -70,6 +74,7 @@ pub record BeginsMessage (old new : Session) : Type 0 where
   pub area : new.area ≡ old.area
   pub marks : new.marks ≡ old.marks
   pub hints : new.hints ≡ old.hints
+  pub claim : new.claim ≡ old.claim
 
 -- that many numbers of a list come next. Without any the list is whole, with no encoding
 abbrev pub progress_of_list : ℕ → Progress
@@ -92,6 +97,7 @@ pub record BeginsList (count : ℕ) (old new : Session) : Type 0 where
   pub area : new.area ≡ old.area
   pub marks : new.marks ≡ old.marks
   pub hints : new.hints ≡ old.hints
+  pub claim : new.claim ≡ old.claim
 
 -- whatever the screen looks like, a session that had caught up with it still has
 abbrev pub StaysCaughtUp : Session → Session → Type 0
@@ -100,8 +106,14 @@ StaysCaughtUp old new =
     IsCaughtUp screen old.known old.area old.format old.marks →
     IsCaughtUp screen new.known new.area new.format new.marks
 
--- whatever it is fed, a session keeps what it was made with, its places and its hints, and that it
--- had caught up
+-- whatever the screen looks like, what a session claimed of it is true still
+abbrev pub StaysClaimed : Session → Session → Type 0
+StaysClaimed old new = (screen : Grid Colour) →
+    IsClaimed screen old.known old.format old.claim →
+    IsClaimed screen new.known new.format new.claim
+
+-- whatever it is fed, a session keeps what it was made with, its places and its hints, that it had
+-- caught up, and what it claims
 pub record KeepsUp (old new : Session) : Type 0 where
   pub setup : setup_of new.hello ≡ setup_of old.hello
   pub text_limit : new.text_limit ≡ old.text_limit
@@ -109,6 +121,7 @@ pub record KeepsUp (old new : Session) : Type 0 where
   pub rows : new.known.height ≡ old.known.height
   pub hints : new.hints ≡ old.hints
   pub caught_up : StaysCaughtUp old new
+  pub claimed : StaysClaimed old new
 
 -- the rectangle's places were asked for, and whole if that was asked
 pub record IsAskedFor (rect : Rect) (whole : Bool) (old new : Session) : Type 0 where
@@ -121,6 +134,7 @@ pub record IsAskedFor (rect : Rect) (whole : Bool) (old new : Session) : Type 0 
   pub hints : new.hints ≡ old.hints
   pub area : new.area ≡ added rect whole old.area
   pub caught_up : StaysCaughtUp old new
+  pub claim : new.claim ≡ old.claim
 
 -- updates are sent in that format, and nothing is known that was sent
 pub record HasFormat (form : PixelFormat) (old new : Session) : Type 0 where
@@ -133,3 +147,4 @@ pub record HasFormat (form : PixelFormat) (old new : Session) : Type 0 where
   pub hints : new.hints ≡ old.hints
   pub area : new.area ≡ old.area
   pub caught_up : StaysCaughtUp old new
+  pub claim : new.claim ≡ None

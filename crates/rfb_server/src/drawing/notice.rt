@@ -11,11 +11,12 @@ use crate::hint::Hint;
 use rfb_picture::{Picture, Rect};
 use rfb_pixel::Colour;
 
-/// What the sessions over a screen are told of a drawing: where it changes the screen, and its
-/// hint.
+/// What the sessions over a screen are told of a drawing: where it changes the screen, the copy
+/// that it is, and its hint.
 #[derive(Clone, Copy, Debug)]
 pub struct Notice {
     pub(crate) area: Rect,
+    pub(crate) copy: Option<Hint>,
     pub(crate) hint: Option<Hint>,
 }
 
@@ -23,12 +24,17 @@ pub struct Notice {
 pub(crate) fn notice_in(screen: &Picture<Colour>, area: Rect) -> Result<Notice, Outside>
     ensures refused { IsErr result ↔ (Holds screen.now area → ⊥) }
     ensures inside { OnOk result (Holds screen.now area) }
-    ensures value { IfOk result (λ notice. notice ≡ record { area = area; hint = None }) }
+    ensures value { IfOk result (λ notice.
+        notice ≡ record { area = area; copy = None; hint = None }) }
 {
     if !screen.holds(area) {
         return Err(Outside);
     }
-    Ok(Notice { area, hint: None })
+    Ok(Notice {
+        area,
+        copy: None,
+        hint: None,
+    })
 }
 
 /// The same where it has `count` values, and each place needs `size` of these.
@@ -42,7 +48,8 @@ pub(crate) fn notice_of(
     ensures refused { IsErr result
         ↔ (Holds screen.now area × (count ≡ area.h * area.w * size) → ⊥) }
     ensures inside { OnOk result (Holds screen.now area × (count ≡ area.h * area.w * size)) }
-    ensures value { IfOk result (λ notice. notice ≡ record { area = area; hint = None }) }
+    ensures value { IfOk result (λ notice.
+        notice ≡ record { area = area; copy = None; hint = None }) }
 {
     if count != usize::from(area.h) * usize::from(area.w) * size {
         return Err(Outside);
@@ -60,7 +67,7 @@ pub(crate) fn notice_in_row(
     ensures refused { IsErr result ↔ (Holds screen.now (row_from x y count) → ⊥) }
     ensures inside { OnOk result (Holds screen.now (row_from x y count)) }
     ensures value { IfOk result (λ notice.
-        notice ≡ record { area = row_from x y count; hint = None }) }
+        notice ≡ record { area = row_from x y count; copy = None; hint = None }) }
 {
     let width = usize::from(screen.width());
     let fits = count <= width && usize::from(x) <= width - count;
@@ -69,6 +76,7 @@ pub(crate) fn notice_in_row(
     }
     Ok(Notice {
         area: Rect::new(x, y, count as u16, 1),
+        copy: None,
         hint: None,
     })
 }
@@ -82,12 +90,20 @@ pub(crate) fn notice_of_copy(
 ) -> Result<Notice, Outside>
     ensures refused { IsErr result ↔ (HoldsBoth screen.now area sx sy → ⊥) }
     ensures inside { OnOk result (HoldsBoth screen.now area sx sy) }
-    ensures value { IfOk result (λ notice. notice ≡ record { area = area; hint = None }) }
+    ensures value { IfOk result (λ notice. notice ≡ record {
+      area = area;
+      copy = Some (record { to = area; sx = sx; sy = sy });
+      hint = None;
+    }) }
 {
     if !holds_both(screen, area, sx, sy) {
         return Err(Outside);
     }
-    Ok(Notice { area, hint: None })
+    Ok(Notice {
+        area,
+        copy: Some(Hint { to: area, sx, sy }),
+        hint: None,
+    })
 }
 
 /// That of a scroll inside a rectangle: what stays of it changes, with the hint for that.
@@ -99,8 +115,11 @@ pub(crate) fn notice_of_scroll(
 ) -> Result<Notice, Outside>
     ensures refused { IsErr result ↔ (Holds screen.now area → ⊥) }
     ensures inside { OnOk result (Holds screen.now area) }
-    ensures value { IfOk result (λ notice. notice
-        ≡ record { area = scrolled_to dx dy area; hint = Some (scroll_hint area dx dy) }) }
+    ensures value { IfOk result (λ notice. notice ≡ record {
+      area = scrolled_to dx dy area;
+      copy = Some (scroll_hint area dx dy);
+      hint = Some (scroll_hint area dx dy);
+    }) }
 {
     if !screen.holds(area) {
         return Err(Outside);
@@ -114,6 +133,7 @@ pub(crate) fn notice_of_scroll(
     };
     Ok(Notice {
         area: to,
+        copy: Some(hint),
         hint: Some(hint),
     })
 }
@@ -127,14 +147,18 @@ pub(crate) fn notice_of_hint(
 ) -> Result<Notice, Outside>
     ensures refused { IsErr result ↔ (HoldsBoth screen.now to sx sy → ⊥) }
     ensures inside { OnOk result (HoldsBoth screen.now to sx sy) }
-    ensures value { IfOk result (λ notice. notice
-        ≡ record { area = rect 0 0 0 0; hint = Some (record { to = to; sx = sx; sy = sy }) }) }
+    ensures value { IfOk result (λ notice. notice ≡ record {
+      area = rect 0 0 0 0;
+      copy = None;
+      hint = Some (record { to = to; sx = sx; sy = sy });
+    }) }
 {
     if !holds_both(screen, to, sx, sy) {
         return Err(Outside);
     }
     Ok(Notice {
         area: Rect::new(0, 0, 0, 0),
+        copy: None,
         hint: Some(Hint { to, sx, sy }),
     })
 }

@@ -11,8 +11,8 @@ impl Server {
     ghost use Rattle.rfb_server.specs.Standing.{StandsFor, screen_of, notes_of, taken_of};
     ghost use Rattle.rfb_server.specs.Record.{ShowsKnown, TellsKnown};
 
-    /// How many bytes `feed` has used in all, as far as 64 bits go. After a fault they are those up to
-    /// the byte with which it came: the first with which the bytes are refused.
+    /// How many bytes `feed` has used in all, as far as 64 bits go. After a fault they are those up
+    /// to the byte with which it came: the first with which the bytes are refused.
     pub fn taken(&self) -> u64
         ensures { result ≡ taken_of self.now }
     {

@@ -34,6 +34,7 @@ impl Session {
             area: places.area,
             marks: places.marks,
             hints: entrance.hints,
+            claim: None,
             block: Block::single(0),
         }
     }

@@ -5,6 +5,7 @@ ghost use Rattle.std.specs.Prelude.{vec_len, None, Ok, IfOk, OnErr};
 ghost use Rattle.std.specs.Bool.{OnTrue, OnFalse};
 ghost use Rattle.std.specs.Int.{div_ceil};
 ghost use Rattle.std.specs.Vec.{vec_capacity};
+ghost use Rattle.rfb_server.specs.Claims.{IsClaimed};
 ghost use Rattle.rfb_server.specs.Following.{Follows};
 ghost use Rattle.rfb_server.specs.inside.Sends.{IsEnough, AreLimits};
 ghost use Rattle.rfb_server.specs.inside.Sessions.{IsSame};
@@ -20,6 +21,7 @@ mod place;
 mod quiet;
 mod room;
 
+use crate::claim::Claim;
 use crate::growth::make_room;
 use crate::rectangle::COPY_SIZE;
 use crate::session::Session;
@@ -121,9 +123,43 @@ impl Session {
         }
     }
 
-    // Appends the update, if there is one. There is room for it.
+    // Appends the update, if there is one. There is room for it. What it claims is of the record,
+    // which is another after an update.
     fn update(&mut self, screen: &Picture<Colour>, room: Room, out: &mut Vec<u8>) -> bool
         requires about { Follows screen.now self.old }
+        requires ready { is_ready self.old.progress ≡ true }
+        requires room { (room : ℕ) × IsEnough self.old (div_ceil self.old.known.width 64)
+            (div_ceil self.old.known.width 64 * div_ceil self.old.known.height 64) room
+            × (vec_len out.old + 4 + 16 * usable_hints self.old + room ≤ vec_capacity out.old) }
+        requires limits { AreLimits self.old room.first room.end }
+        requires marked { AreMarkedFor screen.now self.old (usable_hints self.old) }
+        ensures about { Follows screen.now self.new }
+        ensures composed { OnTrue result
+            (HasComposed screen.now self.old self.new out.old.items out.new.items) }
+        ensures idle { OnFalse result
+            (StaysIdle screen.now self.old self.new out.old.items out.new.items) }
+        ensures room { vec_capacity out.new ≡ vec_capacity out.old }
+    {
+        let claim = self.claim;
+        self.claim = None;
+        if self.update_by(screen, claim, room, out) {
+            return true;
+        }
+        self.claim = claim;
+        false
+    }
+
+    // The same, where it claims nothing, and claimed that.
+    fn update_by(
+        &mut self,
+        screen: &Picture<Colour>,
+        claim: Option<Claim>,
+        room: Room,
+        out: &mut Vec<u8>,
+    ) -> bool
+        requires about { Follows screen.now self.old }
+        requires unclaimed { self.old.claim ≡ None }
+        requires claimed { IsClaimed screen.now self.old.known self.old.format claim }
         requires ready { is_ready self.old.progress ≡ true }
         requires room { (room : ℕ) × IsEnough self.old (div_ceil self.old.known.width 64)
             (div_ceil self.old.known.width 64 * div_ceil self.old.known.height 64) room
@@ -140,8 +176,8 @@ impl Session {
         let start = out.len();
         append_within(out, ServerHead::Update(0).spell().as_slice());
         let mut quiet = NOWHERE;
-        let copies = self.send_copies(screen, out, &mut quiet);
-        let count = copies + self.send_cells(screen, quiet, room, out);
+        let copies = self.send_copies(screen, claim, out, &mut quiet);
+        let count = copies + self.send_cells(screen, &quiet, room, out);
         if count == 0 {
             out.truncate(start);
             return false;

@@ -1,5 +1,5 @@
-//! A session whose memory is refused at the end of its handshake: the same byte, fed again, ends it.
-//! Where each allocation fails in turn, the test passes all the same.
+//! A session whose memory is refused at the end of its handshake: the same byte, fed again, ends
+//! it. Where each allocation fails in turn, the test passes all the same.
 
 use crate::{LateFault, LateSession, ServerEvent, ServerSetup};
 use rfb_hello::Fed;

@@ -19,7 +19,8 @@ returns-clause-cell c =
     let column : index % across < across = mod_below index across some in
     let row : index / across < down = div_below index across down some (omega (arith, c.requires.index)) in
     rw (c.min.ensures, c.min-2.ensures, same)
-    (is_cell c.args.width c.args.height across (index % across) (index / across) index (omega arith) (omega arith) column (omega arith) (div-add-mod' index across))
+    (is_cell c.args.width c.args.height across (index % across) (index / across) index (omega arith) (omega arith)
+    column (omega arith) (div-add-mod' index across))
 
 pub overflow_mul-y : goal.overflow_mul-y
 overflow_mul-y c = grind (arith, common_steps)

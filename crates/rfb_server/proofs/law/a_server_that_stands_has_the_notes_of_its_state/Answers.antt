@@ -6,4 +6,5 @@ pub returns-clause-screen : goal.returns-clause-screen
 returns-clause-screen c = λ serving server s prefix stands. sym stands.screen_is
 
 pub returns-clause-notes : goal.returns-clause-notes
-returns-clause-notes c = λ serving server s prefix stands. session_noted serving server.screen server.session s prefix stands
+returns-clause-notes c =
+    λ serving server s prefix stands. session_noted serving server.screen server.session s prefix stands

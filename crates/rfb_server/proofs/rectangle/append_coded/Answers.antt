@@ -8,9 +8,11 @@ use Rattle.rfb_server.proofs.rectangle.append_coded.Goals as goal
 
 pub returns-then-encode-clause-sent : goal.returns-then-encode-clause-sent
 returns-then-encode-clause-sent g c =
-    coded_in g.C.Codec.stands c.args.format.now c.args.rect c.args.encoding c.args.block.now c.args.out.now.items c.append_within.new.out.items c.encode.new.out.items c.spell.result.items
+    coded_in g.C.Codec.stands c.args.format.now c.args.rect c.args.encoding c.args.block.now c.args.out.now.items
+    c.append_within.new.out.items c.encode.new.out.items c.spell.result.items
     (λ width height bytes stands.
-    subst (λ (k : Encoding). SpellsData c.args.format.now width height c.args.rect k (Pixels c.args.block.now) bytes) c.requires.encoding
+    subst (λ (k : Encoding). SpellsData c.args.format.now width height c.args.rect k (Pixels c.args.block.now) bytes)
+    c.requires.encoding
     (g.met.C.Codec.read_back c.args.format.now width height c.args.rect c.args.block.now bytes c.requires.sized stands))
     (λ bytes stands.
     subst (λ (k : Encoding). StandsIn k c.args.format.now c.args.block.now bytes) c.requires.encoding

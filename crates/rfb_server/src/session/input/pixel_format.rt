@@ -19,6 +19,7 @@ impl Session {
         };
         self.format = format;
         self.known.forget();
+        self.claim = None;
         self.marks.add(all);
     }
 }

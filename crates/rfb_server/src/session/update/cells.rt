@@ -14,23 +14,25 @@ ghost use Rattle.rfb_server.specs.inside.Sends.{IsCostIn, IsEnough, AreLimits};
 use crate::cells::cell_at;
 use crate::rectangle::append_rect;
 use crate::session::Session;
+use crate::session::update::quiet::Quiet;
 use crate::session::update::room::Room;
 use rfb_picture::{Picture, Rect};
 use rfb_pixel::Colour;
 
 impl Session {
     /// Sends what of each cell needs sending, and tells how many rectangles that makes. There is
-    /// room for it. Of `quiet` no place does, and so no cell inside it is looked at. `room` tells
-    /// which cells may have such places.
+    /// room for it. No place of `quiet` does, and so cells inside it are not looked at. `room`
+    /// tells which cells may have such places.
     pub(super) fn send_cells(
         &mut self,
         screen: &Picture<Colour>,
-        quiet: Rect,
+        quiet: &Quiet,
         room: Room,
         out: &mut Vec<u8>,
     ) -> u16
         requires about { Follows screen.now self.old }
-        requires quiet { IsQuiet screen.now self.old quiet }
+        requires unclaimed { self.old.claim ≡ None }
+        requires quiet { IsQuiet screen.now self.old quiet.now }
         requires limits { AreLimits self.old room.first room.end }
         requires room { (room : ℕ) × IsEnough self.old (div_ceil self.old.known.width 64)
             (div_ceil self.old.known.width 64 * div_ceil self.old.known.height 64) room
@@ -59,11 +61,12 @@ impl Session {
         &mut self,
         screen: &Picture<Colour>,
         cell: Rect,
-        quiet: Rect,
+        quiet: &Quiet,
         out: &mut Vec<u8>,
     ) -> bool
         requires about { Follows screen.now self.old }
-        requires quiet { IsQuiet screen.now self.old quiet }
+        requires unclaimed { self.old.claim ≡ None }
+        requires quiet { IsQuiet screen.now self.old quiet.now }
         requires held { Holds self.old.known cell }
         requires sides { (cell.w ≤ 64) × (cell.h ≤ 64) }
         requires room { (cost : ℕ) × IsCostIn self.old cell cost
@@ -72,7 +75,7 @@ impl Session {
         ensures about { Follows screen.now self.new }
         ensures sent { SendsCell result screen.now cell self.old self.new
             out.old.items out.new.items }
-        ensures quiet { IsQuiet screen.now self.new quiet }
+        ensures quiet { IsQuiet screen.now self.new quiet.now }
         ensures len { (cost : ℕ) → IsCostIn self.old cell cost
             → vec_len out.new ≤ vec_len out.old + cost }
         ensures room { vec_capacity out.new ≡ vec_capacity out.old }
@@ -87,6 +90,7 @@ impl Session {
     // Sends the pixels of the rectangle, and records them.
     fn send(&mut self, screen: &Picture<Colour>, rect: Rect, out: &mut Vec<u8>)
         requires about { Follows screen.now self.old }
+        requires unclaimed { self.old.claim ≡ None }
         requires held { Holds self.old.known rect }
         requires columns { (1 ≤ rect.w) × (rect.w ≤ 64) }
         requires rows { (1 ≤ rect.h) × (rect.h ≤ 64) }

@@ -1,6 +1,7 @@
 //! Rectangles that the viewer is sent as copies, by the hints of the screen's owner.
 
-ghost use Rattle.std.specs.Prelude.{◌≡◌, ◌+◌, ◌*◌, ◌≤◌, slice_get, Some, vec_len};
+ghost use Rattle.std.specs.Prelude.{◌≡◌, ◌+◌, ◌*◌, ◌≤◌, slice_get, Some, None, vec_len};
+ghost use Rattle.rfb_server.specs.Claims.{IsClaimed};
 ghost use Rattle.std.specs.Vec.{vec_capacity};
 ghost use Rattle.rfb_server.specs.inside.Needs.{IsQuiet};
 ghost use Rattle.rfb_server.specs.Following.{Follows};
@@ -10,11 +11,12 @@ ghost use Rattle.rfb_server.specs.inside.Copies.{SendsHint, AppendsCopies, usabl
 ghost use Rattle.rfb_server.specs.inside.Copies.{KeepsMarks, IsMarkedFor, AreMarkedFor};
 ghost use Rattle.rfb_server.specs.declared.hint.Hint.{Hint};
 
+use crate::claim::{Claim, led_on};
 use crate::hint::Hint;
 use crate::rectangle::append_copy;
 use crate::session::Session;
-use crate::session::update::quiet::quiet_after;
-use rfb_picture::{Picture, Rect};
+use crate::session::update::quiet::Quiet;
+use rfb_picture::Picture;
 use rfb_pixel::Colour;
 use rfb_wire::Encoding;
 
@@ -63,15 +65,18 @@ impl Session {
     }
 
     /// Tells the viewer to copy by each hint that is of use, the oldest first, and tells how many
-    /// rectangles that makes. There is room for them. `quiet` becomes the last one's rectangle,
-    /// where no place of it is left to be sent, else an empty one.
+    /// rectangles that makes. There is room for them. `claim` is what it claimed of the screen.
+    /// `quiet` becomes places that need no sending, as the last copies leave them.
     pub(crate) fn send_copies(
         &mut self,
         screen: &Picture<Colour>,
+        claim: Option<Claim>,
         out: &mut Vec<u8>,
-        quiet: &mut Rect,
+        quiet: &mut Quiet,
     ) -> u16
         requires about { Follows screen.now self.old }
+        requires unclaimed { self.old.claim ≡ None }
+        requires claimed { IsClaimed screen.now self.old.known self.old.format claim }
         requires quiet { IsQuiet screen.now self.old quiet.old }
         requires room { vec_len out.old + 16 * usable_hints self.old ≤ vec_capacity out.old }
         requires marked { AreMarkedFor screen.now self.old (usable_hints self.old) }
@@ -84,13 +89,18 @@ impl Session {
         ensures len { vec_len out.new ≤ vec_len out.old + 16 * usable_hints self.old }
         ensures room { vec_capacity out.new ≡ vec_capacity out.old }
     {
+        let mut claim = claim;
         let mut count = 0;
         for index in 0..self.usable_hints() {
             let Some(hint) = self.hints.get(index) else {
                 unreachable!()
             };
             let hint = *hint;
-            let sent = self.send_copy(screen, hint, out, quiet);
+            let sent = self.send_copy(screen, hint, claim, out, quiet);
+            if sent {
+                // It spoke of the record, which is another now.
+                claim = led_on(claim, hint);
+            }
             count += u16::from(sent);
         }
         count
@@ -101,10 +111,13 @@ impl Session {
         &mut self,
         screen: &Picture<Colour>,
         hint: Hint,
+        claim: Option<Claim>,
         out: &mut Vec<u8>,
-        quiet: &mut Rect,
+        quiet: &mut Quiet,
     ) -> bool
         requires about { Follows screen.now self.old }
+        requires unclaimed { self.old.claim ≡ None }
+        requires claimed { IsClaimed screen.now self.old.known self.old.format claim }
         requires quiet { IsQuiet screen.now self.old quiet.old }
         requires room { vec_len out.old + 16 ≤ vec_capacity out.old }
         ensures kept { IsKept self.old self.new }
@@ -115,12 +128,14 @@ impl Session {
         ensures len { vec_len out.new ≤ vec_len out.old + 16 }
         ensures room { vec_capacity out.new ≡ vec_capacity out.old }
     {
-        let Some(all) = self.gains(screen, hint) else {
-            return false;
-        };
-        append_copy(hint.to, hint.sx, hint.sy, out);
-        self.known.copy(hint.to, hint.sx, hint.sy);
-        *quiet = quiet_after(hint.to, all);
-        true
+        let judged = self.judge(screen, hint, claim);
+        if judged.gain {
+            append_copy(hint.to, hint.sx, hint.sy, out);
+            self.known.copy(hint.to, hint.sx, hint.sy);
+            *quiet = judged.right;
+        } else if judged.right.area.h > 0 {
+            *quiet = judged.right;
+        }
+        judged.gain
     }
 }

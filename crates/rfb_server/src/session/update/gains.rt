@@ -1,33 +1,49 @@
 //! What the viewer gains if it copies a rectangle.
 
-ghost use Rattle.std.specs.Prelude.{◌≡◌, ◌+◌, ◌*◌, ◌≤◌, ◌<◌, IfSome, IfNone};
+ghost use Rattle.std.specs.Prelude.{◌≡◌, ◌+◌, ◌*◌, ◌≤◌, ◌<◌};
 ghost use Rattle.std.specs.Bool.{OnTrue, OnFalse};
 ghost use Rattle.rfb_picture.specs.Grid.{Holds};
+ghost use Rattle.rfb_server.specs.Claims.{IsClaimed};
 ghost use Rattle.rfb_server.specs.Following.{Follows};
 ghost use Rattle.rfb_server.specs.inside.Copies.{IsFree, IsUseful};
-ghost use Rattle.rfb_server.specs.Composing.{count_row, count_rows, count_in};
-ghost use Rattle.rfb_server.specs.inside.Gains.{MayCopy, HasMoreRight, line};
+ghost use Rattle.rfb_server.specs.Composing.{count_rows, count_in};
+ghost use Rattle.rfb_server.specs.inside.Gains.{MayCopy, HasMoreRight, IsJudged, line};
 ghost use Rattle.rfb_server.specs.inside.Gains.{right_before, right_after};
 
+mod claimed;
 mod rows;
 
+use crate::claim::{Claim, Stale};
 use crate::hint::Hint;
 use crate::session::Session;
+use crate::session::update::quiet::{NOWHERE, Quiet};
 use rfb_picture::{Picture, Rect};
 use rfb_pixel::Colour;
+
+/// Whether the viewer is to copy, and places that have the wanted pixel then.
+#[derive(Clone, Copy, Drop)]
+pub(super) struct Judged {
+    pub gain: bool,
+    /// After the copy if it is a gain, else as they are.
+    pub right: Quiet,
+}
+
+// It is not to, and of no place it is known.
+const USELESS: Judged = Judged {
+    gain: false,
+    right: NOWHERE,
+};
 
 impl Session {
     /// Whether the viewer is to copy: all of the rectangle is asked and none of it whole, all of
     /// the source is known, and more of its places have the wanted pixel after the copy than
-    /// before. Then it tells whether all of them have it after the copy.
-    pub(crate) fn gains(&self, screen: &Picture<Colour>, hint: Hint) -> Option<bool>
-        requires { Follows screen.now self.now }
-        ensures useful { IfSome result (λ all. IsUseful screen.now self.now hint) }
-        ensures right { IfSome result (λ all. OnTrue all
-            (count_in (right_after screen.now self.now hint) hint.to ≡ hint.to.h * hint.to.w)) }
-        ensures wrong { IfSome result (λ all. OnFalse all
-            (count_in (right_after screen.now self.now hint) hint.to < hint.to.h * hint.to.w)) }
-        ensures useless { IfNone result (IsUseful screen.now self.now hint → ⊥) }
+    /// before.
+    pub(super) fn judge(&self, screen: &Picture<Colour>, hint: Hint, claim: Option<Claim>) -> Judged
+        requires about { Follows screen.now self.now }
+        requires claimed { IsClaimed screen.now self.now.known self.now.format claim }
+        ensures useful { OnTrue result.gain (IsUseful screen.now self.now hint) }
+        ensures useless { OnFalse result.gain (IsUseful screen.now self.now hint → ⊥) }
+        ensures right { IsJudged screen.now self.now hint result }
     {
         let to = hint.to;
         let from = Rect {
@@ -36,16 +52,36 @@ impl Session {
             ..to
         };
         if !screen.holds(to) || !screen.holds(from) {
-            return None;
+            return USELESS;
         }
         if !self.is_free(to) || !self.known.knows(from) {
-            return None;
+            return USELESS;
         }
+        match claim {
+            Some(claim) if claim.is_of(hint) => self.judge_claimed(screen, hint, &claim),
+            _ => self.judge_all(screen, hint),
+        }
+    }
+
+    // The same of a copy of which nothing is claimed.
+    fn judge_all(&self, screen: &Picture<Colour>, hint: Hint) -> Judged
+        requires about { Follows screen.now self.now }
+        requires copy { MayCopy self.now.known hint }
+        requires free { IsFree self.now hint.to }
+        ensures more { OnTrue result.gain (HasMoreRight screen.now self.now hint) }
+        ensures no_more { OnFalse result.gain (HasMoreRight screen.now self.now hint → ⊥) }
+        ensures right { IsJudged screen.now self.now hint result }
+    {
         let top = self.rows_right(screen, hint);
         if !self.has_more_right(screen, hint, top) {
-            return None;
+            return USELESS;
         }
-        Some(top == to.h)
+        let area = Rect { h: top, ..hint.to };
+        let right = Quiet {
+            area,
+            stale: Stale::NONE,
+        };
+        Judged { gain: true, right }
     }
 
     // Whether each place of the rectangle is asked and not whole, and is marked.
@@ -152,8 +188,8 @@ impl Session {
     }
 }
 
-// The copy of one row of a hint's rectangle.
-fn row_of(hint: Hint, row: u16) -> Hint
+/// The copy of one row of a hint's rectangle.
+pub(super) fn row_of(hint: Hint, row: u16) -> Hint
     requires row { row < hint.to.h }
     requires last { (hint.to.y + hint.to.h ≤ 4096) × (hint.sy + hint.to.h ≤ 4096) }
     ensures { result ≡ line hint row }

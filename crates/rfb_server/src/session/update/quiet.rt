@@ -1,63 +1,81 @@
-//! A rectangle of which no place needs sending, since a copy has left all of it right.
+//! Places that need no sending, since a copy has left them right.
 
-ghost use Rattle.std.specs.Prelude.{◌≡◌, ℕ, true};
-ghost use Rattle.std.specs.Bool.{OnTrue, OnFalse};
+ghost use Rattle.std.specs.Prelude.{◌≡◌, ◌≤◌, ◌+◌, ◌⊎◌, ℕ, true};
 ghost use Rattle.rfb_picture.specs.Grid.{Holds};
 ghost use Rattle.rfb_picture.specs.Rect.{contains};
-ghost use Rattle.rfb_server.specs.inside.Needs.{HasBox, IsQuiet, needs_of};
+ghost use Rattle.rfb_server.specs.inside.Needs.{HasBox, IsQuiet, is_quiet, IsPartOf, needs_of};
 ghost use Rattle.rfb_server.specs.Following.{Follows};
 
+use crate::claim::Stale;
 use crate::session::Session;
 use rfb_picture::{Picture, Rect};
 use rfb_pixel::Colour;
 
-/// A rectangle without a place.
-pub(crate) const NOWHERE: Rect = Rect {
-    x: 0,
-    y: 0,
-    w: 0,
-    h: 0,
+/// The places of a rectangle of the screen whose rows are not stale.
+#[derive(Clone, Copy, Drop)]
+pub(crate) struct Quiet {
+    pub area: Rect,
+    pub stale: Stale,
+}
+
+/// No place.
+pub(crate) const NOWHERE: Quiet = Quiet {
+    area: Rect {
+        x: 0,
+        y: 0,
+        w: 0,
+        h: 0,
+    },
+    stale: Stale::NONE,
 };
 
 impl Session {
-    /// The least rectangle that holds the places of the cell that need sending. Of `quiet` none
-    /// does, so a cell inside it is not looked at.
+    /// The least rectangle that holds the places of the cell that need sending. Those of `quiet` do
+    /// not, so rows of them at the cell's edges are not looked at.
     pub(super) fn needed_outside(
         &self,
         screen: &Picture<Colour>,
         cell: Rect,
-        quiet: Rect,
+        quiet: &Quiet,
     ) -> Option<Rect>
         requires about { Follows screen.now self.now }
-        requires quiet { IsQuiet screen.now self.now quiet }
+        requires quiet { IsQuiet screen.now self.now quiet.now }
         requires held { Holds self.now.known cell }
         ensures { HasBox (needs_of screen.now self.now) cell result }
     {
-        if lies_in(cell, quiet) {
+        let zone = outside(cell, quiet);
+        if zone.h == 0 {
             return None;
         }
-        self.needed_in(screen, cell)
+        self.needed_in(screen, zone)
     }
 }
 
-// Whether all of a rectangle of the screen lies in another.
-fn lies_in(rect: Rect, outer: Rect) -> bool
-    ensures { OnTrue result ((x y : ℕ) → contains rect x y ≡ true → contains outer x y ≡ true) }
+// The rows of the cell from the first to the last one that has other places.
+fn outside(cell: Rect, quiet: &Quiet) -> Rect
+    requires cell { (cell.x + cell.w ≤ 4096) × (cell.y + cell.h ≤ 4096) }
+    ensures part { IsPartOf cell result }
+    ensures others { (x y : ℕ) → contains cell x y ≡ true
+        → (contains result x y ≡ true) ⊎ (is_quiet quiet.now x y ≡ true) }
 {
-    // In 32 bits, since an edge may pass 65,535.
-    rect.x >= outer.x
-        && rect.y >= outer.y
-        && u32::from(rect.x) + u32::from(rect.w) <= u32::from(outer.x) + u32::from(outer.w)
-        && u32::from(rect.y) + u32::from(rect.h) <= u32::from(outer.y) + u32::from(outer.h)
-}
-
-/// The rectangle of a copy that leaves all of it right, if `all` says so; else one without a place.
-pub(super) fn quiet_after(to: Rect, all: bool) -> Rect
-    ensures right { OnTrue all (result ≡ to) }
-    ensures wrong { OnFalse all (result ≡ NOWHERE) }
-{
-    if all {
-        return to;
+    let area = quiet.area;
+    let end = cell.y + cell.h;
+    let is_beside = cell.x < area.x || cell.x + cell.w - area.x > area.w;
+    if is_beside || area.y >= end {
+        return cell;
     }
-    NOWHERE
+    let inner = area.h.min(end - area.y) + area.y;
+    let mut first = cell.y;
+    if area.y <= first && first < inner {
+        first = quiet.stale.first_from(first, inner);
+    }
+    let mut last = end;
+    if inner == end {
+        last = quiet.stale.end_from(first.max(area.y), end);
+    }
+    Rect {
+        y: first,
+        h: last - first,
+        ..cell
+    }
 }

@@ -30,13 +30,16 @@ pub returns-clause-value : goal.returns-clause-value
 returns-clause-value c =
     let source = rw (← c.self.view_is, width-record_of, height-record_of) at c.requires.source in
     rw (c.copy.ensures.value, c.learn.ensures.value, ← c.self.view_is)
-    (record_copied c.self.inside.pixels c.self.inside.known.asked c.args.to c.args.sx c.args.sy c.self.invariant.whole c.self.invariant.area.asks
+    (record_copied c.self.inside.pixels c.self.inside.known.asked c.args.to c.args.sx c.args.sy
+    c.self.invariant.whole c.self.invariant.area.asks
     c.self.invariant.wide c.self.invariant.high source (rw (← c.self.view_is) at c.requires.known))
 
 pub returns-clause-width : goal.returns-clause-width
 returns-clause-width c =
-    width-record_of _ _ ∙ (c.copy.ensures.width ∙ (sym (width-record_of c.self.inside.pixels c.self.inside.known.asked) ∙ ap (λ g. g.width) c.self.view_is))
+    width-record_of _ _ ∙ (c.copy.ensures.width
+    ∙ (sym (width-record_of c.self.inside.pixels c.self.inside.known.asked) ∙ ap (λ g. g.width) c.self.view_is))
 
 pub returns-clause-height : goal.returns-clause-height
 returns-clause-height c =
-    height-record_of _ _ ∙ (c.copy.ensures.height ∙ (sym (height-record_of c.self.inside.pixels c.self.inside.known.asked) ∙ ap (λ g. g.height) c.self.view_is))
+    height-record_of _ _ ∙ (c.copy.ensures.height
+    ∙ (sym (height-record_of c.self.inside.pixels c.self.inside.known.asked) ∙ ap (λ g. g.height) c.self.view_is))

@@ -21,8 +21,10 @@ returns-clause-value c =
 
 pub returns-clause-width : goal.returns-clause-width
 returns-clause-width c =
-    width-record_of _ _ ∙ (sym (width-record_of c.self.inside.pixels c.self.inside.known.asked) ∙ ap (λ g. g.width) c.self.view_is)
+    width-record_of _ _ ∙ (sym (width-record_of c.self.inside.pixels c.self.inside.known.asked)
+    ∙ ap (λ g. g.width) c.self.view_is)
 
 pub returns-clause-height : goal.returns-clause-height
 returns-clause-height c =
-    height-record_of _ _ ∙ (sym (height-record_of c.self.inside.pixels c.self.inside.known.asked) ∙ ap (λ g. g.height) c.self.view_is)
+    height-record_of _ _ ∙ (sym (height-record_of c.self.inside.pixels c.self.inside.known.asked)
+    ∙ ap (λ g. g.height) c.self.view_is)

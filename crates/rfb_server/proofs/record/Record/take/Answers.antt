@@ -33,16 +33,19 @@ invariant_of-self c =
 
 pub returns-clause-width : goal.returns-clause-width
 returns-clause-width c =
-    width-record_of _ _ ∙ (c.put_block.ensures.width ∙ (sym (width-record_of c.self.inside.pixels c.self.inside.known.asked) ∙ ap (λ g. g.width) c.self.view_is))
+    width-record_of _ _ ∙ (c.put_block.ensures.width
+    ∙ (sym (width-record_of c.self.inside.pixels c.self.inside.known.asked) ∙ ap (λ g. g.width) c.self.view_is))
 
 pub returns-clause-height : goal.returns-clause-height
 returns-clause-height c =
-    height-record_of _ _ ∙ (c.put_block.ensures.height ∙ (sym (height-record_of c.self.inside.pixels c.self.inside.known.asked) ∙ ap (λ g. g.height) c.self.view_is))
+    height-record_of _ _ ∙ (c.put_block.ensures.height
+    ∙ (sym (height-record_of c.self.inside.pixels c.self.inside.known.asked) ∙ ap (λ g. g.height) c.self.view_is))
 
 pub returns-clause-recorded : goal.returns-clause-recorded
 returns-clause-recorded c =
     rw (c.learn.ensures.value, ← c.self.view_is)
-    (recorded_of c.self.inside.pixels c.put_block.new.pixels c.pack.new.self c.self.inside.known.asked c.args.rect c.self.invariant.area.asks c.self.invariant.wide c.self.invariant.high
+    (recorded_of c.self.inside.pixels c.put_block.new.pixels c.pack.new.self c.self.inside.known.asked c.args.rect
+    c.self.invariant.area.asks c.self.invariant.wide c.self.invariant.high
     c.put_block.ensures.width c.put_block.ensures.height c.put_block.ensures.each)
 
 pub returns-clause-whole : goal.returns-clause-whole

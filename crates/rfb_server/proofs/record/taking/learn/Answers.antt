@@ -8,4 +8,5 @@ use Rattle.rfb_server.proofs.record.taking.learn.Goals as goal
 pub returns-else-not-has_all-clause-value : goal.returns-else-not-has_all-clause-value
 returns-else-not-has_all-clause-value c =
     added_already c.args.known.now c.args.rect c.width.ensures.sound
-    (subst (λ (g : Grid Bool). AllMarked (is_in g) c.args.rect) c.asked.ensures (c.has_all.ensures.0 c.if-not-has_all.false))
+    (subst (λ (g : Grid Bool). AllMarked (is_in g) c.args.rect) c.asked.ensures
+    (c.has_all.ensures.0 c.if-not-has_all.false))

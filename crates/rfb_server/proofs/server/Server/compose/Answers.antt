@@ -6,7 +6,11 @@ use Rattle.rfb_server.proofs.server.Server.compose.Goals as goal
 
 pub returns-clause-composed : goal.returns-clause-composed
 returns-clause-composed c =
-    IfOk-weaker c.compose.result _ _ (λ did h e. record { screen_is = refl; fault_is = (h e).fault_is; sent = (h e).sent }) c.compose.ensures.composed
+    IfOk-weaker c.compose.result _ _ (λ did h e. record {
+      screen_is = refl;
+      fault_is = (h e).fault_is;
+      sent = (h e).sent;
+    }) c.compose.ensures.composed
 
 pub returns-clause-idle : goal.returns-clause-idle
 returns-clause-idle c =
@@ -20,4 +24,5 @@ returns-clause-idle c =
 
 pub returns-clause-same : goal.returns-clause-same
 returns-clause-same c =
-    IfErr-weaker c.compose.result (λ _. KeepsSession c.args.self.now.session c.compose.new.self) _ (λ _ kept. draws c.args.self.now.screen c.args.self.now _ refl kept refl) c.compose.ensures.same
+    IfErr-weaker c.compose.result (λ _. KeepsSession c.args.self.now.session c.compose.new.self) _
+    (λ _ kept. draws c.args.self.now.screen c.args.self.now _ refl kept refl) c.compose.ensures.same

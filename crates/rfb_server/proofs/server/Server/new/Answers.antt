@@ -7,7 +7,8 @@ pub invariant_of-result : goal.invariant_of-result
 invariant_of-result c =
     record {
       follows = rw (c.in_ok-screen.ensures.value)
-          (c.in_ok-session.ensures.follows (uniform c.args.width c.args.height black) (whole-uniform _ _ _) (width-uniform _ _ _) (height-uniform _ _ _));
+          (c.in_ok-session.ensures.follows (uniform c.args.width c.args.height black) (whole-uniform _ _ _)
+          (width-uniform _ _ _) (height-uniform _ _ _));
     }
 
 pub returns-clause-stands : goal.returns-clause-stands

@@ -13,9 +13,11 @@ returns-clause-value c =
     let to = part.to in
     let pixels = c.pixels.result.now in
     let wanted = c.args.wanted.now in
-    let long_source : length (row_of pixels part.sx part.sy to.w) ≡ to.w = sym (ap length c.row-source.ensures.value) ∙ c.row-source.ensures.len in
+    let long_source : length (row_of pixels part.sx part.sy to.w) ≡ to.w =
+    sym (ap length c.row-source.ensures.value) ∙ c.row-source.ensures.len in
     c.count_equal.ensures.value ∙ ap (equal_places wanted) c.row-source.ensures.value
-    ∙ equal_row wanted (row_of pixels part.sx part.sy to.w) (right_after screen s part) to.x to.y to.w c.requires.len long_source
+    ∙ equal_row wanted (row_of pixels part.sx part.sy to.w) (right_after screen s part) to.x to.y
+    to.w c.requires.len long_source
     (after_right screen s part pixels wanted c.requires.about c.requires.copy c.requires.single
     c.pixels.ensures.value c.pixels.ensures.columns c.pixels.ensures.rows c.requires.wanted)
 
@@ -27,9 +29,12 @@ returns-then-is_none-clause-value c =
     let to = part.to in
     let pixels = c.pixels.result.now in
     let wanted = c.args.wanted.now in
-    let long_source : length (row_of pixels part.sx part.sy to.w) ≡ to.w = sym (ap length c.row-source.ensures.value) ∙ c.row-source.ensures.len in
+    let long_source : length (row_of pixels part.sx part.sy to.w) ≡ to.w =
+    sym (ap length c.row-source.ensures.value) ∙ c.row-source.ensures.len in
     let same = c.first_diff.ensures.same.0 c.if-is_none.ensures in
-    c.from.ensures ∙ sym c.requires.len ∙ sym (all_equal wanted (row_of pixels part.sx part.sy to.w) (same ∙ c.row-source.ensures.value))
-    ∙ equal_row wanted (row_of pixels part.sx part.sy to.w) (right_after screen s part) to.x to.y to.w c.requires.len long_source
+    c.from.ensures ∙ sym c.requires.len
+    ∙ sym (all_equal wanted (row_of pixels part.sx part.sy to.w) (same ∙ c.row-source.ensures.value))
+    ∙ equal_row wanted (row_of pixels part.sx part.sy to.w) (right_after screen s part) to.x to.y
+    to.w c.requires.len long_source
     (after_right screen s part pixels wanted c.requires.about c.requires.copy c.requires.single
     c.pixels.ensures.value c.pixels.ensures.columns c.pixels.ensures.rows c.requires.wanted)

@@ -5,7 +5,11 @@ use Rattle.rfb_server.proofs.session.Session.ask.Goals as goal
 pub invariant_of-self : goal.invariant_of-self
 invariant_of-self c =
     let s = c.args.self.now in
-    record { alike = rw (c.add.ensures.value) (alike_asked _ s.area _ c.args.rect false s.alike); partial = s.partial; sixteen = s.sixteen }
+    record {
+      alike = rw (c.add.ensures.value) (alike_asked _ s.area _ c.args.rect false s.alike);
+      partial = s.partial;
+      sixteen = s.sixteen;
+    }
 
 pub returns : goal.returns
 returns c =
@@ -19,5 +23,6 @@ returns c =
       known = refl;
       hints = refl;
       area = c.add.ensures.value;
+      claim = refl;
       caught_up = λ screen size caught. rw (c.add.ensures.value) (caught_asked screen _ s.area _ _ c.args.rect caught);
     }

@@ -7,7 +7,8 @@ pub invariant_of-self : goal.invariant_of-self
 invariant_of-self c =
     let s = c.args.self.now in
     record {
-      alike = alike_marked _ _ s.marks _ c.args.rect (rw (c.add.ensures.value) (alike_asked _ s.area _ c.args.rect true s.alike)) c.add-2.ensures.value;
+      alike = alike_marked _ _ s.marks _ c.args.rect
+          (rw (c.add.ensures.value) (alike_asked _ s.area _ c.args.rect true s.alike)) c.add-2.ensures.value;
       partial = s.partial;
       sixteen = s.sixteen;
     }
@@ -24,5 +25,7 @@ returns c =
       known = refl;
       hints = refl;
       area = c.add.ensures.value;
-      caught_up = λ screen size caught. rw (c.add.ensures.value, c.add-2.ensures.value) (caught_whole screen _ s.area _ s.marks c.args.rect s.alike caught);
+      claim = refl;
+      caught_up = λ screen size caught. rw (c.add.ensures.value, c.add-2.ensures.value)
+          (caught_whole screen _ s.area _ s.marks c.args.rect s.alike caught);
     }

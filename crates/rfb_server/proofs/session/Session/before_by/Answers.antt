@@ -21,7 +21,8 @@ returns-clause-value c =
     let wanted = c.args.wanted.now in
     let known = c.row_bits_between.result in
     let other = c.differing.result in
-    let bits = subst (λ (g : Grid Bool). HasBitsBetween (is_in g) to.y to.x (to.x + to.w) known) c.asked-known.ensures c.row_bits_between.ensures in
+    let bits = subst (λ (g : Grid Bool). HasBitsBetween (is_in g) to.y to.x (to.x + to.w) known) c.asked-known.ensures
+    c.row_bits_between.ensures in
     let differ = subst (λ (row : List ℕ). TellsDifferences wanted row other) c.row.ensures.value c.differing.ensures in
     let told = before_bits screen s part pixels wanted c.requires.about c.requires.copy c.requires.single
     c.pixels-pixels.ensures.value c.pixels-pixels.ensures.columns c.pixels-pixels.ensures.rows c.requires.wanted
@@ -29,7 +30,8 @@ returns-clause-value c =
     let word = bit_and known (bit_not w64 (other * 2 ^ (to.x % 64) % 2 ^ 64)) in
     let small : word < 2 ^ 64 = omega (arith, and_le_l known (bit_not w64 (other * 2 ^ (to.x % 64) % 2 ^ 64))) in
     let width : to.x + to.w - to.x ≡ to.w = omega arith in
-    ones_between (right_before screen s part) to.y to.x (to.x + to.w) word small (omega arith) c.requires.cell told ∙ ap (count_row (right_before screen s part) to.x to.y) width
+    ones_between (right_before screen s part) to.y to.x (to.x + to.w) word small (omega arith) c.requires.cell told
+    ∙ ap (count_row (right_before screen s part) to.x to.y) width
 
 pub returns-clause-few : goal.returns-clause-few
 returns-clause-few c =

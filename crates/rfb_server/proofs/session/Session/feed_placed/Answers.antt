@@ -45,8 +45,10 @@ returns c =
       follows = λ screen follows. follows_up session new screen c.take_items.ensures.up follows;
       columns = c.take_items.ensures.up.columns;
       rows = c.take_items.ensures.up.rows;
-      fault = err_map _ _ c.take_items.result (λ flaw h other. ends_refuse session new c.args.bytes.now flaw.fault h other) c.take_items.ensures.ends;
-      memory = err_map _ _ c.take_items.result (λ flaw h memory. ends_starve session new c.args.bytes.now flaw.fault h memory) c.take_items.ensures.ends;
+      fault = err_map _ _ c.take_items.result
+          (λ flaw h other. ends_refuse session new c.args.bytes.now flaw.fault h other) c.take_items.ensures.ends;
+      memory = err_map _ _ c.take_items.result
+          (λ flaw h memory. ends_starve session new c.args.bytes.now flaw.fault h memory) c.take_items.ensures.ends;
       kept = c.take_items.ensures.ends;
       fails = c.take_items.ensures.fails;
       failed = λ f h. absurd cc;

@@ -7,8 +7,10 @@ use Rattle.rfb_server.proofs.session.Session.first_needed.Goals as goal
 
 pub returns-then-due-ne0 : goal.returns-then-due-ne0
 returns-then-due-ne0 c =
-    let (a, b, here, none) = first_between (needs_of c.args.screen.now c.args.self.now) c.args.y c.loop-at.at c.min-end.result c.needed_between-due.result
-    c.needed_between-due.ensures (omega (arith, c.min-end.ensures)) (omega (arith, c.if-due-ne0.true)) c.needed_between-due.type_inv in
+    let (a, b, here, none) = first_between (needs_of c.args.screen.now c.args.self.now) c.args.y c.loop-at.at
+    c.min-end.result c.needed_between-due.result
+    c.needed_between-due.ensures (omega (arith, c.min-end.ensures)) (omega (arith, c.if-due-ne0.true))
+    c.needed_between-due.type_inv in
     record {
       order = (omega (arith, c.loop-at.invariant.order), omega (arith, c.min-end.ensures));
       none = λ x p q. elim (cases_lt x c.loop-at.at) [
@@ -21,7 +23,8 @@ returns-then-due-ne0 c =
 pub loop-at-preserved : goal.loop-at-preserved
 loop-at-preserved c =
     let none = none_between (needs_of c.args.screen.now c.args.self.now) c.args.y c.loop-at.at c.min-end.result
-    (subst (λ (word : ℕ). HasBitsBetween (needs_of c.args.screen.now c.args.self.now) c.args.y c.loop-at.at c.min-end.result word) (omega (arith, c.if-due-ne0.false)) c.needed_between-due.ensures)
+    (subst (λ (word : ℕ). HasBitsBetween (needs_of c.args.screen.now c.args.self.now) c.args.y c.loop-at.at
+    c.min-end.result word) (omega (arith, c.if-due-ne0.false)) c.needed_between-due.ensures)
     (omega (arith, c.min-end.ensures)) in
     record {
       order = (omega (arith, c.loop-at.invariant.order, c.min-end.ensures), omega (arith, c.min-end.ensures));

@@ -31,10 +31,12 @@ returns-in-Ok-clause-fed c = λ serving screen.
       area = refl;
       marks = refl;
       hints = refl;
+      claim = refl;
     })
     (c.in-Ok.ensures.fed serving.hello))
 
 pub returns-in-Err-clause-ends : goal.returns-in-Err-clause-ends
 returns-in-Err-clause-ends c =
     rw (c.of_hello-fault.ensures)
-    (greets_end c.args.self.now c.args.bytes.now c.in-Err.fault c.requires.handshake (λ serving. c.in-Err.ensures.fault serving.hello))
+    (greets_end c.args.self.now c.args.bytes.now c.in-Err.fault c.requires.handshake
+    (λ serving. c.in-Err.ensures.fault serving.hello))

@@ -5,4 +5,5 @@ use Rattle.rfb_server.proofs.session.Session.has_more_above.Given as goal
 
 -- the rows so far are counted too
 abbrev pub invariant-loop-row : goal.invariant-loop-row
-invariant-loop-row l = l.before ≡ l.below + count_rows (right_before l.screen l.self l.hint) l.hint.to.x l.hint.to.y l.hint.to.w l.row
+invariant-loop-row l =
+    l.before ≡ l.below + count_rows (right_before l.screen l.self l.hint) l.hint.to.x l.hint.to.y l.hint.to.w l.row

@@ -19,9 +19,11 @@ loop-row-preserved c =
     let hint = c.args.hint in
     let l = c.loop-row in
     let right = c.right_in_row-right in
-    let here : c.right_in_row-right.result.before ≡ count_row (right_before c.args.screen.now c.args.self.now (line c.args.hint c.loop-row.row)) c.args.hint.to.x (c.args.hint.to.y + c.loop-row.row) c.args.hint.to.w =
+    let here : c.right_in_row-right.result.before ≡ count_row (right_before c.args.screen.now c.args.self.now
+    (line c.args.hint c.loop-row.row)) c.args.hint.to.x (c.args.hint.to.y + c.loop-row.row) c.args.hint.to.w =
     rw c.row_of.ensures at c.right_in_row-right.ensures.before in
-    let there : c.right_in_row-right.result.after ≡ count_row (right_after c.args.screen.now c.args.self.now (line c.args.hint c.loop-row.row)) c.args.hint.to.x (c.args.hint.to.y + c.loop-row.row) c.args.hint.to.w =
+    let there : c.right_in_row-right.result.after ≡ count_row (right_after c.args.screen.now c.args.self.now
+    (line c.args.hint c.loop-row.row)) c.args.hint.to.x (c.args.hint.to.y + c.loop-row.row) c.args.hint.to.w =
     rw c.row_of.ensures at c.right_in_row-right.ensures.after in
     let before = before_row screen s hint l.row _ right.result.before l.invariant.before here in
     record {
@@ -40,11 +42,14 @@ returns-then-after-before-clause-more c =
     let l = c.loop-row in
     let right = c.right_in_row-right in
     let next : to.h - l.row - 1 ≡ to.h - (l.row + 1) = omega arith in
-    let left : c.from-in-loop-row.result * c.from-in-loop-row-2.result ≡ (to.h - (l.row + 1)) * to.w = rw (c.from-in-loop-row.ensures, c.from-in-loop-row-2.ensures, next) refl in
+    let left : c.from-in-loop-row.result * c.from-in-loop-row-2.result ≡ (to.h - (l.row + 1)) * to.w =
+    rw (c.from-in-loop-row.ensures, c.from-in-loop-row-2.ensures, next) refl in
     let above : c.from.result * c.from-2.result ≡ top * to.w = rw (c.from.ensures, c.from-2.ensures) refl in
-    let here : c.right_in_row-right.result.before ≡ count_row (right_before c.args.screen.now c.args.self.now (line c.args.hint c.loop-row.row)) c.args.hint.to.x (c.args.hint.to.y + c.loop-row.row) c.args.hint.to.w =
+    let here : c.right_in_row-right.result.before ≡ count_row (right_before c.args.screen.now c.args.self.now
+    (line c.args.hint c.loop-row.row)) c.args.hint.to.x (c.args.hint.to.y + c.loop-row.row) c.args.hint.to.w =
     rw c.row_of.ensures at c.right_in_row-right.ensures.before in
-    let there : c.right_in_row-right.result.after ≡ count_row (right_after c.args.screen.now c.args.self.now (line c.args.hint c.loop-row.row)) c.args.hint.to.x (c.args.hint.to.y + c.loop-row.row) c.args.hint.to.w =
+    let there : c.right_in_row-right.result.after ≡ count_row (right_after c.args.screen.now c.args.self.now
+    (line c.args.hint c.loop-row.row)) c.args.hint.to.x (c.args.hint.to.y + c.loop-row.row) c.args.hint.to.w =
     rw c.row_of.ensures at c.right_in_row-right.ensures.after in
     let before = before_row screen s hint l.row _ right.result.before l.invariant.before here in
     let after = after_row screen s hint l.row l.after right.result.after l.invariant.after there in
@@ -62,10 +67,13 @@ returns-then-before-after-clause-no_more c = λ more.
     let l = c.loop-row in
     let right = c.right_in_row-right in
     let next : to.h - l.row - 1 ≡ to.h - (l.row + 1) = omega arith in
-    let left : c.from-in-loop-row.result * c.from-in-loop-row-2.result ≡ (to.h - (l.row + 1)) * to.w = rw (c.from-in-loop-row.ensures, c.from-in-loop-row-2.ensures, next) refl in
-    let here : c.right_in_row-right.result.before ≡ count_row (right_before c.args.screen.now c.args.self.now (line c.args.hint c.loop-row.row)) c.args.hint.to.x (c.args.hint.to.y + c.loop-row.row) c.args.hint.to.w =
+    let left : c.from-in-loop-row.result * c.from-in-loop-row-2.result ≡ (to.h - (l.row + 1)) * to.w =
+    rw (c.from-in-loop-row.ensures, c.from-in-loop-row-2.ensures, next) refl in
+    let here : c.right_in_row-right.result.before ≡ count_row (right_before c.args.screen.now c.args.self.now
+    (line c.args.hint c.loop-row.row)) c.args.hint.to.x (c.args.hint.to.y + c.loop-row.row) c.args.hint.to.w =
     rw c.row_of.ensures at c.right_in_row-right.ensures.before in
-    let there : c.right_in_row-right.result.after ≡ count_row (right_after c.args.screen.now c.args.self.now (line c.args.hint c.loop-row.row)) c.args.hint.to.x (c.args.hint.to.y + c.loop-row.row) c.args.hint.to.w =
+    let there : c.right_in_row-right.result.after ≡ count_row (right_after c.args.screen.now c.args.self.now
+    (line c.args.hint c.loop-row.row)) c.args.hint.to.x (c.args.hint.to.y + c.loop-row.row) c.args.hint.to.w =
     rw c.row_of.ensures at c.right_in_row-right.ensures.after in
     let before = before_row screen s hint l.row _ right.result.before l.invariant.before here in
     let after = after_row screen s hint l.row l.after right.result.after l.invariant.after there in
@@ -79,7 +87,9 @@ overflow_add-after c =
     let hint = c.args.hint in
     let to = hint.to in
     let l = c.loop-row in
-    let after = few_rows (right_after c.args.screen.now s hint) to.x to.y to.w l.row (omega (arith, c.requires.copy.target.0, s.alike.columns)) (omega (arith, c.requires.copy.target.1, s.alike.rows)) in
+    let after = few_rows (right_after c.args.screen.now s hint)
+    to.x to.y to.w l.row (omega (arith, c.requires.copy.target.0, s.alike.columns))
+    (omega (arith, c.requires.copy.target.1, s.alike.rows)) in
     omega (arith, after, l.invariant.after, rw c.row_of.ensures at c.right_in_row-right.ensures.few)
 
 pub overflow_add-before : goal.overflow_add-before
@@ -88,7 +98,9 @@ overflow_add-before c =
     let hint = c.args.hint in
     let to = hint.to in
     let l = c.loop-row in
-    let before = few_rows (right_before c.args.screen.now s hint) to.x to.y to.w l.row (omega (arith, c.requires.copy.target.0, s.alike.columns)) (omega (arith, c.requires.copy.target.1, s.alike.rows)) in
+    let before = few_rows (right_before c.args.screen.now s hint)
+    to.x to.y to.w l.row (omega (arith, c.requires.copy.target.0, s.alike.columns))
+    (omega (arith, c.requires.copy.target.1, s.alike.rows)) in
     omega (arith, before, l.invariant.before, rw c.row_of.ensures at c.right_in_row-right.ensures.few)
 
 pub overflow_add-before-in-loop-row : goal.overflow_add-before-in-loop-row
@@ -100,7 +112,8 @@ overflow_add-before-in-loop-row c =
     let wide : to.w ≤ 4096 = omega (arith, c.requires.copy.target.0, s.alike.columns) in
     let high : to.h ≤ 4096 = omega (arith, c.requires.copy.target.1, s.alike.rows) in
     let before = few_rows (right_before c.args.screen.now s hint) to.x to.y to.w l.row wide (omega arith) in
-    let above = few_places c.from.result c.from-2.result (omega (arith, c.from.ensures)) (omega (arith, c.from-2.ensures)) in
+    let above =
+    few_places c.from.result c.from-2.result (omega (arith, c.from.ensures)) (omega (arith, c.from-2.ensures)) in
     omega (arith, before, above, l.invariant.before, rw c.row_of.ensures at c.right_in_row-right.ensures.few)
 
 pub overflow_add-before-in-loop-row-2 : goal.overflow_add-before-in-loop-row-2
@@ -112,8 +125,10 @@ overflow_add-before-in-loop-row-2 c =
     let wide : to.w ≤ 4096 = omega (arith, c.requires.copy.target.0, s.alike.columns) in
     let high : to.h ≤ 4096 = omega (arith, c.requires.copy.target.1, s.alike.rows) in
     let before = few_rows (right_before c.args.screen.now s hint) to.x to.y to.w l.row wide (omega arith) in
-    let above = few_places c.from.result c.from-2.result (omega (arith, c.from.ensures)) (omega (arith, c.from-2.ensures)) in
-    let left = few_places c.from-in-loop-row.result c.from-in-loop-row-2.result (omega (arith, c.from-in-loop-row.ensures)) (omega (arith, c.from-in-loop-row-2.ensures)) in
+    let above =
+    few_places c.from.result c.from-2.result (omega (arith, c.from.ensures)) (omega (arith, c.from-2.ensures)) in
+    let left = few_places c.from-in-loop-row.result c.from-in-loop-row-2.result
+    (omega (arith, c.from-in-loop-row.ensures)) (omega (arith, c.from-in-loop-row-2.ensures)) in
     omega (arith, before, above, left, l.invariant.before, rw c.row_of.ensures at c.right_in_row-right.ensures.few)
 
 pub overflow_add-after-in-loop-row : goal.overflow_add-after-in-loop-row
@@ -125,5 +140,6 @@ overflow_add-after-in-loop-row c =
     let wide : to.w ≤ 4096 = omega (arith, c.requires.copy.target.0, s.alike.columns) in
     let high : to.h ≤ 4096 = omega (arith, c.requires.copy.target.1, s.alike.rows) in
     let after = few_rows (right_after c.args.screen.now s hint) to.x to.y to.w l.row wide (omega arith) in
-    let left = few_places c.from-in-loop-row.result c.from-in-loop-row-2.result (omega (arith, c.from-in-loop-row.ensures)) (omega (arith, c.from-in-loop-row-2.ensures)) in
+    let left = few_places c.from-in-loop-row.result c.from-in-loop-row-2.result
+    (omega (arith, c.from-in-loop-row.ensures)) (omega (arith, c.from-in-loop-row-2.ensures)) in
     omega (arith, after, left, l.invariant.after, rw c.row_of.ensures at c.right_in_row-right.ensures.few)

@@ -5,7 +5,8 @@ use Rattle.rfb_server.proofs.CopiedLemmas.{about_marked, keeps_marked, marked_fo
 use Rattle.rfb_server.proofs.session.Session.mark_hint.Goals as goal
 
 pub returns-then-holds-clause-about : goal.returns-then-holds-clause-about
-returns-then-holds-clause-about c = about_marked c.args.screen.now c.args.self.now c.mark.new.self _ c.requires c.mark.ensures
+returns-then-holds-clause-about c =
+    about_marked c.args.screen.now c.args.self.now c.mark.new.self _ c.requires c.mark.ensures
 
 pub returns-then-holds-clause-more : goal.returns-then-holds-clause-more
 returns-then-holds-clause-more c = keeps_marked c.args.self.now c.mark.new.self _ c.mark.ensures

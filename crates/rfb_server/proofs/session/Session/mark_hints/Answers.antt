@@ -6,7 +6,12 @@ use Rattle.rfb_server.proofs.CopiedLemmas.{same_self, same_then, marked_on}
 use Rattle.rfb_server.proofs.session.Session.mark_hints.Goals as goal
 
 pub loop-index-init : goal.loop-index-init
-loop-index-init c = record { about = c.requires; same = same_self c.args.self.now; hints = refl; marked = λ index hint l this. absurd (omega (arith, l)) }
+loop-index-init c = record {
+  about = c.requires;
+  same = same_self c.args.self.now;
+  hints = refl;
+  marked = λ index hint l this. absurd (omega (arith, l));
+}
 
 pub loop-index-preserved : goal.loop-index-preserved
 loop-index-preserved c =
@@ -16,7 +21,8 @@ loop-index-preserved c =
       same = same_then c.args.self.now l.self c.mark_hint.new.self l.invariant.same c.mark_hint.ensures.same;
       hints = c.mark_hint.ensures.hints ∙ l.invariant.hints;
       marked = λ index hint below this.
-          let was : slice_get l.self.hints.items index ≡ Some hint = subst (λ (b : Buffer Hint). slice_get b.items index ≡ Some hint) c.mark_hint.ensures.hints this in
+          let was : slice_get l.self.hints.items index ≡ Some hint =
+          subst (λ (b : Buffer Hint). slice_get b.items index ≡ Some hint) c.mark_hint.ensures.hints this in
           elim (cases_eq index l.index) [
             | inl e ↦ c.mark_hint.ensures.marked hint (rw (← e) was)
             | inr other ↦

@@ -4,30 +4,39 @@ use Rattle.rfb_server.proofs.session.Session.needed_between.Goals as goal
 
 pub returns-then-judged-eq0 : goal.returns-then-judged-eq0
 returns-then-judged-eq0 c =
-    none_judged c.args.screen.now c.args.self.now c.args.y c.args.from c.args.to c.row_bits_between.result c.row_bits.result c.row_bits-known.result c.row_bits-2.result
+    none_judged c.args.screen.now c.args.self.now c.args.y c.args.from c.args.to c.row_bits_between.result
+    c.row_bits.result c.row_bits-known.result c.row_bits-2.result
     c.requires.about c.requires.row c.requires.columns.1
-    (row_words c.args.self.now c.known.result.now c.args.y c.args.from c.args.to c.row_bits_between.result c.row_bits.result c.row_bits-known.result c.row_bits-2.result
-    c.asked.result.now c.asked-2.result.now c.whole.result.now c.known.ensures.columns c.known.ensures.value c.requires.row c.row_bits_between.ensures
+    (row_words c.args.self.now c.known.result.now c.args.y c.args.from c.args.to c.row_bits_between.result
+    c.row_bits.result c.row_bits-known.result c.row_bits-2.result
+    c.asked.result.now c.asked-2.result.now c.whole.result.now c.known.ensures.columns c.known.ensures.value
+    c.requires.row c.row_bits_between.ensures
     c.asked.ensures c.row_bits.ensures c.asked-2.ensures c.row_bits-known.ensures c.whole.ensures c.row_bits-2.ensures
     c.row_bits_between.type_inv c.row_bits.type_inv c.row_bits-known.type_inv c.row_bits-2.type_inv)
     c.if-judged-eq0.true
 
 pub differing_between-requires-clause-columns : goal.differing_between-requires-clause-columns
 differing_between-requires-clause-columns c =
-    judged_columns c.args.screen.now c.args.self.now c.args.y c.args.from c.args.to c.row_bits_between.result c.row_bits.result c.row_bits-known.result c.row_bits-2.result
+    judged_columns c.args.screen.now c.args.self.now c.args.y c.args.from c.args.to c.row_bits_between.result
+    c.row_bits.result c.row_bits-known.result c.row_bits-2.result
     c.requires.about c.requires.row c.requires.columns.1
-    (row_words c.args.self.now c.known.result.now c.args.y c.args.from c.args.to c.row_bits_between.result c.row_bits.result c.row_bits-known.result c.row_bits-2.result
-    c.asked.result.now c.asked-2.result.now c.whole.result.now c.known.ensures.columns c.known.ensures.value c.requires.row c.row_bits_between.ensures
+    (row_words c.args.self.now c.known.result.now c.args.y c.args.from c.args.to c.row_bits_between.result
+    c.row_bits.result c.row_bits-known.result c.row_bits-2.result
+    c.asked.result.now c.asked-2.result.now c.whole.result.now c.known.ensures.columns c.known.ensures.value
+    c.requires.row c.row_bits_between.ensures
     c.asked.ensures c.row_bits.ensures c.asked-2.ensures c.row_bits-known.ensures c.whole.ensures c.row_bits-2.ensures
     c.row_bits_between.type_inv c.row_bits.type_inv c.row_bits-known.type_inv c.row_bits-2.type_inv)
     (omega (arith, c.if-judged-eq0.false))
 
 pub returns : goal.returns
 returns c =
-    judged_bits c.args.screen.now c.args.self.now c.args.y c.args.from c.args.to c.row_bits_between.result c.row_bits.result c.row_bits-known.result c.row_bits-2.result
+    judged_bits c.args.screen.now c.args.self.now c.args.y c.args.from c.args.to c.row_bits_between.result
+    c.row_bits.result c.row_bits-known.result c.row_bits-2.result
     c.requires.about c.requires.row c.requires.columns.1
-    (row_words c.args.self.now c.known.result.now c.args.y c.args.from c.args.to c.row_bits_between.result c.row_bits.result c.row_bits-known.result c.row_bits-2.result
-    c.asked.result.now c.asked-2.result.now c.whole.result.now c.known.ensures.columns c.known.ensures.value c.requires.row c.row_bits_between.ensures
+    (row_words c.args.self.now c.known.result.now c.args.y c.args.from c.args.to c.row_bits_between.result
+    c.row_bits.result c.row_bits-known.result c.row_bits-2.result
+    c.asked.result.now c.asked-2.result.now c.whole.result.now c.known.ensures.columns c.known.ensures.value
+    c.requires.row c.row_bits_between.ensures
     c.asked.ensures c.row_bits.ensures c.asked-2.ensures c.row_bits-known.ensures c.whole.ensures c.row_bits-2.ensures
     c.row_bits_between.type_inv c.row_bits.type_inv c.row_bits-known.type_inv c.row_bits-2.type_inv)
     c.differing_between.result (omega (arith, c.if-judged-eq0.false)) c.differing_between.ensures

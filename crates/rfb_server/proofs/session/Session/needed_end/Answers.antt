@@ -7,8 +7,10 @@ use Rattle.rfb_server.proofs.session.Session.needed_end.Goals as goal
 
 pub returns-then-due-ne0 : goal.returns-then-due-ne0
 returns-then-due-ne0 c =
-    let (few, a, b, here, none) = last_between (needs_of c.args.screen.now c.args.self.now) c.args.y c.max-start.result c.loop-end.end c.needed_between-due.result
-    c.needed_between-due.ensures (omega (arith, c.max-start.ensures)) (omega (arith, c.if-due-ne0.true)) c.needed_between-due.type_inv in
+    let (few, a, b, here, none) = last_between (needs_of c.args.screen.now c.args.self.now) c.args.y c.max-start.result
+    c.loop-end.end c.needed_between-due.result
+    c.needed_between-due.ensures (omega (arith, c.max-start.ensures)) (omega (arith, c.if-due-ne0.true))
+    c.needed_between-due.type_inv in
     record {
       order = (omega (arith, a, c.max-start.ensures), omega (arith, b, c.loop-end.invariant.order));
       none = λ x p q. elim (cases_lt x c.loop-end.end) [
@@ -21,7 +23,8 @@ returns-then-due-ne0 c =
 pub loop-end-preserved : goal.loop-end-preserved
 loop-end-preserved c =
     let none = none_between (needs_of c.args.screen.now c.args.self.now) c.args.y c.max-start.result c.loop-end.end
-    (subst (λ (word : ℕ). HasBitsBetween (needs_of c.args.screen.now c.args.self.now) c.args.y c.max-start.result c.loop-end.end word) (omega (arith, c.if-due-ne0.false)) c.needed_between-due.ensures)
+    (subst (λ (word : ℕ). HasBitsBetween (needs_of c.args.screen.now c.args.self.now) c.args.y c.max-start.result
+    c.loop-end.end word) (omega (arith, c.if-due-ne0.false)) c.needed_between-due.ensures)
     (omega (arith, c.max-start.ensures)) in
     record {
       order = (omega (arith, c.max-start.ensures), omega (arith, c.max-start.ensures, c.loop-end.invariant.order));

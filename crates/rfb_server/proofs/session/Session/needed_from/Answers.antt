@@ -4,14 +4,18 @@ use Rattle.rfb_server.proofs.session.Session.needed_from.Goals as goal
 
 pub last_row-bottom-requires-clause-some : goal.last_row-bottom-requires-clause-some
 last_row-bottom-requires-clause-some c =
-    first_in_row (needs_of c.args.screen.now c.args.self.now) c.args.zone c.args.top c.args.first c.requires.some c.requires.first
+    first_in_row (needs_of c.args.screen.now c.args.self.now) c.args.zone c.args.top c.args.first
+    c.requires.some c.requires.first
 
 pub widened-columns-requires-clause-given : goal.widened-columns-requires-clause-given
 widened-columns-requires-clause-given c =
-    row_spans (needs_of c.args.screen.now c.args.self.now) c.args.zone c.args.top c.args.first c.needed_end-end.result c.requires.some c.requires.first c.needed_end-end.ensures
+    row_spans (needs_of c.args.screen.now c.args.self.now) c.args.zone c.args.top c.args.first c.needed_end-end.result
+    c.requires.some c.requires.first c.needed_end-end.ensures
 
 pub returns : goal.returns
 returns c =
-    box_is (needs_of c.args.screen.now c.args.self.now) c.args.zone c.args.top c.last_row-bottom.result c.widened-columns.result c.requires.row.0
-    c.requires.above (first_in_row (needs_of c.args.screen.now c.args.self.now) c.args.zone c.args.top c.args.first c.requires.some c.requires.first)
+    box_is (needs_of c.args.screen.now c.args.self.now) c.args.zone c.args.top c.last_row-bottom.result
+    c.widened-columns.result c.requires.row.0
+    c.requires.above (first_in_row (needs_of c.args.screen.now c.args.self.now) c.args.zone c.args.top c.args.first
+    c.requires.some c.requires.first)
     c.last_row-bottom.ensures c.widened-columns.ensures

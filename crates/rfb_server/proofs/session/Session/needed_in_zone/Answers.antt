@@ -9,7 +9,8 @@ loop-y-init c = no_rows (needs_of c.args.screen.now c.args.self.now) c.args.zone
 pub loop-y-preserved : goal.loop-y-preserved
 loop-y-preserved c =
     row_clear (needs_of c.args.screen.now c.args.self.now) c.args.zone c.loop-y.y (omega arith) c.loop-y.invariant
-    (subst (λ (k : ℕ). IsFirst (needs_of c.args.screen.now c.args.self.now) c.loop-y.y c.args.zone.x (c.args.zone.x + c.args.zone.w) k)
+    (subst (λ (k : ℕ). IsFirst (needs_of c.args.screen.now c.args.self.now) c.loop-y.y c.args.zone.x
+    (c.args.zone.x + c.args.zone.w) k)
     (omega (arith, c.first_needed-first.ensures.order, c.if-first-end.false)) c.first_needed-first.ensures)
 
 pub returns : goal.returns
@@ -18,4 +19,5 @@ returns c =
 
 pub returns-then-needs : goal.returns-then-needs
 returns-then-needs c =
-    single_box (needs_of c.args.screen.now c.args.self.now) c.args.zone (omega (arith, c.if-zone-eq1.true)) (omega (arith, c.if-zone-eq1-2.true)) (sym c.needs.ensures ∙ c.if-needs.true)
+    single_box (needs_of c.args.screen.now c.args.self.now) c.args.zone (omega (arith, c.if-zone-eq1.true))
+    (omega (arith, c.if-zone-eq1-2.true)) (sym c.needs.ensures ∙ c.if-needs.true)

@@ -1,6 +1,8 @@
-use Rattle.rfb_server.proofs.QuietLemmas.{quiet_cell}
+use Rattle.rfb_server.proofs.QuietLemmas.{quiet_rows}
 use Rattle.rfb_server.proofs.session.Session.needed_outside.Goals as goal
 
-pub returns-then-lies_in : goal.returns-then-lies_in
-returns-then-lies_in c =
-    quiet_cell c.args.screen.now c.args.self.now c.args.cell c.args.quiet c.requires.held c.if-lies_in.ensures c.requires.quiet
+pub returns : goal.returns
+returns c =
+    let s = c.args.self.now in
+    quiet_rows c.args.screen.now s c.args.cell c.outside-zone.result c.args.quiet.now _ c.requires.held
+    c.outside-zone.ensures.part c.outside-zone.ensures.others c.requires.quiet c.needed_in.ensures

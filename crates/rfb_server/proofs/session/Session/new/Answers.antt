@@ -1,7 +1,8 @@
-use Rattle.std.proofs.Common.{ap, sym, ◌∙◌}
+use Rattle.std.proofs.Common.{ap, sym, refl, ◌∙◌}
 use Rattle.rfb_picture.proofs.GridLaws.{whole-changed, whole-uniform}
 use Rattle.rfb_picture.proofs.AreaLaws.{area-no_places}
 use Rattle.rfb_hello.proofs.StandingLaws.{server_stands}
+use Rattle.rfb_server.proofs.ClaimLemmas.{nothing_claimed}
 use Rattle.rfb_server.proofs.MarksLemmas.{in_all, caught_unseen}
 use Rattle.rfb_server.proofs.session.Session.new.Goals as goal
 
@@ -33,4 +34,5 @@ returns-clause-follows c = λ screen whole wide high.
       caught_up = caught_unseen screen _ _ _ _ (λ x y p q.
           rw fresh.marked.value
           (in_all c.args.width c.args.height x y (rw fresh.marked.columns at p) (rw fresh.marked.rows at q)));
+      claimed = nothing_claimed _ _ _ _ refl;
     }

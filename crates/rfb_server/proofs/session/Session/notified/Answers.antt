@@ -10,14 +10,30 @@ invariant_of-self c = record {
 }
 
 pub returns-in-Some-clause-follows : goal.returns-in-Some-clause-follows
-returns-in-Some-clause-follows c = λ before after follows whole outside.
+returns-in-Some-clause-follows c = λ before after follows told.
     follows_hinted _ c.keep_hint.new.self c.in-Some.hint after c.keep_hint.ensures
     (follows_drawn c.args.self.now _ before after c.args.notice.now.area
-    (record { same = record { hello = refl; progress = refl; text_limit = refl; format = refl; encodings = refl; known = refl; area = refl }; hints = refl; marks = c.add.ensures.value })
-    follows whole outside)
+    (record {
+      hello = refl;
+      progress = refl;
+      text_limit = refl;
+      format = refl;
+      encodings = refl;
+      known = refl;
+      area = refl;
+    })
+    c.add.ensures.value follows told.whole told.outside (c.claim_after-self.ensures before after follows told))
 
 pub returns-in_default-clause-follows : goal.returns-in_default-clause-follows
-returns-in_default-clause-follows c = λ before after follows whole outside.
+returns-in_default-clause-follows c = λ before after follows told.
     follows_drawn c.args.self.now _ before after c.args.notice.now.area
-    (record { same = record { hello = refl; progress = refl; text_limit = refl; format = refl; encodings = refl; known = refl; area = refl }; hints = refl; marks = c.add.ensures.value })
-    follows whole outside
+    (record {
+      hello = refl;
+      progress = refl;
+      text_limit = refl;
+      format = refl;
+      encodings = refl;
+      known = refl;
+      area = refl;
+    })
+    c.add.ensures.value follows told.whole told.outside (c.claim_after-self.ensures before after follows told)

@@ -12,4 +12,5 @@ pub returns-else-incremental : goal.returns-else-incremental
 returns-else-incremental c =
     rw (c.if-incremental.false)
     (asked_part c.args.self.now c.ask_whole.new.self c.args.rect c.part_of-part.result true
-    (λ x y p q. c.part_of-part.ensures.same x y (rw (c.width.ensures.value) p) (rw (c.height.ensures) q)) c.ask_whole.ensures)
+    (λ x y p q. c.part_of-part.ensures.same x y (rw (c.width.ensures.value) p)
+    (rw (c.height.ensures) q)) c.ask_whole.ensures)

@@ -5,4 +5,5 @@ use Rattle.rfb_server.proofs.session.Session.rows_right.Given as goal
 
 -- the rows so far have it at each place
 abbrev pub invariant-loop-row : goal.invariant-loop-row
-invariant-loop-row l = count_rows (right_after l.screen l.self l.hint) l.hint.to.x l.hint.to.y l.hint.to.w l.row ≡ l.row * l.hint.to.w
+invariant-loop-row l =
+    count_rows (right_after l.screen l.self l.hint) l.hint.to.x l.hint.to.y l.hint.to.w l.row ≡ l.row * l.hint.to.w

@@ -8,7 +8,11 @@ send-requires-clause-room c =
     let s = c.args.self.now in
     let box = c.in-Some.ensures in
     let tight = tight_marked c.args.screen.now s c.args.cell c.in-Some.rect c.requires.about c.requires.held box in
-    omega (arith, c.requires.room.1 c.in-Some.rect tight box.within.0 box.within.1 box.within.2 box.within.3, c.requires.room.2)
+    omega (
+      arith,
+      c.requires.room.1 c.in-Some.rect tight box.within.0 box.within.1 box.within.2 box.within.3,
+      c.requires.room.2,
+    )
 
 pub returns-clause-sent : goal.returns-clause-sent
 returns-clause-sent c = (c.in-Some.rect, c.in-Some.ensures, c.send.ensures.sent)
@@ -24,4 +28,5 @@ pub returns-clause-quiet : goal.returns-clause-quiet
 returns-clause-quiet c =
     let s = c.args.self.now in
     let sent = c.send.ensures.sent in
-    quiet_sent c.args.screen.now s c.send.new.self c.in-Some.rect c.args.quiet _ _ c.send.ensures.kept sent c.requires.quiet
+    quiet_sent c.args.screen.now s c.send.new.self c.in-Some.rect c.args.quiet.now _ _
+    c.send.ensures.kept sent c.requires.quiet

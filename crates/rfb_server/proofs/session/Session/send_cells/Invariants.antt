@@ -13,15 +13,19 @@ invariant-loop-index l = record {
   kept : IsKept l.initial.self l.self;
   about : Follows l.screen l.self;
   quiet : IsQuiet l.screen l.self l.quiet;
-  sent : AppendsCells (div_ceil l.initial.self.known.width 64) l.next l.screen l.initial.self l.self l.initial.out.items l.out.items l.count;
+  sent : AppendsCells (div_ceil l.initial.self.known.width 64) l.next l.screen l.initial.self l.self
+      l.initial.out.items l.out.items l.count;
   within : l.next ≤ div_ceil l.initial.self.known.width 64 * div_ceil l.initial.self.known.height 64;
   few : l.next ≤ 4096;
   capacity : vec_capacity l.out ≡ vec_capacity l.initial.out;
   space : (cost : ℕ → ℕ) →
-      AreCosts l.initial.self.known.width l.initial.self.known.height (div_ceil l.initial.self.known.width 64) (may_need l.initial.self.marks l.initial.self.area) l.initial.self.format
+      AreCosts l.initial.self.known.width l.initial.self.known.height (div_ceil l.initial.self.known.width 64)
+      (may_need l.initial.self.marks l.initial.self.area) l.initial.self.format
       (div_ceil l.initial.self.known.width 64 * div_ceil l.initial.self.known.height 64) cost →
-      vec_len l.initial.out + sum_below cost (div_ceil l.initial.self.known.width 64 * div_ceil l.initial.self.known.height 64) ≤ vec_capacity l.initial.out →
-      vec_len l.out + sum_below cost (div_ceil l.initial.self.known.width 64 * div_ceil l.initial.self.known.height 64) ≤ vec_capacity l.initial.out + sum_below cost l.next;
+      vec_len l.initial.out + sum_below cost (div_ceil l.initial.self.known.width 64
+      * div_ceil l.initial.self.known.height 64) ≤ vec_capacity l.initial.out →
+      vec_len l.out + sum_below cost (div_ceil l.initial.self.known.width 64 * div_ceil l.initial.self.known.height 64)
+      ≤ vec_capacity l.initial.out + sum_below cost l.next;
 }
 
 abbrev pub decreases-loop-index : goal.decreases-loop-index

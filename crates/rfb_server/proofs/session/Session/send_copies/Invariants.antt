@@ -1,6 +1,7 @@
-use Rattle.std.proofs.Common.{◌≡◌, ◌≤◌, ◌*◌, ◌+◌, vec_len}
+use Rattle.std.proofs.Common.{◌≡◌, ◌≤◌, ◌*◌, ◌+◌, vec_len, None}
 use Rattle.std.specs.Vec.{vec_capacity}
 use Rattle.rfb_server.specs.inside.Needs.{IsQuiet}
+use Rattle.rfb_server.specs.Claims.{IsClaimed}
 use Rattle.rfb_server.specs.Following.{Follows}
 use Rattle.rfb_server.specs.inside.Sends.{IsKept}
 use Rattle.rfb_server.specs.inside.Copies.{AppendsCopies}
@@ -11,6 +12,8 @@ abbrev pub invariant-loop-index : goal.invariant-loop-index
 invariant-loop-index l = record {
   kept : IsKept l.initial.self l.self;
   about : Follows l.screen l.self;
+  unclaimed : l.self.claim ≡ None;
+  claimed : IsClaimed l.screen l.self.known l.self.format l.claim;
   quiet : IsQuiet l.screen l.self l.quiet;
   sent : AppendsCopies l.screen l.index l.initial.self l.self l.initial.out.items l.out.items l.count;
   few : l.count ≤ l.index;

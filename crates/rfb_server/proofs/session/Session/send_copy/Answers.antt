@@ -1,6 +1,7 @@
 use Rattle.std.proofs.Common.{refl}
+use Rattle.rfb_server.specs.inside.Copies.{IsUseful}
 use Rattle.rfb_server.proofs.CopiedLemmas.{about_copied, alike_copied}
-use Rattle.rfb_server.proofs.QuietLemmas.{quiet_copied, quiet_either}
+use Rattle.rfb_server.proofs.QuietLemmas.{quiet_copied, quiet_left}
 use Rattle.rfb_server.proofs.session.Session.send_copy.Goals as goal
 
 pub invariant_of-self : goal.invariant_of-self
@@ -12,18 +13,37 @@ invariant_of-self c =
       sixteen = s.sixteen;
     }
 
-pub returns-clause-about : goal.returns-clause-about
-returns-clause-about c =
-    about_copied c.args.screen.now c.args.self.now _ c.args.hint.to c.args.hint.sx c.args.hint.sy c.requires.about c.in-Some.ensures.useful.free
-    (record { hello = refl; progress = refl; text_limit = refl; format = refl; encodings = refl; area = refl; marks = refl; hints = refl })
+pub returns-then-judged-clause-about : goal.returns-then-judged-clause-about
+returns-then-judged-clause-about c =
+    let s = c.args.self.now in
+    let hint = c.args.hint in
+    let useful : IsUseful c.args.screen.now s hint = rw c.if-judged.true at c.judge-judged.ensures.useful in
+    about_copied c.args.screen.now s _ hint.to hint.sx hint.sy c.requires.about useful.free c.requires.unclaimed
+    (record {
+      hello = refl;
+      progress = refl;
+      text_limit = refl;
+      format = refl;
+      encodings = refl;
+      area = refl;
+      marks = refl;
+      hints = refl;
+      claim = refl;
+    })
     c.copy.ensures.value
 
-pub returns-clause-quiet : goal.returns-clause-quiet
-returns-clause-quiet c =
+pub returns-then-judged-clause-quiet : goal.returns-then-judged-clause-quiet
+returns-then-judged-clause-quiet c =
     let s = c.args.self.now in
     let hint = c.args.hint in
     let size = c.requires.about.alike in
-    let from = c.in-Some.ensures.useful.gain.source_on_screen in
-    quiet_either c.args.screen.now c.copy.new.self s.area s.format hint.to c.quiet_after.result c.in-Some.all _ c.quiet_after.ensures.right c.quiet_after.ensures.wrong c.in-Some.ensures.right
-    (quiet_copied c.args.screen.now s c.copy.new.self hint c.in-Some.ensures.useful.free
-    (rw (← size.columns) from.0, rw (← size.rows) from.1) c.copy.ensures.value)
+    let useful : IsUseful c.args.screen.now s hint = rw c.if-judged.true at c.judge-judged.ensures.useful in
+    let from = useful.gain.source_on_screen in
+    quiet_copied c.args.screen.now s c.copy.new.self hint c.judge-judged.result
+    (rw (← size.columns) from.0, rw (← size.rows) from.1) c.copy.ensures.value
+    c.if-judged.true c.judge-judged.ensures.right
+
+pub returns-then-judged-gt0-clause-quiet : goal.returns-then-judged-gt0-clause-quiet
+returns-then-judged-gt0-clause-quiet c =
+    quiet_left c.args.screen.now c.args.self.now c.args.hint c.judge-judged.result
+    c.if-judged.false c.judge-judged.ensures.right

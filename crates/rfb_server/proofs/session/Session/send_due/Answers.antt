@@ -15,7 +15,8 @@ returns-then-room-eq0-clause-idle c = λ e.
     let s = c.mark_hints.new.self in
     let marked = c.mark_hints.ensures in
     let none : IsEnough s (div_ceil s.known.width 64) (div_ceil s.known.width 64 * div_ceil s.known.height 64) 0 =
-    subst (λ (n : ℕ). IsEnough s (div_ceil s.known.width 64) (div_ceil s.known.width 64 * div_ceil s.known.height 64) n) c.if-room-eq0.true c.room-room.ensures.enough in
+    subst (λ (n : ℕ). IsEnough s (div_ceil s.known.width 64) (div_ceil s.known.width 64 * div_ceil s.known.height 64) n)
+    c.if-room-eq0.true c.room-room.ensures.enough in
     record {
       not_due = λ ready due.
           nothing_due c.args.screen.now s marked.about none
@@ -27,10 +28,13 @@ returns-then-room-eq0-clause-idle c = λ e.
 
 pub returns-in-Ok-clause-composed : goal.returns-in-Ok-clause-composed
 returns-in-Ok-clause-composed c = λ did.
-    let done : HasComposed c.args.screen.now c.mark_hints.new.self c.update.new.self c.make_room.new.out.items c.update.new.out.items = rw did at c.update.ensures.composed in
-    composed_same c.args.screen.now c.args.self.now c.mark_hints.new.self c.update.new.self c.args.out.now.items c.update.new.out.items
+    let done : HasComposed c.args.screen.now c.mark_hints.new.self c.update.new.self c.make_room.new.out.items
+    c.update.new.out.items = rw did at c.update.ensures.composed in
+    composed_same c.args.screen.now c.args.self.now c.mark_hints.new.self c.update.new.self
+    c.args.out.now.items c.update.new.out.items
     c.mark_hints.ensures.same c.mark_hints.ensures.hints
-    (subst (λ (bytes : List ℕ). HasComposed c.args.screen.now c.mark_hints.new.self c.update.new.self bytes c.update.new.out.items) c.make_room.ensures.items done)
+    (subst (λ (bytes : List ℕ). HasComposed c.args.screen.now c.mark_hints.new.self c.update.new.self bytes
+    c.update.new.out.items) c.make_room.ensures.items done)
 
 pub returns-in-Err-clause-about : goal.returns-in-Err-clause-about
 returns-in-Err-clause-about c = c.mark_hints.ensures.about
@@ -46,5 +50,7 @@ returns-in-Ok-clause-room c =
     let s = c.mark_hints.new.self in
     let same = c.mark_hints.ensures.same in
     rw c.update.ensures.room
-    (room_within (vec_capacity c.args.out.now) (vec_len c.args.out.now) c.usable_hints.result c.room-room.result.bytes _ (vec_capacity c.make_room.new.out)
-    c.usable_hints.ensures.few (rw (same.known, same.format, same.area) at c.room-room.ensures.most) c.make_room.ensures.most)
+    (room_within (vec_capacity c.args.out.now) (vec_len c.args.out.now) c.usable_hints.result c.room-room.result.bytes _
+    (vec_capacity c.make_room.new.out)
+    c.usable_hints.ensures.few (rw (same.known, same.format, same.area) at c.room-room.ensures.most)
+    c.make_room.ensures.most)

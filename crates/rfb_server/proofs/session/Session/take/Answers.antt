@@ -39,7 +39,8 @@ returns-in-Err-told-clause-place c =
     (rw is at c.take_head-used.ensures.place)
 
 pub returns-in-Encodings-clause-fed : goal.returns-in-Encodings-clause-fed
-returns-in-Encodings-clause-fed c = step_fed c.args.self.now c.take_number-used.new.self _ _ c.take_number-used.ensures.steps
+returns-in-Encodings-clause-fed c =
+    step_fed c.args.self.now c.take_number-used.new.self _ _ c.take_number-used.ensures.steps
 
 pub returns-in-CutText-clause-fed : goal.returns-in-CutText-clause-fed
 returns-in-CutText-clause-fed c = step_fed c.args.self.now c.take_text-used.new.self _ _ c.take_text-used.ensures.steps

@@ -12,7 +12,12 @@ use Rattle.rfb_server.proofs.session.Session.take_each.Goals as goal
 
 pub loop-used-init : goal.loop-used-init
 loop-used-init c =
-    record { within = omega arith; going = c.requires.going; up = up_same _ _ refl refl refl refl refl refl refl; fed = session_starts c.args.self.now }
+    record {
+      within = omega arith;
+      going = c.requires.going;
+      up = up_same _ _ refl refl refl refl refl refl refl refl;
+      fed = session_starts c.args.self.now;
+    }
 
 pub returns-in-Err : goal.returns-in-Err
 returns-in-Err c =
@@ -24,7 +29,10 @@ returns-in-Err c =
       some = tt;
       fed = tt;
       up = up_then c.args.self.now c.loop-used.self c.take.new.self c.loop-used.invariant.up c.take.ensures.up;
-      ends = λ serving screen. runs_out_later (server serving) (server_machine serving) (EndsAt serving flaw.fault screen (notes_in c.take.new.self)) (SessionStandsFor serving screen) c.args.self.now c.loop-used.self c.loop-used.used c.args.bytes.now (c.loop-used.invariant.fed serving screen) (rw rest at (c.in-Err.ensures.ends serving screen));
+      ends = λ serving screen. runs_out_later (server serving) (server_machine serving)
+          (EndsAt serving flaw.fault screen (notes_in c.take.new.self)) (SessionStandsFor serving screen)
+          c.args.self.now c.loop-used.self c.loop-used.used c.args.bytes.now (c.loop-used.invariant.fed serving screen)
+          (rw rest at (c.in-Err.ensures.ends serving screen));
       fails = c.in-Err.ensures.fails;
       place = placed_later flaw.fault c.args.self.now c.loop-used.self c.loop-used.used flaw.used c.args.bytes.now
           (omega (arith, c.loop-used.invariant.within)) c.loop-used.invariant.fed (rw rest at c.in-Err.ensures.place);
@@ -39,7 +47,9 @@ returns-then-is_some c =
       used = omega (arith, length-drop c.loop-used.used c.args.bytes.now, within, c.loop-used.invariant.within);
       all = λ none. absurd (some_told fed.event (sym c.is_some.ensures ∙ c.if-is_some.true) none);
       some = λ any. omega (arith, c.in-Ok.ensures.used.0);
-      fed = λ serving screen. fed_more (server serving) (server_machine serving) (SessionStandsFor serving screen) c.args.self.now c.loop-used.self c.take.new.self c.loop-used.used fed.used c.args.bytes.now _ (c.loop-used.invariant.fed serving screen) (rw rest at (c.in-Ok.ensures.fed serving screen));
+      fed = λ serving screen. fed_more (server serving) (server_machine serving) (SessionStandsFor serving screen)
+          c.args.self.now c.loop-used.self c.take.new.self c.loop-used.used fed.used c.args.bytes.now _
+          (c.loop-used.invariant.fed serving screen) (rw rest at (c.in-Ok.ensures.fed serving screen));
       up = up_then c.args.self.now c.loop-used.self c.take.new.self c.loop-used.invariant.up c.take.ensures.up;
       ends = tt;
       fails = tt;
@@ -56,7 +66,9 @@ loop-used-preserved c =
       within = omega (arith, length-drop c.loop-used.used c.args.bytes.now, within, c.loop-used.invariant.within);
       going = c.in-Ok.ensures.going;
       up = up_then c.args.self.now c.loop-used.self c.take.new.self c.loop-used.invariant.up c.take.ensures.up;
-      fed = λ serving screen. fed_more (server serving) (server_machine serving) (SessionStandsFor serving screen) c.args.self.now c.loop-used.self c.take.new.self c.loop-used.used fed.used c.args.bytes.now None (c.loop-used.invariant.fed serving screen) (rw (rest, none) at (c.in-Ok.ensures.fed serving screen));
+      fed = λ serving screen. fed_more (server serving) (server_machine serving) (SessionStandsFor serving screen)
+          c.args.self.now c.loop-used.self c.take.new.self c.loop-used.used fed.used c.args.bytes.now None
+          (c.loop-used.invariant.fed serving screen) (rw (rest, none) at (c.in-Ok.ensures.fed serving screen));
     }
 
 pub loop-used-smaller-else-is_some-2 : goal.loop-used-smaller-else-is_some-2

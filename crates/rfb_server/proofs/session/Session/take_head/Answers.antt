@@ -10,23 +10,28 @@ returns-in-More-clause-steps c = λ _ serving screen.
     let unit = take c.gather_head-used.result.0 c.args.bytes.now in
     let more = rw c.in-More.is at c.gather_head-used.ensures.more in
     head_part serving screen c.args.self.now _ c.in-Head.part c.gather_head-used.new.part unit c.in-Head.is refl
-    (record { setup = refl; text_limit = refl; format = refl; encodings = refl; known = refl; area = refl }) more.0 more.1
+    (record { setup = refl; text_limit = refl; format = refl; encodings = refl; known = refl; area = refl }) more.0
+    more.1
 
 pub returns-in-Got-clause-steps : goal.returns-in-Got-clause-steps
 returns-in-Got-clause-steps c = λ fine serving screen.
     let unit = take c.gather_head-used.result.0 c.args.bytes.now in
     let got = rw c.in-Got.is at c.gather_head-used.ensures.got in
     let spelled : SpellsClientHead c.in-Got.head (c.gather_head-used.new.part.items ++ unit) = rw got.0 got.1 in
-    steps_from serving screen c.args.self.now _ _ unit _ (c.take_message.ensures.steps c.gather_head-used.new.part unit refl spelled fine serving screen)
-    (record { setup = refl; text_limit = refl; format = refl; encodings = refl; known = refl; area = refl }) refl (rw got.0 (sym c.in-Head.is))
+    steps_from serving screen c.args.self.now _ _ unit _
+    (c.take_message.ensures.steps c.gather_head-used.new.part unit refl spelled fine serving screen)
+    (record { setup = refl; text_limit = refl; format = refl; encodings = refl; known = refl; area = refl }) refl
+    (rw got.0 (sym c.in-Head.is))
 
 pub returns-in-Got-clause-memory : goal.returns-in-Got-clause-memory
 returns-in-Got-clause-memory c = λ wants serving screen.
     let unit = take c.gather_head-used.result.0 c.args.bytes.now in
     let got = rw c.in-Got.is at c.gather_head-used.ensures.got in
     let spelled : SpellsClientHead c.in-Got.head (c.gather_head-used.new.part.items ++ unit) = rw got.0 got.1 in
-    starved_from serving screen c.args.self.now _ unit (c.take_message.ensures.memory c.gather_head-used.new.part unit refl spelled wants serving screen)
-    (record { setup = refl; text_limit = refl; format = refl; encodings = refl; known = refl; area = refl }) refl (rw got.0 (sym c.in-Head.is))
+    starved_from serving screen c.args.self.now _ unit
+    (c.take_message.ensures.memory c.gather_head-used.new.part unit refl spelled wants serving screen)
+    (record { setup = refl; text_limit = refl; format = refl; encodings = refl; known = refl; area = refl }) refl
+    (rw got.0 (sym c.in-Head.is))
 
 pub returns-in-Bad-clause-steps : goal.returns-in-Bad-clause-steps
 returns-in-Bad-clause-steps c = λ _ serving screen.
@@ -39,7 +44,8 @@ pub returns-in-Got-clause-place : goal.returns-in-Got-clause-place
 returns-in-Got-clause-place c =
     let got = rw c.in-Got.is at c.gather_head-used.ensures.got in
     if_err c.take_message.result _
-    (head_awaits c.args.self.now c.in-Head.part c.gather_head-used.result.0 c.args.bytes.now c.in-Got.head c.in-Head.is got.1
+    (head_awaits c.args.self.now c.in-Head.part c.gather_head-used.result.0 c.args.bytes.now
+    c.in-Got.head c.in-Head.is got.1
     c.gather_head-used.ensures.used.0 c.gather_head-used.ensures.used.1)
 
 pub returns-in-Bad-clause-place : goal.returns-in-Bad-clause-place

@@ -11,7 +11,8 @@ returns-in-Some-clause-fed c =
     let alone = c.in-Some.ensures in
     let all : take (length bytes) bytes ≡ bytes = take_all (length bytes) bytes (omega arith) in
     rw all (step_fed c.args.self.now c.begin_message.new.self bytes None
-    (λ _ serving screen. request_taken serving screen c.args.self.now c.request.new.self c.begin_message.new.self alone.0 bytes c.in-Some.incremental c.in-Some.rect alone.1 alone.2 c.request.ensures c.begin_message.ensures))
+    (λ _ serving screen. request_taken serving screen c.args.self.now c.request.new.self c.begin_message.new.self
+    alone.0 bytes c.in-Some.incremental c.in-Some.rect alone.1 alone.2 c.request.ensures c.begin_message.ensures))
 
 pub returns-in-Some-clause-up : goal.returns-in-Some-clause-up
 returns-in-Some-clause-up c =

@@ -1,4 +1,5 @@
-use Rattle.std.proofs.Common.{rules, ◌≡◌, ◌∙◌, ◌++◌, ◌-◌, ◌<◌, ℕ, ℤ, List, length, take, refl, sym, ap, length-append, arith}
+use Rattle.std.proofs.Common.{rules, ◌≡◌, ◌∙◌, ◌++◌, ◌-◌, ◌<◌, ℕ, ℤ, List, length, take, refl, sym, ap, length-append}
+use Rattle.std.proofs.Common.{arith}
 use Rattle.std.proofs.lemmas.List.{length-take-le, take_all}
 use Rattle.std.specs.Int.{w32}
 use Rattle.std.proofs.lemmas.Int.{to_z-of_z}
@@ -17,10 +18,13 @@ returns-then-bytes-missing-clause-steps c = λ _ serving screen.
     let number = c.in-Encodings.number in
     let all : take (length bytes) bytes ≡ bytes = take_all (length bytes) bytes (omega arith) in
     let len : c.len-missing.result ≡ length number.items = search rules in
-    let longer : c.append.new.kept.items ≡ number.items ++ take (length bytes) bytes = c.append.ensures.items ∙ ap (λ (ys : List ℕ). number.items ++ ys) (sym all) in
+    let longer : c.append.new.kept.items ≡ number.items ++ take (length bytes) bytes =
+    c.append.ensures.items ∙ ap (λ (ys : List ℕ). number.items ++ ys) (sym all) in
     let few : length c.append.new.kept.items < 4 =
-    let size = ap length c.append.ensures.items ∙ length-append number.items bytes in omega (arith, size, len, c.if-bytes-missing.true) in
-    number_part serving screen c.args.self.now _ c.in-Encodings.left number c.append.new.kept c.in-Encodings.list (take (length bytes) bytes) c.in-Encodings.is refl
+    let size = ap length c.append.ensures.items ∙ length-append number.items bytes in
+    omega (arith, size, len, c.if-bytes-missing.true) in
+    number_part serving screen c.args.self.now _ c.in-Encodings.left number c.append.new.kept c.in-Encodings.list
+    (take (length bytes) bytes) c.in-Encodings.is refl
     (record { setup = refl; text_limit = refl; format = refl; encodings = refl; known = refl; area = refl }) longer few
 
 pub returns-then-left-gt1-clause-steps : goal.returns-then-left-gt1-clause-steps
@@ -32,12 +36,18 @@ returns-then-left-gt1-clause-steps c = λ _ serving screen.
     let len : c.len-missing.result ≡ length number.items = search rules in
     let short : length number.items < 4 = search rules in
     let size : length (number.items ++ unit) ≡ 4 =
-    let front = length-take-le missing bytes c.if-bytes-missing.false in omega (arith, length-append number.items unit, front, len, short) in
-    let value : c.read_i32.result ≡ s32_at 0 (number.items ++ unit) = c.read_i32.ensures ∙ ap (λ (ys : List ℕ). s32_at 0 ys) (c.as_slice.ensures.value ∙ c.append-2.ensures.items) in
-    let listed : c.add_number.new.list ≡ with_encoding c.in-Encodings.list (encoding_of (s32_at 0 (number.items ++ unit))) =
-    c.add_number.ensures ∙ ap (λ (n : ℤ). with_encoding c.in-Encodings.list (encoding_of n)) (to_z-of_z w32 c.read_i32.result (search rules) ∙ value) in
-    number_more serving screen c.args.self.now _ c.in-Encodings.left (c.in-Encodings.left - 1) number c.clear.new.self c.in-Encodings.list c.add_number.new.list unit c.in-Encodings.is refl
-    (record { setup = refl; text_limit = refl; format = refl; encodings = refl; known = refl; area = refl }) size (omega (arith, c.if-left-gt1.true)) (omega (arith, c.if-left-gt1.true)) (search rules) listed
+    let front = length-take-le missing bytes c.if-bytes-missing.false in
+    omega (arith, length-append number.items unit, front, len, short) in
+    let value : c.read_i32.result ≡ s32_at 0 (number.items ++ unit) =
+    c.read_i32.ensures ∙ ap (λ (ys : List ℕ). s32_at 0 ys) (c.as_slice.ensures.value ∙ c.append-2.ensures.items) in
+    let listed : c.add_number.new.list
+    ≡ with_encoding c.in-Encodings.list (encoding_of (s32_at 0 (number.items ++ unit))) =
+    c.add_number.ensures ∙ ap (λ (n : ℤ). with_encoding c.in-Encodings.list (encoding_of n))
+    (to_z-of_z w32 c.read_i32.result (search rules) ∙ value) in
+    number_more serving screen c.args.self.now _ c.in-Encodings.left (c.in-Encodings.left - 1) number c.clear.new.self
+    c.in-Encodings.list c.add_number.new.list unit c.in-Encodings.is refl
+    (record { setup = refl; text_limit = refl; format = refl; encodings = refl; known = refl; area = refl }) size
+    (omega (arith, c.if-left-gt1.true)) (omega (arith, c.if-left-gt1.true)) (search rules) listed
 
 pub returns-clause-steps : goal.returns-clause-steps
 returns-clause-steps c = λ _ serving screen.
@@ -49,11 +59,17 @@ returns-clause-steps c = λ _ serving screen.
     let short : length number.items < 4 = search rules in
     let some : 0 < c.in-Encodings.left = search rules in
     let size : length (number.items ++ unit) ≡ 4 =
-    let front = length-take-le missing bytes c.if-bytes-missing.false in omega (arith, length-append number.items unit, front, len, short) in
-    let value : c.read_i32.result ≡ s32_at 0 (number.items ++ unit) = c.read_i32.ensures ∙ ap (λ (ys : List ℕ). s32_at 0 ys) (c.as_slice.ensures.value ∙ c.append-2.ensures.items) in
+    let front = length-take-le missing bytes c.if-bytes-missing.false in
+    omega (arith, length-append number.items unit, front, len, short) in
+    let value : c.read_i32.result ≡ s32_at 0 (number.items ++ unit) =
+    c.read_i32.ensures ∙ ap (λ (ys : List ℕ). s32_at 0 ys) (c.as_slice.ensures.value ∙ c.append-2.ensures.items) in
     let same = c.replace-whole.ensures.value in
     let list : c.in-Encodings-whole.list ≡ c.add_number.new.list = cc in
-    let listed : c.in-Encodings-whole.list ≡ with_encoding c.in-Encodings.list (encoding_of (s32_at 0 (number.items ++ unit))) =
-    list ∙ c.add_number.ensures ∙ ap (λ (n : ℤ). with_encoding c.in-Encodings.list (encoding_of n)) (to_z-of_z w32 c.read_i32.result (search rules) ∙ value) in
-    number_last serving screen c.args.self.now _ c.in-Encodings.left number c.in-Encodings.list unit c.in-Encodings.is (c.replace-whole.ensures.after ∙ ap (λ (ys : List ℕ). Head (as_reply ys)) c.new.ensures)
-    (up_same c.args.self.now _ refl refl refl refl refl refl refl) refl refl refl size (omega (arith, c.if-left-gt1.false, some)) listed
+    let listed : c.in-Encodings-whole.list
+    ≡ with_encoding c.in-Encodings.list (encoding_of (s32_at 0 (number.items ++ unit))) =
+    list ∙ c.add_number.ensures ∙ ap (λ (n : ℤ). with_encoding c.in-Encodings.list (encoding_of n))
+    (to_z-of_z w32 c.read_i32.result (search rules) ∙ value) in
+    number_last serving screen c.args.self.now _ c.in-Encodings.left number c.in-Encodings.list unit c.in-Encodings.is
+    (c.replace-whole.ensures.after ∙ ap (λ (ys : List ℕ). Head (as_reply ys)) c.new.ensures)
+    (up_same c.args.self.now _ refl refl refl refl refl refl refl refl) refl refl refl size
+    (omega (arith, c.if-left-gt1.false, some)) listed

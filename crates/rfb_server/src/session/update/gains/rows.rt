@@ -117,7 +117,7 @@ impl Session {
     }
 
     // The same where the wanted pixels are given: those that are known, and have them.
-    fn before_by(&self, screen: &Picture<Colour>, part: Hint, wanted: &[u32]) -> u32
+    pub(super) fn before_by(&self, screen: &Picture<Colour>, part: Hint, wanted: &[u32]) -> u32
         requires about { Follows screen.now self.now }
         requires copy { MayCopy self.now.known part }
         requires single { part.to.h ≡ 1 }
@@ -186,8 +186,8 @@ impl Session {
     }
 }
 
-// The copy of the columns of a row from one up to another.
-fn part_of(row: Hint, from: u16, to: u16) -> Hint
+/// The copy of the columns of a row from one up to another.
+pub(super) fn part_of(row: Hint, from: u16, to: u16) -> Hint
     requires from { row.to.x ≤ from }
     requires order { from ≤ to }
     requires last { row.sx + (from - row.to.x) ≤ 4096 }

@@ -23,6 +23,7 @@ returns-in-Ok-clause-takes c = record {
         area = refl;
         marks = refl;
         hints = refl;
+        claim = refl;
       })
       (c.in-Ok.ensures.fed serving.hello));
 }

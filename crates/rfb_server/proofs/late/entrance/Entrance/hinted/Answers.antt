@@ -1,16 +1,18 @@
-use Rattle.std.proofs.Common.{◌∙◌, rules}
+use Rattle.std.proofs.Common.{refl, ◌∙◌, rules}
+use Rattle.rfb_server.proofs.ClaimLemmas.{nothing_claimed}
 use Rattle.rfb_server.proofs.EnteringLemmas.{caught_untouched}
 use Rattle.rfb_server.proofs.late.entrance.Entrance.hinted.Goals as goal
 
 pub returns-in-Some : goal.returns-in-Some
 returns-in-Some c = record {
-  follows = λ before after follows whole outside. record {
-    whole = whole;
+  follows = λ before after follows told. record {
+    whole = told.whole;
     alike = record {
-      columns = outside.columns ∙ follows.alike.columns;
-      rows = outside.rows ∙ follows.alike.rows;
+      columns = told.outside.columns ∙ follows.alike.columns;
+      rows = told.outside.rows ∙ follows.alike.rows;
     };
     caught_up = caught_untouched c.args.self.now.width c.args.self.now.height after _ _ _;
+    claimed = nothing_claimed _ _ _ _ refl;
   };
   kept = search rules;
   hints = search rules;
@@ -18,13 +20,14 @@ returns-in-Some c = record {
 
 pub returns-in_default : goal.returns-in_default
 returns-in_default c = record {
-  follows = λ before after follows whole outside. record {
-    whole = whole;
+  follows = λ before after follows told. record {
+    whole = told.whole;
     alike = record {
-      columns = outside.columns ∙ follows.alike.columns;
-      rows = outside.rows ∙ follows.alike.rows;
+      columns = told.outside.columns ∙ follows.alike.columns;
+      rows = told.outside.rows ∙ follows.alike.rows;
     };
     caught_up = caught_untouched c.args.self.now.width c.args.self.now.height after _ _ _;
+    claimed = nothing_claimed _ _ _ _ refl;
   };
   kept = search rules;
   hints = search rules;

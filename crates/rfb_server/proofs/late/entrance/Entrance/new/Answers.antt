@@ -1,6 +1,7 @@
-use Rattle.std.proofs.Common.{ap, sym, ◌∙◌, rules}
+use Rattle.std.proofs.Common.{ap, sym, refl, ◌∙◌, rules}
 use Rattle.rfb_picture.proofs.GridLaws.{width-uniform, height-uniform}
 use Rattle.rfb_hello.proofs.StandingLaws.{server_stands}
+use Rattle.rfb_server.proofs.ClaimLemmas.{nothing_claimed}
 use Rattle.rfb_server.proofs.EnteringLemmas.{alike_untouched, caught_untouched}
 use Rattle.rfb_server.proofs.late.entrance.Entrance.new.Goals as goal
 
@@ -21,6 +22,7 @@ returns c = record {
       rows = high ∙ sym (height-uniform _ _ _);
     };
     caught_up = caught_untouched c.args.setup.width c.args.setup.height screen _ _ _;
+    claimed = nothing_claimed _ _ _ _ refl;
   };
   hints = search rules;
 }

@@ -7,5 +7,6 @@ use Rattle.rfb_server.proofs.session.input.encodings.add_number.Goals as goal
 
 pub returns-in_default : goal.returns-in_default
 returns-in_default c =
-    let none : IsNoEncoding c.args.number = subst IsNoEncoding (to_z-of_z w32 c.args.number (search rules)) c.in_default.ensures.1.1 in
+    let none : IsNoEncoding c.args.number =
+    subst IsNoEncoding (to_z-of_z w32 c.args.number (search rules)) c.in_default.ensures.1.1 in
     rw (encoding_none c.args.number none) refl

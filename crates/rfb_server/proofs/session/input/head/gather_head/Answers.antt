@@ -1,4 +1,5 @@
-use Rattle.std.proofs.Common.{rules, ◌≡◌, ◌∙◌, ◌++◌, ◌-◌, ◌≤◌, List, ℕ, length, take, min, refl, sym, ap, subst, true, arith}
+use Rattle.std.proofs.Common.{rules, ◌≡◌, ◌∙◌, ◌++◌, ◌-◌, ◌≤◌, List, ℕ, length, take, min, refl, sym, ap, subst, true}
+use Rattle.std.proofs.Common.{arith}
 use Rattle.std.proofs.lemmas.Grind.{common_steps}
 use Rattle.std.proofs.lemmas.List.{take_all}
 use Rattle.rfb_wire.specs.ClientHead.{SpellsClientHead}
@@ -13,10 +14,14 @@ append-requires-in-More c =
     let bytes = c.args.bytes.now in
     let few = begun_short part c.requires.partial in
     let len : c.len-room.result ≡ length part = search rules in
-    let k : c.min.result ≡ min (length bytes) (20 - length part) = c.min.ensures ∙ ap (λ (n : ℕ). min (length bytes) (20 - n)) len in
+    let k : c.min.result ≡ min (length bytes) (20 - length part) =
+    c.min.ensures ∙ ap (λ (n : ℕ). min (length bytes) (20 - n)) len in
     let all : c.as_slice-2.result.now ≡ part ++ take c.min.result bytes =
-    c.as_slice-2.ensures.value ∙ c.append-2.ensures.items ∙ ap (λ (ys : List ℕ). ys ++ take c.min.result bytes) (c.append.ensures.items ∙ ap (λ (ys : List ℕ). ys ++ c.as_slice.result.now) c.new-head.ensures ∙ c.as_slice.ensures.value) in
-    let more = gathered_more part bytes c.as_slice-2.result.now c.in-More.missing c.min.result few k all c.in-More.ensures.more in
+    c.as_slice-2.ensures.value ∙ c.append-2.ensures.items
+    ∙ ap (λ (ys : List ℕ). ys ++ take c.min.result bytes) (c.append.ensures.items
+    ∙ ap (λ (ys : List ℕ). ys ++ c.as_slice.result.now) c.new-head.ensures ∙ c.as_slice.ensures.value) in
+    let more = gathered_more part bytes c.as_slice-2.result.now c.in-More.missing c.min.result few
+    k all c.in-More.ensures.more in
     search (rules, more.0)
 
 pub returns-in-More-clause-more : goal.returns-in-More-clause-more
@@ -25,12 +30,17 @@ returns-in-More-clause-more c =
     let bytes = c.args.bytes.now in
     let few = begun_short part c.requires.partial in
     let len : c.len-room.result ≡ length part = search rules in
-    let k : c.min.result ≡ min (length bytes) (20 - length part) = c.min.ensures ∙ ap (λ (n : ℕ). min (length bytes) (20 - n)) len in
+    let k : c.min.result ≡ min (length bytes) (20 - length part) =
+    c.min.ensures ∙ ap (λ (n : ℕ). min (length bytes) (20 - n)) len in
     let all : c.as_slice-2.result.now ≡ part ++ take c.min.result bytes =
-    c.as_slice-2.ensures.value ∙ c.append-2.ensures.items ∙ ap (λ (ys : List ℕ). ys ++ take c.min.result bytes) (c.append.ensures.items ∙ ap (λ (ys : List ℕ). ys ++ c.as_slice.result.now) c.new-head.ensures ∙ c.as_slice.ensures.value) in
-    let more = gathered_more part bytes c.as_slice-2.result.now c.in-More.missing c.min.result few k all c.in-More.ensures.more in
+    c.as_slice-2.ensures.value ∙ c.append-2.ensures.items
+    ∙ ap (λ (ys : List ℕ). ys ++ take c.min.result bytes) (c.append.ensures.items
+    ∙ ap (λ (ys : List ℕ). ys ++ c.as_slice.result.now) c.new-head.ensures ∙ c.as_slice.ensures.value) in
+    let more = gathered_more part bytes c.as_slice-2.result.now c.in-More.missing c.min.result few
+    k all c.in-More.ensures.more in
     let longer : c.append-in-More.new.kept.items ≡ part ++ take (length bytes) bytes =
-    c.append-in-More.ensures.items ∙ ap (λ (ys : List ℕ). part ++ ys) (sym (take_all (length bytes) bytes (omega arith))) in
+    c.append-in-More.ensures.items
+    ∙ ap (λ (ys : List ℕ). part ++ ys) (sym (take_all (length bytes) bytes (omega arith))) in
     (longer, subst (λ (zs : List ℕ). is_head_begun zs ≡ true) (more.1 ∙ sym longer) more.2)
 
 pub returns-in-Got-clause-got : goal.returns-in-Got-clause-got
@@ -40,8 +50,11 @@ returns-in-Got-clause-got c =
     let len : c.len.result ≡ length part = search rules in
     let within : c.min.result ≤ length bytes = omega (arith, c.min.ensures) in
     let all : c.as_slice-2.result.now ≡ part ++ take c.min.result bytes =
-    c.as_slice-2.ensures.value ∙ c.append-2.ensures.items ∙ ap (λ (ys : List ℕ). ys ++ take c.min.result bytes) (c.append.ensures.items ∙ ap (λ (ys : List ℕ). ys ++ c.as_slice.result.now) c.new-head.ensures ∙ c.as_slice.ensures.value) in
-    let got = gathered_got part bytes c.as_slice-2.result.now c.min.result c.in-Got.size c.in-Got.whole c.requires.partial within all c.in-Got.ensures.got.0 c.in-Got.ensures.got.1 in
+    c.as_slice-2.ensures.value ∙ c.append-2.ensures.items
+    ∙ ap (λ (ys : List ℕ). ys ++ take c.min.result bytes) (c.append.ensures.items
+    ∙ ap (λ (ys : List ℕ). ys ++ c.as_slice.result.now) c.new-head.ensures ∙ c.as_slice.ensures.value) in
+    let got = gathered_got part bytes c.as_slice-2.result.now c.min.result c.in-Got.size c.in-Got.whole
+    c.requires.partial within all c.in-Got.ensures.got.0 c.in-Got.ensures.got.1 in
     (refl, rw len got.2)
 
 pub returns-in-Bad-clause-bad : goal.returns-in-Bad-clause-bad
@@ -49,8 +62,11 @@ returns-in-Bad-clause-bad c =
     let part = c.args.part.now.items in
     let bytes = c.args.bytes.now in
     let all : c.as_slice-2.result.now ≡ part ++ take c.min.result bytes =
-    c.as_slice-2.ensures.value ∙ c.append-2.ensures.items ∙ ap (λ (ys : List ℕ). ys ++ take c.min.result bytes) (c.append.ensures.items ∙ ap (λ (ys : List ℕ). ys ++ c.as_slice.result.now) c.new-head.ensures ∙ c.as_slice.ensures.value) in
-    let bad = bad_type c.in-Bad.fault part bytes c.min.result c.requires.partial (subst (λ (zs : List ℕ). IsUnknown SpellsClientHead c.in-Bad.fault zs) all c.in-Bad.ensures.bad) in
+    c.as_slice-2.ensures.value ∙ c.append-2.ensures.items
+    ∙ ap (λ (ys : List ℕ). ys ++ take c.min.result bytes) (c.append.ensures.items
+    ∙ ap (λ (ys : List ℕ). ys ++ c.as_slice.result.now) c.new-head.ensures ∙ c.as_slice.ensures.value) in
+    let bad = bad_type c.in-Bad.fault part bytes c.min.result c.requires.partial
+    (subst (λ (zs : List ℕ). IsUnknown SpellsClientHead c.in-Bad.fault zs) all c.in-Bad.ensures.bad) in
     (refl, bad.0, bad.1, bad.2)
 
 pub overflow_sub-result : goal.overflow_sub-result

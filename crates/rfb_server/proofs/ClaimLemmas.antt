@@ -1,0 +1,159 @@
+-- What a session claims of its screen.
+use Rattle.std.proofs.Common.{◌≡◌, ℕ, ◌+◌, ◌-◌, ◌<◌, ◌≤◌, ◌&&◌, Bool, true, false, not, nat_le, nat_lt, Option, Some}
+use Rattle.std.proofs.Common.{None, refl, ◌∙◌, arith}
+use Rattle.std.proofs.lemmas.Bool.{both_ways}
+use Rattle.std.proofs.lemmas.Bool.Decides.{nat_tests}
+use Rattle.rfb_pixel.specs.declared.colour.Colour.{Colour}
+use Rattle.rfb_pixel.specs.Format.{PixelFormat}
+use Rattle.rfb_picture.specs.declared.rect.Rect.{Rect}
+use Rattle.rfb_picture.specs.Rect.{contains}
+use Rattle.rfb_picture.specs.Box.{is_in, IsBox, IsClear}
+use Rattle.rfb_picture.specs.Grid.{Grid, Holds, at_or, copied}
+use Rattle.rfb_codec.specs.RectData.{moved_to}
+use Rattle.rfb_picture.proofs.CopyLaws.{at-copied}
+use Rattle.rfb_picture.proofs.GridLaws.{contains_true, contains_row}
+use Rattle.rfb_server.specs.declared.claim.Claim.{Claim}
+use Rattle.rfb_server.specs.declared.session.Session.{Session}
+use Rattle.rfb_server.specs.declared.hint.Hint.{Hint}
+use Rattle.rfb_server.specs.Claims.{IsTrue, IsClaimed, IsOfCopy, has_row, is_stale, is_claimed}
+use Rattle.rfb_server.specs.Request.{wanted_at}
+use Rattle.rfb_server.specs.Server.{black}
+use Rattle.rfb_server.specs.Following.{Follows, IsSameOutside}
+
+-- nothing is claimed
+pub nothing_claimed : (screen : Grid Colour) (known : Grid (Option ℕ)) (form : PixelFormat)
+    (claim : Option Claim) → claim ≡ None → IsClaimed screen known form claim
+nothing_claimed screen known form claim none = λ c some. absurd (apart claim c none some)
+  where
+    apart : (claim : Option Claim) (c : Claim) → claim ≡ None → claim ≡ Some c → ⊥
+    apart None c none some = let both : None ≡ Some c = some in cc
+    apart (Some d) c none some = let both : Some d ≡ None = none in cc
+
+-- ---- a copy that is drawn
+
+module _ (p : ℕ → ℕ → Bool) (copy : Hint) (row h x y : ℕ)
+    (inside : contains copy.to x y ≡ true) (top : copy.to.y + row ≤ y) (bottom : y < copy.to.y + (row + h)) where
+  abbrev band : Rect
+  band = record { x = copy.sx; y = copy.sy + row; w = copy.to.w; h = h }
+
+  -- the source lies in the band of that row
+  in_band : contains band (copy.sx + (x - copy.to.x)) (copy.sy + (y - copy.to.y)) ≡ true
+  in_band =
+      let (a, b, c, d) = contains_true copy.to x y inside in
+      contains_row band (copy.sx + (x - copy.to.x)) (copy.sy + (y - copy.to.y)) (omega arith)
+      (omega arith) (omega arith) (omega arith)
+
+  -- a band without a mark
+  pub clear_band : IsClear p band.x (band.x + band.w) band.y (band.y + band.h) →
+      p (copy.sx + (x - copy.to.x)) (copy.sy + (y - copy.to.y)) ≡ false
+  clear_band clear =
+      let (a, b, c, d) = contains_true copy.to x y inside in
+      clear (copy.sx + (x - copy.to.x)) (copy.sy + (y - copy.to.y)) (omega arith)
+      (omega arith) (omega arith) (omega arith)
+
+  -- a band whose marks lie in a rectangle: the rows of that one are stale
+  pub boxed_band : (r : Rect) → IsBox p band r →
+      has_row (record { first = copy.to.y + (r.y - copy.sy); end = copy.to.y + (r.y - copy.sy) + r.h }) y ≡ false →
+      p (copy.sx + (x - copy.to.x)) (copy.sy + (y - copy.to.y)) ≡ false
+  boxed_band r box fresh = by (p (copy.sx + (x - copy.to.x)) (copy.sy + (y - copy.to.y))) refl
+    where
+      by : (marked : Bool) → p (copy.sx + (x - copy.to.x)) (copy.sy + (y - copy.to.y)) ≡ marked → marked ≡ false
+      by false e = refl
+      by true e =
+          let held = box.holds (copy.sx + (x - copy.to.x)) (copy.sy + (y - copy.to.y)) in_band e in
+          let (a, b, c, d) = contains_true r (copy.sx + (x - copy.to.x)) (copy.sy + (y - copy.to.y)) held in
+          let top_of = box.within in
+          absurd (row_of (copy.to.y + (r.y - copy.sy)) r.h (omega (arith, a, b, c, d, box.within.2))
+          (omega (arith, a, b, c, d, box.within.2)) fresh)
+        where
+          row_of : (first n : ℕ) → first ≤ y → y < first + n →
+              has_row (record { first = first; end = first + n }) y ≡ false → ⊥
+          row_of first n above below none =
+              let some : has_row (record { first = first; end = first + n }) y ≡ true = grind (arith, nat_tests) in
+              both_ways (has_row (record { first = first; end = first + n }) y) none some
+
+claimed_by : (a b stale : Bool) → (a && b && not stale) ≡ true → (a ≡ true) × (b ≡ true) × (stale ≡ false)
+claimed_by true true true e = absurd (both_ways false refl e)
+claimed_by true true false e = (refl, refl, refl)
+claimed_by true false stale e = absurd (both_ways false refl e)
+claimed_by false b stale e = absurd (both_ways false refl e)
+
+-- a row that is claimed is one of the rectangle's, and is not stale
+pub claimed_row : (claim : Claim) (y : ℕ) → is_claimed claim y ≡ true →
+    (claim.to.y ≤ y) × (y < claim.to.y + claim.to.h) × (is_stale claim.stale y ≡ false)
+claimed_row claim y e =
+    let (a, b, c) = claimed_by (nat_le claim.to.y y) (nat_lt y (claim.to.y + claim.to.h)) (is_stale claim.stale y) e in
+    (grind (arith, nat_tests), grind (arith, nat_tests), c)
+
+pub row_claimed : (claim : Claim) (y : ℕ) → claim.to.y ≤ y → y < claim.to.y + claim.to.h →
+    is_stale claim.stale y ≡ false → is_claimed claim y ≡ true
+row_claimed claim y above below fresh =
+    let a : nat_le claim.to.y y ≡ true = grind (arith, nat_tests) in
+    let b : nat_lt y (claim.to.y + claim.to.h) ≡ true = grind (arith, nat_tests) in
+    rw (a, b, fresh) refl
+
+-- what lies in a copy's source was known, where it has no mark: so the copy's place shows that
+pub copy_claimed : (session : Session) (before after : Grid Colour) (copy : Hint) (claim : Claim) →
+    Follows before session → after ≡ copied copy.to copy.sx copy.sy before →
+    Holds session.known copy.to → Holds session.known (moved_to copy.sx copy.sy copy.to) →
+    IsOfCopy copy claim →
+    ((x y : ℕ) → contains copy.to x y ≡ true → is_stale claim.stale y ≡ false →
+    is_in session.marks (copy.sx + (x - copy.to.x)) (copy.sy + (y - copy.to.y)) ≡ false) →
+    IsTrue after session.known session.format claim
+copy_claimed session before after copy claim follows is target source of unmarked = record {
+  target = rw of.to target;
+  source = rw (of.to, of.column, of.row) source;
+  shown = λ x y left right claimed.
+      rw (of.to, of.column, of.row) (shown x y (rw of.to at left) (rw of.to at right) claimed);
+}
+  where
+    shown : (x y : ℕ) → copy.to.x ≤ x → x < copy.to.x + copy.to.w → is_claimed claim y ≡ true →
+        at_or session.known (copy.sx + (x - copy.to.x)) (copy.sy + (y - copy.to.y)) None
+        ≡ Some (wanted_at after session.format x y)
+    shown x y left right claimed =
+        let (above, below, fresh) = claimed_row claim y claimed in
+        let top : copy.to.y ≤ y = rw of.to at above in
+        let bottom : y < copy.to.y + copy.to.h = rw of.to at below in
+        let inside : contains copy.to x y ≡ true = contains_row copy.to x y left right top bottom in
+        let u = copy.sx + (x - copy.to.x) in
+        let v = copy.sy + (y - copy.to.y) in
+        let wide : u < session.known.width = omega (arith, source.0, left, right) in
+        let high : v < session.known.height = omega (arith, source.1, top, bottom) in
+        let known : at_or session.known u v None ≡ Some (wanted_at before session.format u v) =
+        follows.caught_up.right u v (rw session.alike.marks_wide wide) (rw session.alike.marks_high high)
+        (unmarked x y inside fresh) in
+        let size = follows.alike in
+        let drawn : at_or after x y black ≡ at_or before u v black =
+        rw is
+        (at-copied copy.to copy.sx copy.sy before x y black follows.whole
+        (rw (size.columns) source.0, rw (size.rows) source.1)
+        (omega (arith, target.0, right, size.columns)) (omega (arith, target.1, bottom, size.rows))
+        ∙ (rw inside refl)) in
+        rw drawn known
+
+-- what is drawn elsewhere, or makes its rows stale, leaves a claim true
+pub hit_claimed : (session : Session) (before after : Grid Colour) (area : Rect) (old new : Claim) →
+    Follows before session → IsSameOutside area before after → IsTrue before session.known session.format old →
+    new.to ≡ old.to → new.sx ≡ old.sx → new.sy ≡ old.sy →
+    ((x y : ℕ) → contains old.to x y ≡ true → is_stale new.stale y ≡ false →
+    (is_stale old.stale y ≡ false) × (contains area x y ≡ false)) →
+    IsTrue after session.known session.format new
+hit_claimed session before after area old new follows outside claimed to column row fresh = record {
+  target = rw to claimed.target;
+  source = rw (to, column, row) claimed.source;
+  shown = λ x y left right is. rw (to, column, row) (shown x y (rw to at left) (rw to at right) is);
+}
+  where
+    shown : (x y : ℕ) → old.to.x ≤ x → x < old.to.x + old.to.w → is_claimed new y ≡ true →
+        at_or session.known (old.sx + (x - old.to.x)) (old.sy + (y - old.to.y)) None
+        ≡ Some (wanted_at after session.format x y)
+    shown x y left right is =
+        let (above, below, clear) = claimed_row new y is in
+        let top : old.to.y ≤ y = rw to at above in
+        let bottom : y < old.to.y + old.to.h = rw to at below in
+        let both = fresh x y (contains_row old.to x y left right top bottom) clear in
+        let was : is_claimed old y ≡ true = row_claimed old y top bottom both.0 in
+        let size = follows.alike in
+        let wide : x < before.width = omega (arith, claimed.target.0, right, size.columns) in
+        let high : y < before.height = omega (arith, claimed.target.1, bottom, size.rows) in
+        rw (outside.same x y wide high both.1) (claimed.shown x y left right was)
