@@ -6,7 +6,7 @@ use Rattle.rfb_server.specs.Following.{Follows, IsTold}
 use Rattle.rfb_server.specs.Hints.{hints_in}
 use Rattle.rfb_server.specs.Server.{Serving}
 use Rattle.rfb_server.specs.declared.drawing.notice.Notice.{Notice}
-use Rattle.rfb_server.specs.Drawing.{area_told, hint_told, with_hint_of}
+use Rattle.rfb_server.specs.Drawing.{hint_told, with_hint_of}
 use Rattle.rfb_server.specs.Standing.{KeepsSession}
 use Rattle.rfb_server.specs.Updating.{OwesUpdate}
 use Rattle.rfb_viewer.specs.Standing.{viewing_with}

@@ -13,7 +13,7 @@ use Rattle.rfb_server.specs.Hints.{hints_in}
 use Rattle.rfb_server.specs.Room.{update_room}
 use Rattle.rfb_server.specs.Server.{Serving, server, first_server}
 use Rattle.rfb_server.specs.declared.drawing.notice.Notice.{Notice}
-use Rattle.rfb_server.specs.Drawing.{area_told, hint_told, with_hint_of}
+use Rattle.rfb_server.specs.Drawing.{hint_told, with_hint_of}
 use Rattle.rfb_server.specs.Standing.{SessionStandsFor, session_fault, session_serving}
 use Rattle.rfb_server.specs.Standing.{KeepsSession, with_screen}
 use Rattle.rfb_server.specs.Told.{ServerTold}
