@@ -126,12 +126,29 @@ def corners(width, height):
     return lines
 
 
-def character(width, height):
+def letter(x, y):
     """A letter of 8 by 14 on white: five strokes."""
-    x, y = width // 2 + 5, height // 2 + 5
     strokes = [(0, 0, 8, 14, "ffffff"), (1, 2, 1, 10, "000000"), (6, 2, 1, 10, "000000")]
     strokes += [(2, 1, 4, 1, "000000"), (2, 6, 4, 1, "000000")]
     return [f"fill {x + a} {y + b} {w} {h} {colour}" for a, b, w, h, colour in strokes]
+
+
+def character(width, height):
+    """One such letter."""
+    return letter(width // 2 + 5, height // 2 + 5)
+
+
+def pointed(width, height):
+    """The screen moves up by a row, and a place is drawn over it."""
+    return scroll(width, height, 1) + [f"fill {width // 3} {height // 3} 1 1 a0b0c0"]
+
+
+def line(width, height, count):
+    """The screen moves up by a text line, which gets that many letters."""
+    lines = scroll(width, height, 16)
+    for at in range(count):
+        lines += letter(10 * at + 3, height - 15)
+    return lines
 
 
 def changes(width, height):
@@ -142,6 +159,9 @@ def changes(width, height):
         ("begun", [f"{place} 010203"]),
         ("a scroll by one row", scroll(width, height, 1)),
         ("a scroll by a text line", scroll(width, height, 16)),
+        ("a scroll by one row, a place drawn over it", pointed(width, height)),
+        ("a console's line of 80 letters", line(width, height, 80)),
+        ("two such lines, of 80 and 50", line(width, height, 80) + line(width, height, 50)),
         ("a moved window", window(width, height)),
         ("a part of 400 by 300 copied", moved(width - 500, 77, 400, 300, 33, height - 350)),
         ("corners of every cell", corners(width, height)),
