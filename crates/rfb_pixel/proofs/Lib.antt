@@ -11,6 +11,7 @@ mod PackLemmas
 mod CountLemmas
 mod DifferingLemmas
 mod Pack565Lemmas
+mod Pack233Lemmas
 mod Unpack565Lemmas
 mod Unpack233Lemmas
 mod Pack888Lemmas

@@ -13,7 +13,7 @@ mod rgb565;
 mod rgb888;
 mod widening;
 
-pub use bgr233::unpack_eight_bgr233;
+pub use bgr233::{pack_eight_bgr233, unpack_eight_bgr233};
 pub use rgb565::{pack_eight_rgb565, unpack_eight_rgb565};
 pub use rgb888::{pack_eight_rgb888, unpack_eight_rgb888};
 pub use widening::widen_eight;

@@ -8,8 +8,8 @@ ghost use Rattle.rfb_pixel.specs.inside.Lanes.{ArePacked, AreUnpacked};
 use crate::colour::Colour;
 use crate::format::Format;
 use crate::lanes::{
-    LANES, pack_eight_rgb565, pack_eight_rgb888, unpack_eight_bgr233, unpack_eight_rgb565,
-    unpack_eight_rgb888,
+    LANES, pack_eight_bgr233, pack_eight_rgb565, pack_eight_rgb888, unpack_eight_bgr233,
+    unpack_eight_rgb565, unpack_eight_rgb888,
 };
 
 impl Format {
@@ -24,6 +24,8 @@ impl Format {
             pack_rgb888(colours, pixels);
         } else if *self == Format::rgb565() {
             pack_rgb565(colours, pixels);
+        } else if *self == Format::bgr233() {
+            pack_bgr233(colours, pixels);
         } else {
             pack_other(*self, colours, pixels);
         }
@@ -129,6 +131,25 @@ fn pack_rgb565(colours: &[Colour], pixels: &mut [u32])
         at += LANES;
     }
     pack_eight_rgb565(&colours[last..]).copy_to_slice(&mut pixels[last..]);
+}
+
+// The same in bgr233.
+fn pack_bgr233(colours: &[Colour], pixels: &mut [u32])
+    requires { length colours.now ≡ length pixels.old }
+    ensures value { pixels.new ≡ map (pixel_of bgr233) colours.now }
+    ensures bound { ArePixels bgr233 pixels.new }
+{
+    if colours.len() < LANES {
+        pack_other(Format::bgr233(), colours, pixels);
+        return;
+    }
+    let last = colours.len() - LANES;
+    let mut at = 0;
+    while at < last {
+        pack_eight_bgr233(&colours[at..at + LANES]).copy_to_slice(&mut pixels[at..]);
+        at += LANES;
+    }
+    pack_eight_bgr233(&colours[last..]).copy_to_slice(&mut pixels[last..]);
 }
 
 // Writes the colour of each pixel, by one loop for every format.
