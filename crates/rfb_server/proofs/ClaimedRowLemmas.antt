@@ -6,9 +6,10 @@ use Rattle.std.proofs.lemmas.Bool.Decides.{nat_tests}
 use Rattle.std.proofs.lemmas.List.{ext_get_or, get_or-map, length-map}
 use Rattle.rfb_pixel.specs.declared.colour.Colour.{Colour}
 use Rattle.rfb_pixel.specs.Format.{pixel_of}
-use Rattle.rfb_picture.specs.Grid.{Grid, row_of}
+use Rattle.rfb_picture.specs.Grid.{Grid, Holds, row_of}
 use Rattle.rfb_picture.specs.Rect.{contains}
 use Rattle.rfb_picture.proofs.GridLaws.{contains_true, length-row_of, slice_index_or-row_of}
+use Rattle.rfb_codec.specs.RectData.{moved_to}
 use Rattle.rfb_server.specs.declared.claim.Claim.{Claim}
 use Rattle.rfb_server.specs.declared.hint.Hint.{Hint}
 use Rattle.rfb_server.specs.declared.session.Session.{Session}
@@ -18,7 +19,7 @@ use Rattle.rfb_server.specs.Following.{Follows}
 use Rattle.rfb_server.specs.Record.{ShowsKnown}
 use Rattle.rfb_server.specs.Request.{wanted_at, differs}
 use Rattle.rfb_server.specs.Server.{black}
-use Rattle.rfb_server.specs.inside.Gains.{MayCopy, IsKnownRow, line, claims_row, counts}
+use Rattle.rfb_server.specs.inside.Gains.{IsKnownRow, line, claims_row, counts}
 use Rattle.rfb_server.specs.inside.Gains.{right_before, right_after, sum_where, won_by}
 use Rattle.rfb_server.proofs.CountLemmas.{row_same}
 use Rattle.rfb_server.proofs.RightRowsLemmas.{same_source}
@@ -86,7 +87,7 @@ module _ (screen : Grid Colour) (s : Session) (hint : Hint) (claim : Claim) (row
 -- ---- the source's row in a picture that shows what is known
 
 module _ (screen : Grid Colour) (s : Session) (part : Hint) (pixels : Grid ℕ)
-    (about : Follows screen s) (may : MayCopy s.known part) (single : part.to.h ≡ 1) where
+    (about : Follows screen s) (target : Holds s.known part.to) (single : part.to.h ≡ 1) where
   -- a place of the row of the wanted pixels
   wanted_in : (i : ℕ) → i < part.to.w →
       slice_index (map (pixel_of s.format) (row_of screen part.to.x part.to.y part.to.w)) i
@@ -94,36 +95,38 @@ module _ (screen : Grid Colour) (s : Session) (part : Hint) (pixels : Grid ℕ)
   wanted_in i l =
       let long : length (row_of screen part.to.x part.to.y part.to.w) ≡ part.to.w =
       length-row_of screen part.to.x part.to.y part.to.w about.whole
-      (omega (arith, may.target, about.alike)) (omega (arith, may.target, about.alike)) in
+      (omega (arith, target, about.alike)) (omega (arith, target, about.alike)) in
       get_or-map (pixel_of s.format) (row_of screen part.to.x part.to.y part.to.w) i black 0
       (omega arith)
       ∙ ap (pixel_of s.format)
       (slice_index_or-row_of screen part.to.x part.to.y part.to.w i black l)
 
   -- and one of the source's, where what is known of it is that
-  source_in : ShowsKnown s.known pixels → IsKnownRow screen s part → (i : ℕ) → i < part.to.w →
+  source_in : Holds s.known (moved_to part.sx part.sy part.to) → ShowsKnown s.known pixels →
+      IsKnownRow screen s part → (i : ℕ) → i < part.to.w →
       slice_index (row_of pixels part.sx part.sy part.to.w) i
       ≡ wanted_at screen s.format (part.to.x + i) part.to.y
-  source_in shown known i l =
+  source_in from shown known i l =
       let column : part.sx + (part.to.x + i - part.to.x) ≡ part.sx + i = omega arith in
       let there = rw column at (known (part.to.x + i) (omega arith) (omega arith)) in
       slice_index_or-row_of pixels part.sx part.sy part.to.w i 0 l
       ∙ shown (part.sx + i) part.sy (wanted_at screen s.format (part.to.x + i) part.to.y)
-      (omega (arith, may.source)) (omega (arith, may.source)) there
+      (omega (arith, from)) (omega (arith, from)) there
 
   -- so both are one row
-  pub source_is : (source : List ℕ) → ShowsKnown s.known pixels → IsKnownRow screen s part →
+  pub source_is : (source : List ℕ) → Holds s.known (moved_to part.sx part.sy part.to) →
+      ShowsKnown s.known pixels → IsKnownRow screen s part →
       source ≡ row_of pixels part.sx part.sy part.to.w → length source ≡ part.to.w →
       source ≡ map (pixel_of s.format) (row_of screen part.to.x part.to.y part.to.w)
-  source_is source shown known read long =
+  source_is source from shown known read long =
       let row = row_of screen part.to.x part.to.y part.to.w in
       let wide = length-map row (pixel_of s.format)
       ∙ length-row_of screen part.to.x part.to.y part.to.w about.whole
-      (omega (arith, may.target, about.alike)) (omega (arith, may.target, about.alike)) in
+      (omega (arith, target, about.alike)) (omega (arith, target, about.alike)) in
       ext_get_or 0 source (map (pixel_of s.format) row) (long ∙ sym wide)
       (λ i l.
       let low : i < part.to.w = omega arith in
-      ap (λ (xs : List ℕ). slice_index xs i) read ∙ source_in shown known i low
+      ap (λ (xs : List ℕ). slice_index xs i) read ∙ source_in from shown known i low
       ∙ sym (wanted_in i low))
 
 -- ---- places that are said to be right

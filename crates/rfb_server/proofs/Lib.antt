@@ -40,6 +40,8 @@ pub mod RightLemmas
 pub mod RightRowsLemmas
 pub mod CopyingLemmas
 pub mod UsingLemmas
+pub mod UselessLemmas
+pub mod WantedLemmas
 pub mod CopiedLemmas
 pub mod QuietLemmas
 mod NeedingBits

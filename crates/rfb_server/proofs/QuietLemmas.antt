@@ -1,6 +1,7 @@
 -- Places that need no sending.
 use Rattle.std.proofs.Common.{◌≡◌, ℕ, zero, suc, ◌+◌, ◌-◌, ◌*◌, ◌<◌, ◌≤◌, ◌&&◌, ◌||◌, Bool, true, false, not, List, []}
 use Rattle.std.proofs.Common.{◌∷◌, Option, Some, None, if◌then◌else◌, refl, sym, arith, inl, inr, ◌⊎◌}
+use Rattle.std.specs.Bool.{OnFalse}
 use Rattle.std.proofs.lemmas.Bool.{cases_lt, both_ways}
 use Rattle.std.proofs.lemmas.Bool.Decides.{nat_tests}
 use Rattle.rfb_pixel.specs.declared.colour.Colour.{Colour}
@@ -79,6 +80,28 @@ each_counts p r all x y c = by (p x y) refl
         let row : r.y + (y - r.y) ≡ y = omega arith in
         let none : p (r.x + (x - r.x)) (r.y + (y - r.y)) ≡ false = rw (column, row) e in
         absurd (omega (arith, all, short_rows p r.x r.y r.w r.h (x - r.x) (y - r.y) (omega arith) (omega arith) none))
+
+-- where all count for one rule, and no more do than for another, all count for that one
+all_count : (p q : ℕ → ℕ → Bool) (r : Rect) → count_in q r ≡ r.h * r.w →
+    (count_in p r < count_in q r → ⊥) → count_in p r ≡ r.h * r.w
+all_count p q r all no_more =
+    elim (cases_lt (count_in p r) (count_in q r)) [
+      | inl less ↦ absurd (no_more less)
+      | inr most ↦ omega (arith, all, most, rows_bound p r.x r.y r.w r.h)
+    ]
+
+-- so each place counts, of rows where all do for that rule: for the other one, if these are all rows
+pub rows_count : (p q : ℕ → ℕ → Bool) (r : Rect) (top : ℕ) (more : Bool) → top ≤ r.h →
+    count_rows q r.x r.y r.w top ≡ top * r.w → OnFalse more (count_in p r < count_in q r → ⊥) →
+    ((more ≡ false) × (r.h ≤ top)) ⊎ (more ≡ true) → (x y : ℕ) → contains (record r { h = top }) x y ≡ true →
+    (if more then q x y else p x y) ≡ true
+rows_count p q r top true within all no_more which x y here =
+    each_counts q (record r { h = top }) all x y here
+rows_count p q r top false within all no_more (inr is) x y here =
+    absurd (both_ways false refl is)
+rows_count p q r top false within all no_more (inl (is, last)) x y here =
+    let same : top ≡ r.h = omega arith in
+    each_counts p r (all_count p q r (rw same at all) no_more) x y (rw same at here)
 
 -- ---- quiet places
 

@@ -5,6 +5,7 @@ use Rattle.std.specs.List.{list_any}
 use Rattle.std.specs.Option.{ForSome}
 use Rattle.rfb_pixel.specs.declared.colour.Colour.{Colour}
 use Rattle.rfb_pixel.specs.Format.{PixelFormat}
+use Rattle.rfb_picture.specs.declared.rect.Rect.{Rect}
 use Rattle.rfb_picture.specs.Rect.{contains}
 use Rattle.rfb_picture.specs.Grid.{Grid, Holds, at_or}
 use Rattle.rfb_codec.specs.RectData.{moved_to}
@@ -39,6 +40,14 @@ pub record IsAsFar (claim : Claim) (hint : Hint) : Type 0 where
   pub wide : claim.to.w ≡ hint.to.w
   pub column : claim.sx ≡ hint.sx
   pub row : claim.sy + hint.to.y ≡ hint.sy + claim.to.y
+
+-- it has a row that counts, and all columns of it; its sources begin at that place
+pub record IsSourceOf (claim : Claim) (row : Rect) (from : ℕ × ℕ) : Type 0 where
+  pub counts : is_claimed claim row.y ≡ true
+  pub left : claim.to.x ≤ row.x
+  pub right : row.x + row.w ≤ claim.to.x + claim.to.w
+  pub column : from.0 ≡ claim.sx + (row.x - claim.to.x)
+  pub row_is : from.1 ≡ claim.sy + (row.y - claim.to.y)
 
 -- of a copy's places it says what another claim says of their sources. It has all columns of the
 -- copy, and rows of it whose sources are rows of that other one. Where such a row counts its source

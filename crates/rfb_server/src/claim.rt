@@ -2,11 +2,12 @@
 
 ghost use Rattle.std.specs.Prelude.{◌≡◌, ◌≤◌, ◌+◌, ◌-◌, ℕ, true, false};
 ghost use Rattle.std.specs.Bool.{OnTrue};
+ghost use Rattle.std.specs.Option.{ForSome};
 ghost use Rattle.rfb_picture.specs.Rect.{contains};
 ghost use Rattle.rfb_picture.specs.Grid.{Holds};
 ghost use Rattle.rfb_picture.specs.Box.{is_in};
 ghost use Rattle.rfb_codec.specs.RectData.{moved_to};
-ghost use Rattle.rfb_server.specs.Claims.{is_stale, is_claimed, IsOfCopy, IsAsFar};
+ghost use Rattle.rfb_server.specs.Claims.{is_stale, is_claimed, IsOfCopy, IsAsFar, IsSourceOf};
 
 mod chain;
 mod stale;
@@ -90,6 +91,20 @@ impl Claim {
         ensures { result ≡ is_claimed self.now y }
     {
         self.to.y <= y && y - self.to.y < self.to.h && !self.stale.has(y)
+    }
+
+    /// Where the viewer has what a row shows, if it says so of each place of it.
+    pub(crate) fn source_of(&self, row: Rect) -> Option<(u16, u16)>
+        ensures { ForSome result (λ from. IsSourceOf self.now row from) }
+    {
+        let right = u32::from(self.to.x) + u32::from(self.to.w);
+        let end = u32::from(row.x) + u32::from(row.w);
+        if row.x < self.to.x || right < end || !self.has(row.y) {
+            return None;
+        }
+        let sx = self.sx.checked_add(row.x - self.to.x)?;
+        let sy = self.sy.checked_add(row.y - self.to.y)?;
+        Some((sx, sy))
     }
 
     /// Whether it is of a hint's columns, and of sources as far away.

@@ -18,5 +18,6 @@ mod requests;
 mod rows;
 mod scene;
 mod scrolling;
+mod several_hints;
 mod shared;
 mod two_viewers;

@@ -2,7 +2,6 @@
 
 use super::scene::{Step, first_wrong, ready};
 use crate::Server;
-use rfb_picture::Rect;
 use std::alloc::Global;
 
 // SetEncodings with CopyRect alone, and with Raw alone.
@@ -24,7 +23,7 @@ const ONE_AND_TWO: &[u8] = b"\0\0\0\x01\0\0\0\0\0\x02\0\x01\0\0\0\0\0\0\x01\0\0\
 
 // The viewer has 1, 2, 3, 4 in those of its four places that it asked for, and asks what changes:
 // all four, the first two, and all four of a viewer that takes Raw alone.
-const ALL_KNOWN: &[Step<'static>] = &[
+pub(super) const ALL_KNOWN: &[Step<'static>] = &[
     Step::Feed(COPY_RECT),
     Step::Draw(0, 1),
     Step::Draw(1, 2),
@@ -58,7 +57,7 @@ const ALL_KNOWN_BY_RAW: &[Step<'static>] = &[
 ];
 
 // Whether the steps are right of a server of one row of four places, after the first ones.
-fn are_right(alloc: Global, first: &[Step], steps: &[Step]) -> bool {
+pub(super) fn are_right(alloc: Global, first: &[Step], steps: &[Step]) -> bool {
     match ready(alloc, 4, 1) {
         Ok(server) => are_right_then_drop(server, alloc, first, steps),
         Err(_) => false,
@@ -76,7 +75,7 @@ fn are_right_then_drop(server: Server, alloc: Global, first: &[Step], steps: &[S
 // ---- one hint
 
 // Place 0 copied from place 2, and no other rectangle.
-const PLACE_0_FROM_2: &[u8] = b"\0\0\0\x01\0\0\0\0\0\x01\0\x01\0\0\0\x01\0\x02\0\0";
+pub(super) const PLACE_0_FROM_2: &[u8] = b"\0\0\0\x01\0\0\0\0\0\x01\0\x01\0\0\0\x01\0\x02\0\0";
 
 const COPIED: &[Step<'static>] = &[
     Step::Draw(0, 3),
@@ -139,7 +138,7 @@ fn what_was_never_sent_is_not_copied(rt: HostRuntime) {
 }
 
 // Place 0 in Raw: 3.
-const PLACE_0_SENT: &[u8] = b"\0\0\0\x01\0\0\0\0\0\x01\0\x01\0\0\0\0\0\0\x03\0";
+pub(super) const PLACE_0_SENT: &[u8] = b"\0\0\0\x01\0\0\0\0\0\x01\0\x01\0\0\0\0\0\0\x03\0";
 
 const NOT_LISTED: &[Step<'static>] = &[
     Step::Draw(0, 3),
@@ -166,60 +165,6 @@ const ASKED_WHOLE: &[Step<'static>] = &[
 #[test]
 fn a_whole_request_is_not_answered_by_a_copy(rt: HostRuntime) {
     assert!(rt; are_right(rt.alloc(), ALL_KNOWN, ASKED_WHOLE));
-}
-
-// ---- several hints
-
-// Place 0 copied from 2, then place 1 from place 0.
-const ONE_FROM_THE_OTHER: &[u8] =
-    b"\0\0\0\x02\0\0\0\0\0\x01\0\x01\0\0\0\x01\0\x02\0\0\0\x01\0\0\0\x01\0\x01\0\0\0\x01\0\0\0\0";
-
-const TWO_COPIES: &[Step<'static>] = &[
-    Step::Draw(0, 3),
-    Step::Draw(1, 3),
-    Step::Hint(0, 1, 2),
-    Step::Hint(1, 1, 0),
-    Step::Sends(ONE_FROM_THE_OTHER),
-];
-
-#[test]
-fn a_copy_may_take_what_an_older_one_brought(rt: HostRuntime) {
-    assert!(rt; are_right(rt.alloc(), ALL_KNOWN, TWO_COPIES));
-}
-
-// Fifteen hints that gain nothing.
-const HINTS_IN_VAIN: Step<'static> = Step::Hints(15, LAST_PLACE, 3, 0);
-
-const LAST_PLACE: Rect = Rect {
-    x: 3,
-    y: 0,
-    w: 1,
-    h: 1,
-};
-
-const SIXTEEN: &[Step<'static>] = &[
-    Step::Draw(0, 3),
-    Step::Hint(0, 1, 2),
-    HINTS_IN_VAIN,
-    Step::Sends(PLACE_0_FROM_2),
-];
-
-#[test]
-fn sixteen_hints_are_kept(rt: HostRuntime) {
-    assert!(rt; are_right(rt.alloc(), ALL_KNOWN, SIXTEEN));
-}
-
-const SEVENTEEN: &[Step<'static>] = &[
-    Step::Draw(0, 3),
-    Step::Hint(0, 1, 2),
-    HINTS_IN_VAIN,
-    Step::Hint(3, 1, 3),
-    Step::Sends(PLACE_0_SENT),
-];
-
-#[test]
-fn the_oldest_of_seventeen_hints_is_dropped(rt: HostRuntime) {
-    assert!(rt; are_right(rt.alloc(), ALL_KNOWN, SEVENTEEN));
 }
 
 // ---- how long they stay

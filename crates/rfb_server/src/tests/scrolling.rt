@@ -96,3 +96,38 @@ fn a_scroll_is_one_copy_and_its_new_row(rt: HostRuntime) -> Result<(), AllocErro
     assert!(rt; is_sent(rt.alloc())?);
     Ok(())
 }
+
+// ---- a blank screen
+
+// Each of sixteen scrolls is hinted, and leaves all as it is.
+fn scrolls_blank(server: &mut Server) -> bool {
+    for _ in 0..16u8 {
+        if server.scroll(Rect::whole(64, 64), 0, -1).is_err() {
+            return false;
+        }
+    }
+    true
+}
+
+fn sends_nothing(server: &mut Server, alloc: Global) -> bool {
+    feed(server, LIST);
+    feed(server, ALL);
+    let mut out = Vec::new(alloc);
+    let first = server.compose(&mut out) == Ok(true);
+    let scrolled = scrolls_blank(server);
+    feed(server, CHANGED);
+    first && scrolled && server.compose(&mut out) == Ok(false)
+}
+
+fn is_left(alloc: Global) -> Result<bool, AllocError> {
+    let mut server = ready(alloc, 64, 64)?;
+    let left = sends_nothing(&mut server, alloc);
+    drop(server);
+    Ok(left)
+}
+
+#[test]
+fn a_blank_screen_that_scrolls_is_not_sent(rt: HostRuntime) -> Result<(), AllocError> {
+    assert!(rt; is_left(rt.alloc())?);
+    Ok(())
+}

@@ -2,12 +2,13 @@
 
 ghost use Rattle.std.specs.Prelude.{◌≡◌, ◌+◌, ◌*◌, ◌≤◌, slice_get, Some, None, vec_len};
 ghost use Rattle.rfb_server.specs.Claims.{IsClaimed};
+ghost use Rattle.std.specs.Option.{ForSome};
 ghost use Rattle.std.specs.Vec.{vec_capacity};
 ghost use Rattle.rfb_server.specs.inside.Needs.{IsQuiet};
 ghost use Rattle.rfb_server.specs.Following.{Follows};
 ghost use Rattle.rfb_server.specs.inside.Sessions.{IsSame};
 ghost use Rattle.rfb_server.specs.inside.Sends.{IsKept};
-ghost use Rattle.rfb_server.specs.inside.Copies.{SendsHint, AppendsCopies, usable_hints};
+ghost use Rattle.rfb_server.specs.inside.Copies.{SendsHint, IsUseful, AppendsCopies, usable_hints};
 ghost use Rattle.rfb_server.specs.inside.Copies.{KeepsMarks, IsMarkedFor, AreMarkedFor};
 ghost use Rattle.rfb_server.specs.declared.hint.Hint.{Hint};
 
@@ -70,7 +71,7 @@ impl Session {
     pub(crate) fn send_copies(
         &mut self,
         screen: &Picture<Colour>,
-        claim: Option<Claim>,
+        mut claim: Option<Claim>,
         out: &mut Vec<u8>,
         quiet: &mut Quiet,
     ) -> u16
@@ -89,21 +90,52 @@ impl Session {
         ensures len { vec_len out.new ≤ vec_len out.old + 16 * usable_hints self.old }
         ensures room { vec_capacity out.new ≡ vec_capacity out.old }
     {
-        let mut claim = claim;
         let mut count = 0;
+        let mut useless = None;
         for index in 0..self.usable_hints() {
             let Some(hint) = self.hints.get(index) else {
                 unreachable!()
             };
             let hint = *hint;
-            let sent = self.send_copy(screen, hint, claim, out, quiet);
+            let sent = self.send_anew(screen, hint, claim, useless, out, quiet);
             if sent {
                 // It spoke of the record, which is another now.
                 claim = led_on(claim, hint);
             }
+            useless = if sent { None } else { Some(hint) };
             count += u16::from(sent);
         }
         count
+    }
+
+    // The same as `send_copy` where that hint may be of no use: then it is not judged again.
+    fn send_anew(
+        &mut self,
+        screen: &Picture<Colour>,
+        hint: Hint,
+        claim: Option<Claim>,
+        useless: Option<Hint>,
+        out: &mut Vec<u8>,
+        quiet: &mut Quiet,
+    ) -> bool
+        requires about { Follows screen.now self.old }
+        requires unclaimed { self.old.claim ≡ None }
+        requires claimed { IsClaimed screen.now self.old.known self.old.format claim }
+        requires useless { ForSome useless (λ known. IsUseful screen.now self.old known → ⊥) }
+        requires quiet { IsQuiet screen.now self.old quiet.old }
+        requires room { vec_len out.old + 16 ≤ vec_capacity out.old }
+        ensures kept { IsKept self.old self.new }
+        ensures about { Follows screen.now self.new }
+        ensures sent { SendsHint result screen.now hint self.old self.new
+            out.old.items out.new.items }
+        ensures quiet { IsQuiet screen.now self.new quiet.new }
+        ensures len { vec_len out.new ≤ vec_len out.old + 16 }
+        ensures room { vec_capacity out.new ≡ vec_capacity out.old }
+    {
+        if useless == Some(hint) {
+            return false;
+        }
+        self.send_copy(screen, hint, claim, out, quiet)
     }
 
     // Tells the viewer to copy by a hint, if that is of use. There is room for it.

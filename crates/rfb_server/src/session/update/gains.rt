@@ -12,6 +12,7 @@ ghost use Rattle.rfb_server.specs.inside.Gains.{right_before, right_after};
 
 mod claimed;
 mod rows;
+mod wanted;
 
 use crate::claim::{Claim, Stale};
 use crate::hint::Hint;
@@ -59,29 +60,31 @@ impl Session {
         }
         match claim {
             Some(claim) if claim.is_of(hint) => self.judge_claimed(screen, hint, &claim),
-            _ => self.judge_all(screen, hint),
+            _ => self.judge_all(screen, hint, claim),
         }
     }
 
-    // The same of a copy of which nothing is claimed.
-    fn judge_all(&self, screen: &Picture<Colour>, hint: Hint) -> Judged
+    // The same of a copy of which the session has no claim, or only one of other sources.
+    fn judge_all(&self, screen: &Picture<Colour>, hint: Hint, claim: Option<Claim>) -> Judged
         requires about { Follows screen.now self.now }
+        requires claimed { IsClaimed screen.now self.now.known self.now.format claim }
         requires copy { MayCopy self.now.known hint }
         requires free { IsFree self.now hint.to }
         ensures more { OnTrue result.gain (HasMoreRight screen.now self.now hint) }
         ensures no_more { OnFalse result.gain (HasMoreRight screen.now self.now hint → ⊥) }
         ensures right { IsJudged screen.now self.now hint result }
     {
-        let top = self.rows_right(screen, hint);
-        if !self.has_more_right(screen, hint, top) {
+        let top = self.rows_right(screen, hint, claim);
+        let gain = self.has_more_right(screen, hint, claim, top);
+        if !gain && top < hint.to.h {
             return USELESS;
         }
-        let area = Rect { h: top, ..hint.to };
+        // Where all have it after the copy, and no more than before, all have it as they are.
         let right = Quiet {
-            area,
+            area: Rect { h: top, ..hint.to },
             stale: Stale::NONE,
         };
-        Judged { gain: true, right }
+        Judged { gain, right }
     }
 
     // Whether each place of the rectangle is asked and not whole, and is marked.
@@ -102,8 +105,9 @@ impl Session {
 
     // How many rows of the rectangle, from the first on, have the wanted pixel at each place after
     // the copy. Mostly all have it, and then nothing else has to be counted.
-    fn rows_right(&self, screen: &Picture<Colour>, hint: Hint) -> u16
+    fn rows_right(&self, screen: &Picture<Colour>, hint: Hint, claim: Option<Claim>) -> u16
         requires about { Follows screen.now self.now }
+        requires claimed { IsClaimed screen.now self.now.known self.now.format claim }
         requires copy { MayCopy self.now.known hint }
         ensures within { result ≤ hint.to.h }
         ensures right { count_rows (right_after screen.now self.now hint)
@@ -112,7 +116,7 @@ impl Session {
             hint.to.x hint.to.y hint.to.w (result + 1) < (result + 1) * hint.to.w }
     {
         for row in 0..hint.to.h {
-            let right = self.after_in_row(screen, row_of(hint, row));
+            let right = self.after_in_row(screen, claim, row_of(hint, row));
             if right < u32::from(hint.to.w) {
                 return row;
             }
@@ -123,8 +127,15 @@ impl Session {
     // Whether more places of the rectangle have the wanted pixel after the copy than before, where
     // its first `top` rows have it at each place after it. Both are counted from row `top` on,
     // until the rows that are left cannot change the answer.
-    fn has_more_right(&self, screen: &Picture<Colour>, hint: Hint, top: u16) -> bool
+    fn has_more_right(
+        &self,
+        screen: &Picture<Colour>,
+        hint: Hint,
+        claim: Option<Claim>,
+        top: u16,
+    ) -> bool
         requires about { Follows screen.now self.now }
+        requires claimed { IsClaimed screen.now self.now.known self.now.format claim }
         requires copy { MayCopy self.now.known hint }
         requires top { top ≤ hint.to.h }
         requires right { count_rows (right_after screen.now self.now hint)
@@ -137,7 +148,7 @@ impl Session {
         let mut after = above;
         let mut before = 0;
         for row in top..to.h {
-            let right = self.right_in_row(screen, row_of(hint, row));
+            let right = self.right_in_row(screen, claim, row_of(hint, row));
             after += right.after;
             before += right.before;
             // `left` places are left, in the rows below.
@@ -149,7 +160,7 @@ impl Session {
                 return false;
             }
         }
-        self.has_more_above(screen, hint, top, after, before)
+        self.has_more_above(screen, hint, claim, top, after, before)
     }
 
     // The same where those after the copy are counted, and of those before it the ones from row
@@ -158,11 +169,13 @@ impl Session {
         &self,
         screen: &Picture<Colour>,
         hint: Hint,
+        claim: Option<Claim>,
         top: u16,
         after: u32,
         below: u32,
     ) -> bool
         requires about { Follows screen.now self.now }
+        requires claimed { IsClaimed screen.now self.now.known self.now.format claim }
         requires copy { MayCopy self.now.known hint }
         requires top { top ≤ hint.to.h }
         requires after { after ≡ count_in (right_after screen.now self.now hint) hint.to }
@@ -174,7 +187,7 @@ impl Session {
     {
         let mut before = below;
         for row in 0..top {
-            before += self.before_in_row(screen, row_of(hint, row));
+            before += self.before_in_row(screen, claim, row_of(hint, row));
             // `left` places are left, in the rows up to that one.
             let left = u32::from(top - row - 1) * u32::from(hint.to.w);
             if after > before + left {

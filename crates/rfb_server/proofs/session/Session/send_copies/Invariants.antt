@@ -1,10 +1,11 @@
 use Rattle.std.proofs.Common.{◌≡◌, ◌≤◌, ◌*◌, ◌+◌, vec_len, None}
+use Rattle.std.specs.Option.{ForSome}
 use Rattle.std.specs.Vec.{vec_capacity}
 use Rattle.rfb_server.specs.inside.Needs.{IsQuiet}
 use Rattle.rfb_server.specs.Claims.{IsClaimed}
 use Rattle.rfb_server.specs.Following.{Follows}
 use Rattle.rfb_server.specs.inside.Sends.{IsKept}
-use Rattle.rfb_server.specs.inside.Copies.{AppendsCopies}
+use Rattle.rfb_server.specs.inside.Copies.{AppendsCopies, IsUseful}
 use Rattle.rfb_server.proofs.session.Session.send_copies.Given as goal
 
 -- the copies so far were sent, and there is room for the others
@@ -14,6 +15,7 @@ invariant-loop-index l = record {
   about : Follows l.screen l.self;
   unclaimed : l.self.claim ≡ None;
   claimed : IsClaimed l.screen l.self.known l.self.format l.claim;
+  useless : ForSome l.useless (λ known. IsUseful l.screen l.self known → ⊥);
   quiet : IsQuiet l.screen l.self l.quiet;
   sent : AppendsCopies l.screen l.index l.initial.self l.self l.initial.out.items l.out.items l.count;
   few : l.count ≤ l.index;

@@ -11,7 +11,7 @@ returns-then-won-most-clause-few c =
     let s = c.args.self.now in
     let hint = c.args.hint in
     let l = c.loop-row in
-    let right = c.before_in_known-right in
+    let right = c.before_in_row-right in
     let claimed = claims_row c.args.claim.now hint in
     let won = won_by (right_before screen s hint) hint.to in
     let known = rw c.row_of.ensures at right.ensures.value in
@@ -33,7 +33,7 @@ loop-row-preserved c =
     ≡ c.loop-row.row * c.args.hint.to.w + c.args.hint.to.w = grind arith in
     elim c.if-has.branch [
       | then-has+else-won-most w ↦
-          let right = w.before_in_known-right in
+          let right = w.before_in_row-right in
           let known = rw w.row_of.ensures at right.ensures.value in
           let here = ap (λ (n : ℕ). hint.to.w - n) (known ∙ before_line screen s hint l.row) in
           let more = ap (λ (n : ℕ). n - right.result) w.from.ensures ∙ here in

@@ -1,21 +1,20 @@
 //! What the viewer gains by a copy of which the session has a claim.
 
-ghost use Rattle.std.specs.Prelude.{◌≡◌, ◌+◌, ◌-◌, ◌*◌, ◌/◌, ◌≤◌, ◌<◌, ℕ, not, true};
+ghost use Rattle.std.specs.Prelude.{◌≡◌, ◌+◌, ◌*◌, ◌≤◌, ℕ, not, true};
 ghost use Rattle.rfb_picture.specs.Rect.{contains};
 ghost use Rattle.std.specs.Bool.{OnTrue, OnFalse};
 ghost use Rattle.rfb_server.specs.Claims.{IsTrue, IsAsFar, is_claimed};
 ghost use Rattle.rfb_server.specs.inside.Needs.{is_quiet};
 ghost use Rattle.rfb_server.specs.Following.{Follows};
-ghost use Rattle.rfb_server.specs.Composing.{count_row};
 ghost use Rattle.rfb_server.specs.inside.Copies.{IsFree};
-ghost use Rattle.rfb_server.specs.inside.Gains.{MayCopy, HasMoreRight, IsJudged, IsKnownRow};
+ghost use Rattle.rfb_server.specs.inside.Gains.{MayCopy, HasMoreRight, IsJudged};
 ghost use Rattle.rfb_server.specs.inside.Gains.{right_before, right_after, claims_row};
 ghost use Rattle.rfb_server.specs.inside.Gains.{sum_where, counts, won_by};
 
 use crate::claim::Claim;
 use crate::hint::Hint;
 use crate::session::Session;
-use crate::session::update::gains::rows::{Right, part_of};
+use crate::session::update::gains::rows::Right;
 use crate::session::update::gains::{Judged, row_of};
 use crate::session::update::quiet::{NOWHERE, Quiet};
 use rfb_picture::{Picture, Rect};
@@ -68,7 +67,7 @@ impl Session {
         let (mut before, mut after) = (0, 0);
         for row in 0..hint.to.h {
             if !claim.has(hint.to.y + row) {
-                let right = self.right_in_row(screen, row_of(hint, row));
+                let right = self.right_in_row(screen, None, row_of(hint, row));
                 before += right.before;
                 after += right.after;
             }
@@ -92,7 +91,7 @@ impl Session {
         let mut won = 0;
         for row in 0..hint.to.h {
             if claim.has(hint.to.y + row) {
-                let right = self.before_in_known(screen, row_of(hint, row));
+                let right = self.before_in_row(screen, Some(*claim), row_of(hint, row));
                 won += u32::from(hint.to.w) - right;
                 if won > most {
                     return won;
@@ -100,44 +99,6 @@ impl Session {
             }
         }
         won
-    }
-
-    // How many places of a row have it as they are, where what is known of their sources is the
-    // wanted pixels. Nothing is packed.
-    fn before_in_known(&self, screen: &Picture<Colour>, row: Hint) -> u32
-        requires about { Follows screen.now self.now }
-        requires copy { MayCopy self.now.known row }
-        requires single { row.to.h ≡ 1 }
-        requires known { IsKnownRow screen.now self.now row }
-        ensures value { result
-            ≡ count_row (right_before screen.now self.now row) row.to.x row.to.y row.to.w }
-        ensures few { result ≤ row.to.w }
-    {
-        let end = row.to.x + row.to.w;
-        let mut count = 0;
-        let mut x = row.to.x;
-        while x < end {
-            let next = end.min(x / 64 * 64 + 64);
-            count += self.before_in_known_part(screen, part_of(row, x, next));
-            x = next;
-        }
-        count
-    }
-
-    // The same of places of one cell.
-    fn before_in_known_part(&self, screen: &Picture<Colour>, part: Hint) -> u32
-        requires about { Follows screen.now self.now }
-        requires copy { MayCopy self.now.known part }
-        requires single { part.to.h ≡ 1 }
-        requires some { 0 < part.to.w }
-        requires cell { part.to.x + part.to.w ≤ part.to.x / 64 * 64 + 64 }
-        requires known { IsKnownRow screen.now self.now part }
-        ensures value { result
-            ≡ count_row (right_before screen.now self.now part) part.to.x part.to.y part.to.w }
-        ensures few { result ≤ part.to.w }
-    {
-        let wanted = self.known.pixels().row(part.sx, part.sy, part.to.w);
-        self.before_by(screen, part, wanted)
     }
 }
 

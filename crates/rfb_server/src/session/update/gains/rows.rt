@@ -3,10 +3,12 @@
 ghost use Rattle.std.specs.Prelude.{◌≡◌, ◌+◌, ◌-◌, ◌*◌, ◌/◌, ◌≤◌, ◌<◌, length, map};
 ghost use Rattle.rfb_pixel.specs.Format.{pixel_of};
 ghost use Rattle.rfb_picture.specs.Grid.{row_of};
+ghost use Rattle.rfb_server.specs.Claims.{IsClaimed};
 ghost use Rattle.rfb_server.specs.Following.{Follows};
 ghost use Rattle.rfb_server.specs.Composing.{count_row};
 ghost use Rattle.rfb_server.specs.inside.Gains.{MayCopy, part, right_before, right_after};
 
+use crate::claim::Claim;
 use crate::hint::Hint;
 use crate::session::Session;
 use rfb_picture::{Picture, Rect};
@@ -20,15 +22,24 @@ pub(super) struct Right {
 }
 
 impl Session {
-    /// How many places of one row have it after the copy, in parts of 64 places.
-    pub(super) fn after_in_row(&self, screen: &Picture<Colour>, row: Hint) -> u32
+    /// How many places of one row have it after the copy, in parts of 64 places if it is packed.
+    pub(super) fn after_in_row(
+        &self,
+        screen: &Picture<Colour>,
+        claim: Option<Claim>,
+        row: Hint,
+    ) -> u32
         requires about { Follows screen.now self.now }
+        requires claimed { IsClaimed screen.now self.now.known self.now.format claim }
         requires copy { MayCopy self.now.known row }
         requires single { row.to.h ≡ 1 }
         ensures value { result
             ≡ count_row (right_after screen.now self.now row) row.to.x row.to.y row.to.w }
         ensures few { result ≤ row.to.w }
     {
+        if let Some(wanted) = self.wanted_row(screen, claim, row.to) {
+            return self.after_by(screen, row, wanted);
+        }
         let end = row.to.x + row.to.w;
         let mut count = 0;
         let mut x = row.to.x;
@@ -58,7 +69,7 @@ impl Session {
     }
 
     // The same where the wanted pixels are given. All of the source is known.
-    fn after_by(&self, screen: &Picture<Colour>, part: Hint, wanted: &[u32]) -> u32
+    pub(super) fn after_by(&self, screen: &Picture<Colour>, part: Hint, wanted: &[u32]) -> u32
         requires about { Follows screen.now self.now }
         requires copy { MayCopy self.now.known part }
         requires single { part.to.h ≡ 1 }
@@ -78,15 +89,24 @@ impl Session {
         count_equal(wanted, source) as u32
     }
 
-    /// How many places of one row have it as they are, in parts of one cell each.
-    pub(super) fn before_in_row(&self, screen: &Picture<Colour>, row: Hint) -> u32
+    /// How many places of one row have it as they are, in parts of one cell each if it is packed.
+    pub(super) fn before_in_row(
+        &self,
+        screen: &Picture<Colour>,
+        claim: Option<Claim>,
+        row: Hint,
+    ) -> u32
         requires about { Follows screen.now self.now }
+        requires claimed { IsClaimed screen.now self.now.known self.now.format claim }
         requires copy { MayCopy self.now.known row }
         requires single { row.to.h ≡ 1 }
         ensures value { result
             ≡ count_row (right_before screen.now self.now row) row.to.x row.to.y row.to.w }
         ensures few { result ≤ row.to.w }
     {
+        if let Some(wanted) = self.wanted_row(screen, claim, row.to) {
+            return self.before_of(screen, row, wanted);
+        }
         let end = row.to.x + row.to.w;
         let mut count = 0;
         let mut x = row.to.x;
@@ -138,9 +158,15 @@ impl Session {
         right.count_ones()
     }
 
-    /// Both counts of one row, for which it is packed once.
-    pub(super) fn right_in_row(&self, screen: &Picture<Colour>, row: Hint) -> Right
+    /// Both counts of one row, for which it is packed once at most.
+    pub(super) fn right_in_row(
+        &self,
+        screen: &Picture<Colour>,
+        claim: Option<Claim>,
+        row: Hint,
+    ) -> Right
         requires about { Follows screen.now self.now }
+        requires claimed { IsClaimed screen.now self.now.known self.now.format claim }
         requires copy { MayCopy self.now.known row }
         requires single { row.to.h ≡ 1 }
         ensures before { result.before
@@ -149,6 +175,12 @@ impl Session {
             ≡ count_row (right_after screen.now self.now row) row.to.x row.to.y row.to.w }
         ensures few { (result.before ≤ row.to.w) × (result.after ≤ row.to.w) }
     {
+        if let Some(wanted) = self.wanted_row(screen, claim, row.to) {
+            return Right {
+                before: self.before_of(screen, row, wanted),
+                after: self.after_by(screen, row, wanted),
+            };
+        }
         let end = row.to.x + row.to.w;
         let (mut before, mut after) = (0, 0);
         let mut x = row.to.x;

@@ -1,7 +1,7 @@
 use Rattle.std.proofs.Common.{◌≡◌, ◌+◌, ◌-◌, ◌≤◌}
 use Rattle.rfb_server.specs.Composing.{count_row}
 use Rattle.rfb_server.specs.inside.Gains.{right_before}
-use Rattle.rfb_server.proofs.session.Session.before_in_known.Given as goal
+use Rattle.rfb_server.proofs.session.Session.before_of.Given as goal
 
 -- the places so far are counted
 abbrev pub invariant-loop-x : goal.invariant-loop-x
