@@ -81,13 +81,18 @@ fn append_pixels(out: &mut Vec<u8>, format: &Format, pixels: &[u32])
 }
 
 /// Writes the bytes of each pixel. Those of the format that most screens are sent in are 32 bits,
-/// the lowest byte first, which is how they lie in memory: they are copied as they are.
+/// the lowest byte first, which is how they lie in memory: they are copied as they are. Each other
+/// format that this project announces has a loop by a format that is known before it runs.
 pub fn put_pixels(format: &Format, pixels: &[u32], bytes: &mut [u8])
     requires { length bytes.old ≡ length pixels.now * size_of format.now }
     ensures { bytes.new ≡ flat_map (pixel_bytes format.now) pixels.now }
 {
     if *format == Format::rgb888() {
         LittleEndian::write_u32_into(pixels, bytes);
+    } else if *format == Format::rgb565() {
+        put_each(&Format::rgb565(), pixels, bytes);
+    } else if *format == Format::bgr233() {
+        put_each(&Format::bgr233(), pixels, bytes);
     } else {
         put_each(format, pixels, bytes);
     }
