@@ -261,14 +261,14 @@ module _ (screen : Grid Colour) (session : Session) (y from to m a k w : ℕ) (a
           (nat_lt (place i) session.known.width && place_known i)
           (not (nat_lt (place i) session.area.whole.width && place_whole i)) (sym (judged_bit i l) ∙ e)
 
-  -- a look at those tells which need sending
-  pub judged_bits : (d : ℕ) → 0 < judged m a k w →
-      TellsOther (wanted_at screen session.format) session.known y
-      (from / 64 * 64 + trailing_zeros w64 (judged m a k w))
-      (from / 64 * 64 + 64 - leading_zeros w64 (judged m a k w)) d →
+  -- a look at those, or at more columns of the cell, tells which need sending
+  pub judged_bits : (first end d : ℕ) → 0 < judged m a k w →
+      from / 64 * 64 ≤ first → first ≤ from / 64 * 64 + trailing_zeros w64 (judged m a k w) →
+      from / 64 * 64 + 64 - leading_zeros w64 (judged m a k w) ≤ end →
+      TellsOther (wanted_at screen session.format) session.known y first end d →
       HasBitsBetween (needs_of screen session) y from to
       (bit_or (bit_and (bit_and m a) (2 ^ 64 - 1 - judged m a k w)) (bit_and (judged m a k w) d))
-  judged_bits d some told i low =
+  judged_bits first end d some after before until told i low =
       has_bit-or (bit_and (bit_and m a) (2 ^ 64 - 1 - judged m a k w)) (bit_and (judged m a k w) d) i
       ∙ (λ j. (has_bit-and (bit_and m a) (2 ^ 64 - 1 - judged m a k w) i ∙ (λ h. asked_bit i low h
       && (has_bit-not (judged m a k w) i judged_small low ∙ ap not (judged_bit i low)) h)) j
@@ -285,14 +285,13 @@ module _ (screen : Grid Colour) (session : Session) (y from to m a k w : ℕ) (a
           let (less, there, most) = last_bit (judged m a k w) some judged_small in
           let from_first = least i bit in
           let to_last = most i bit in
-          let left : (from / 64 * 64 + trailing_zeros w64 (judged m a k w)) / 64 * 64 ≡ from / 64 * 64 =
-          omega (arith, few) in
+          let left : first / 64 * 64 ≡ from / 64 * 64 = omega (arith, few, after, before) in
           let (pixel, is) = known_some (at_or session.known (from / 64 * 64 + i) y None)
           (fourth_of (reach i) (marked i) (nat_lt (place i) session.area.asked.width && place_asked i)
           (nat_lt (place i) session.known.width) (place_known i)
           (not (nat_lt (place i) session.area.whole.width && place_whole i)) e) in
           let tells : has_bit d i ≡ differs (wanted_at screen session.format (from / 64 * 64 + i) y) (Some pixel) =
-          rw left at (told i pixel low) (omega (arith, left, from_first)) (omega (arith, left, to_last, less)) is in
+          rw left at (told i pixel low) (omega (arith, before, from_first)) (omega (arith, until, to_last, less)) is in
           tells ∙ ap (λ old. differs (wanted_at screen session.format (from / 64 * 64 + i) y) old) (sym is)
 
 -- what the sets and the record tell are such words

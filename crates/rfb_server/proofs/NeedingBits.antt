@@ -1,14 +1,15 @@
 -- Places of a row that need sending, as bits of a word.
 use Rattle.std.proofs.Common.{◌≡◌, ◌∙◌, ℕ, ◌+◌, ◌-◌, ◌*◌, ◌/◌, ◌%◌, ◌^◌, ◌<◌, ◌≤◌, ◌&&◌, Bool, true, false, not, nat_eq}
-use Rattle.std.proofs.Common.{nat_le, nat_lt, sym, ap, refl, arith}
+use Rattle.std.proofs.Common.{nat_le, nat_lt, sym, ap, refl, arith, inl, inr}
 use Rattle.std.specs.Int.{w64, bit_at, trailing_zeros, leading_zeros}
 use Rattle.std.proofs.Math.Nat.{div-add-mod'}
-use Rattle.std.proofs.lemmas.Bool.{both_ways}
+use Rattle.std.proofs.lemmas.Bool.{both_ways, cases_lt}
 use Rattle.std.proofs.lemmas.Bool.Decides.{nat_tests}
 use Rattle.std.proofs.lemmas.Nat.{pow_pos}
 use Rattle.std.proofs.lemmas.Nat.Bits.{bit_at_not, bit_at-lt, bit_at-zero, bit_at_cat_low, bit_at_cat_high}
 use Rattle.rfb_picture.specs.Places.{has_bit, HasBitsBetween, NoneInRow}
 use Rattle.rfb_picture.proofs.GatherLaws.{first_bit, last_bit}
+use Rattle.rfb_server.specs.inside.Needs.{IsFirst, IsEnd}
 
 -- ---- bits
 
@@ -125,3 +126,60 @@ last_between p y from to word told cell some small =
     by_bit : (b : Bool) → {c : Bool} → c ≡ b → (c ≡ true → ⊥) → c ≡ false
     by_bit false e never = e
     by_bit true e never = absurd (never e)
+
+-- ---- both sides of the columns so far, by one look at the row
+
+-- none is left of a column, nor right of another, where the row has none
+pub none_left : (p : ℕ → ℕ → Bool) (y from to first : ℕ) → NoneInRow p y from to → from ≤ first → first ≤ to →
+    IsFirst p y from first first
+none_left p y from to first none order within = record {
+  order = (order, omega arith);
+  none = λ x a b. none x a (omega (arith, b, within));
+  here = λ l. absurd (omega (arith, l));
+}
+
+pub none_right : (p : ℕ → ℕ → Bool) (y from to end : ℕ) → NoneInRow p y from to → from ≤ end → end ≤ to →
+    IsEnd p y end to end
+none_right p y from to end none order within = record {
+  order = (omega arith, within);
+  none = λ x a b. none x (omega (arith, a, order)) b;
+  here = λ l. absurd (omega (arith, l));
+}
+
+-- the first one is left of a column, or it is that column
+pub first_left : (p : ℕ → ℕ → Bool) (y from to word first column : ℕ) → HasBitsBetween p y from to word →
+    to ≤ from / 64 * 64 + 64 → 0 < word → word < 2 ^ 64 → from ≤ first → column ≤ first →
+    column ≤ from / 64 * 64 + trailing_zeros w64 word →
+    (column < first → column ≡ from / 64 * 64 + trailing_zeros w64 word) → IsFirst p y from first column
+first_left p y from to word first column told cell some small order least near is =
+    let (reached, within, here, none) = first_between p y from to word told cell some small in
+    record {
+      order = (
+        elim (cases_lt column first) [
+          | inl less ↦ omega (arith, is less, reached)
+          | inr more ↦ omega (arith, more, order)
+        ],
+        least,
+      );
+      none = λ x a b. none x a (omega (arith, b, near));
+      here = λ less. rw (is less) here;
+    }
+
+-- and so it is with the last one
+pub last_right : (p : ℕ → ℕ → Bool) (y from to word end column : ℕ) → HasBitsBetween p y from to word →
+    to ≤ from / 64 * 64 + 64 → 0 < word → word < 2 ^ 64 → end ≤ to → end ≤ column →
+    from / 64 * 64 + 64 - leading_zeros w64 word ≤ column →
+    (end < column → column ≡ from / 64 * 64 + 64 - leading_zeros w64 word) → IsEnd p y end to column
+last_right p y from to word end column told cell some small order most near is =
+    let (few, reached, within, here, none) = last_between p y from to word told cell some small in
+    record {
+      order = (
+        most,
+        elim (cases_lt end column) [
+          | inl more ↦ omega (arith, is more, within)
+          | inr less ↦ omega (arith, less, order)
+        ],
+      );
+      none = λ x a b. none x (omega (arith, a, near)) b;
+      here = λ more. rw (is more) here;
+    }

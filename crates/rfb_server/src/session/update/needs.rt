@@ -1,6 +1,6 @@
 //! Where a screen needs sending.
 
-ghost use Rattle.std.specs.Prelude.{◌≡◌, ◌+◌, ◌*◌, ◌/◌, ◌<◌, ◌≤◌, None, true};
+ghost use Rattle.std.specs.Prelude.{◌≡◌, ◌+◌, ◌*◌, ◌/◌, ◌<◌, ◌≤◌, None, true, length};
 ghost use Rattle.std.specs.Bool.{OnTrue, OnFalse};
 ghost use Rattle.rfb_picture.specs.Grid.{Holds};
 ghost use Rattle.rfb_picture.specs.Box.{IsBox};
@@ -17,6 +17,10 @@ use crate::cells::cell_at;
 use crate::session::Session;
 use rfb_picture::{Picture, Rect};
 use rfb_pixel::{Colour, differing, first_diff};
+
+// How many places are looked at together, from a column that is a multiple of it on: as many as are
+// compared at once, so that few are packed or compared one by one.
+const LANES: u16 = 16;
 
 // The columns from a first one up to an end.
 #[derive(Clone, Copy, Drop)]
@@ -142,13 +146,40 @@ impl Session {
         let mut columns = given;
         let mut y = bottom;
         while y > top && (columns.first > zone.x || columns.end < end) {
-            columns = Columns {
-                first: self.first_needed(screen, y, zone.x, columns.first),
-                end: self.needed_end(screen, y, columns.end, end),
-            };
+            columns = self.wider(screen, zone, y, columns);
             y -= 1;
         }
         columns
+    }
+
+    // The given columns and those from the first to the last place of row `y` that needs sending.
+    fn wider(&self, screen: &Picture<Colour>, zone: Rect, y: u16, given: Columns) -> Columns
+        requires about { Follows screen.now self.now }
+        requires held { Holds self.now.known zone }
+        requires row { y < self.now.known.height }
+        requires given { (zone.x ≤ given.first) × (given.first < given.end)
+            × (given.end ≤ zone.x + zone.w) }
+        ensures first { IsFirst (needs_of screen.now self.now) y zone.x given.first result.first }
+        ensures end { IsEnd (needs_of screen.now self.now) y given.end (zone.x + zone.w)
+            result.end }
+    {
+        let end = zone.x + zone.w;
+        let left = zone.x / 64 * 64;
+        // Where both sides are to be looked at, and are of one cell, one look does for both.
+        if given.first > zone.x && given.end < end && end - left <= 64 {
+            let due = self.needed_between(screen, y, zone.x, end);
+            if due == 0 {
+                return given;
+            }
+            return Columns {
+                first: given.first.min(left + due.trailing_zeros() as u16),
+                end: given.end.max(left + 64 - due.leading_zeros() as u16),
+            };
+        }
+        Columns {
+            first: self.first_needed(screen, y, zone.x, given.first),
+            end: self.needed_end(screen, y, given.end, end),
+        }
     }
 
     // The first column from `from` on, up to `to`, whose place in row `y` needs sending; `to` where
@@ -207,8 +238,9 @@ impl Session {
         if judged == 0 {
             return asked;
         }
-        let first = left + judged.trailing_zeros() as u16;
-        let end = left + 64 - judged.leading_zeros() as u16;
+        let first = (left + judged.trailing_zeros() as u16) / LANES * LANES;
+        let last = left + 63 - judged.leading_zeros() as u16;
+        let end = self.known.width().min(last / LANES * LANES + LANES);
         asked & !judged | judged & self.differing_between(screen, y, first, end)
     }
 
@@ -222,8 +254,34 @@ impl Session {
         ensures { TellsOther (wanted_at screen.now self.now.format) self.now.known y from to
             result }
     {
-        let mut row = [0; 64];
-        let wanted = &mut row[..usize::from(to - from)];
+        // To clear the room of a whole row costs as much as a look at a few places.
+        if to - from <= LANES {
+            return self.differing_with(screen, y, from, to, &mut [0; 16]);
+        }
+        if to - from <= 2 * LANES {
+            return self.differing_with(screen, y, from, to, &mut [0; 32]);
+        }
+        self.differing_with(screen, y, from, to, &mut [0; 64])
+    }
+
+    // The same, with room for the pixels that are wanted.
+    fn differing_with(
+        &self,
+        screen: &Picture<Colour>,
+        y: u16,
+        from: u16,
+        to: u16,
+        room: &mut [u32],
+    ) -> u64
+        requires about { Follows screen.now self.now }
+        requires row { y < self.now.known.height }
+        requires columns { (from < to) × (to ≤ self.now.known.width) }
+        requires cell { to ≤ from / 64 * 64 + 64 }
+        requires room { to ≤ from + length room.old }
+        ensures { TellsOther (wanted_at screen.now self.now.format) self.now.known y from to
+            result }
+    {
+        let wanted = &mut room[..usize::from(to - from)];
         self.format.pack_row(screen.row(from, y, to - from), wanted);
         let known = self.known.pixels().row(from, y, to - from);
         // Mostly none is another, which one compare tells.

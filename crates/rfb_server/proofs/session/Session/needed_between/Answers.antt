@@ -1,5 +1,6 @@
-use Rattle.std.proofs.Common.{arith}
-use Rattle.rfb_server.proofs.NeededLemmas.{row_words, none_judged, judged_columns, judged_bits}
+use Rattle.std.proofs.Common.{◌+◌, ◌*◌, ◌/◌, arith}
+use Rattle.std.specs.Int.{w64, trailing_zeros}
+use Rattle.rfb_server.proofs.NeededLemmas.{row_words, none_judged, judged_columns, judged_bits, judged}
 use Rattle.rfb_server.proofs.session.Session.needed_between.Goals as goal
 
 pub returns-then-judged-eq0 : goal.returns-then-judged-eq0
@@ -17,6 +18,7 @@ returns-then-judged-eq0 c =
 
 pub differing_between-requires-clause-columns : goal.differing_between-requires-clause-columns
 differing_between-requires-clause-columns c =
+    let (order, within) =
     judged_columns c.args.screen.now c.args.self.now c.args.y c.args.from c.args.to c.row_bits_between.result
     c.row_bits.result c.row_bits-known.result c.row_bits-2.result
     c.requires.about c.requires.row c.requires.columns.1
@@ -26,10 +28,25 @@ differing_between-requires-clause-columns c =
     c.requires.row c.row_bits_between.ensures
     c.asked.ensures c.row_bits.ensures c.asked-2.ensures c.row_bits-known.ensures c.whole.ensures c.row_bits-2.ensures
     c.row_bits_between.type_inv c.row_bits.type_inv c.row_bits-known.type_inv c.row_bits-2.type_inv)
-    (omega (arith, c.if-judged-eq0.false))
+    (omega (arith, c.if-judged-eq0.false)) in (
+      omega (arith, order, within, c.min-end.ensures, c.width.ensures),
+      omega (arith, c.min-end.ensures, c.width.ensures),
+    )
 
 pub returns : goal.returns
 returns c =
+    let bits = judged c.row_bits_between.result c.row_bits.result c.row_bits-known.result c.row_bits-2.result in
+    let (order, within) =
+    judged_columns c.args.screen.now c.args.self.now c.args.y c.args.from c.args.to c.row_bits_between.result
+    c.row_bits.result c.row_bits-known.result c.row_bits-2.result
+    c.requires.about c.requires.row c.requires.columns.1
+    (row_words c.args.self.now c.known.result.now c.args.y c.args.from c.args.to c.row_bits_between.result
+    c.row_bits.result c.row_bits-known.result c.row_bits-2.result
+    c.asked.result.now c.asked-2.result.now c.whole.result.now c.known.ensures.columns c.known.ensures.value
+    c.requires.row c.row_bits_between.ensures
+    c.asked.ensures c.row_bits.ensures c.asked-2.ensures c.row_bits-known.ensures c.whole.ensures c.row_bits-2.ensures
+    c.row_bits_between.type_inv c.row_bits.type_inv c.row_bits-known.type_inv c.row_bits-2.type_inv)
+    (omega (arith, c.if-judged-eq0.false)) in
     judged_bits c.args.screen.now c.args.self.now c.args.y c.args.from c.args.to c.row_bits_between.result
     c.row_bits.result c.row_bits-known.result c.row_bits-2.result
     c.requires.about c.requires.row c.requires.columns.1
@@ -39,4 +56,6 @@ returns c =
     c.requires.row c.row_bits_between.ensures
     c.asked.ensures c.row_bits.ensures c.asked-2.ensures c.row_bits-known.ensures c.whole.ensures c.row_bits-2.ensures
     c.row_bits_between.type_inv c.row_bits.type_inv c.row_bits-known.type_inv c.row_bits-2.type_inv)
-    c.differing_between.result (omega (arith, c.if-judged-eq0.false)) c.differing_between.ensures
+    ((c.args.from / 64 * 64 + trailing_zeros w64 bits) / 16 * 16) c.min-end.result
+    c.differing_between.result (omega (arith, c.if-judged-eq0.false)) (omega arith) (omega arith)
+    (omega (arith, order, within, c.min-end.ensures, c.width.ensures)) c.differing_between.ensures

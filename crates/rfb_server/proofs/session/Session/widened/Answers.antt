@@ -10,8 +10,8 @@ loop-y-init c = wide_top (needs_of c.args.screen.now c.args.self.now) c.args.zon
 pub loop-y-preserved : goal.loop-y-preserved
 loop-y-preserved c =
     wide_more (needs_of c.args.screen.now c.args.self.now) c.args.zone c.args.top c.args.bottom c.loop-y.y
-    c.first_needed.result c.needed_end.result c.loop-y.columns
-    (omega (arith, c.loop-y-test.true)) c.loop-y.invariant c.first_needed.ensures c.needed_end.ensures
+    c.wider-columns.result.first c.wider-columns.result.end c.loop-y.columns
+    (omega (arith, c.loop-y-test.true)) c.loop-y.invariant c.wider-columns.ensures.first c.wider-columns.ensures.end
 
 pub returns-after-loop-y : goal.returns-after-loop-y
 returns-after-loop-y c =

@@ -1,5 +1,5 @@
 use Rattle.rfb_server.proofs.NeededLemmas.{none_told, other_told}
-use Rattle.rfb_server.proofs.session.Session.differing_between.Goals as goal
+use Rattle.rfb_server.proofs.session.Session.differing_with.Goals as goal
 
 pub returns : goal.returns
 returns c =
