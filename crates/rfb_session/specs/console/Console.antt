@@ -1,6 +1,7 @@
 -- What a console is behind its doors, and what happens there.
-use Rattle.std.specs.Prelude.{◌≡◌, ◌≢◌, ◌<◌, ◌≤◌, ◌⊎◌, ℕ, ◌+◌, ◌-◌, ◌==◌, Bool, true, false, nat_le, ◌&&◌}
+use Rattle.std.specs.Prelude.{◌≡◌, ◌≢◌, ◌<◌, ◌≤◌, ◌⊎◌, ℕ, ◌+◌, ◌-◌, ◌==◌, Bool, true, false, nat_le, ◌&&◌, not}
 use Rattle.std.specs.Prelude.{List, [], Option, Some, None, length, take, slice_index_or, if◌then◌else◌}
+use Rattle.std.specs.Prelude.{is_some, nat_lt, cond}
 use Rattle.rfb_server.specs.Drawing.{Stroke, Bytes, Fill as OneFill, Copy as OneCopy, Hint as OneHint}
 use Rattle.rfb_server.specs.Drawing.{Scroll as OneScroll}
 use Rattle.rfb_session.specs.declared.console.Console.{Console}
@@ -17,7 +18,7 @@ use Rattle.rfb_session.specs.doors.Events.{Event, Received, Ended, Failed, Wrote
 use Rattle.rfb_session.specs.owner.Reader.{Feeds, ClosesFrom, IsFreshReader}
 use Rattle.rfb_session.specs.owner.Telling.{leave_line}
 use Rattle.rfb_session.specs.Share.{waits_at}
-use Rattle.rfb_session.specs.console.Desk.{guest_at, lines_of, is_over}
+use Rattle.rfb_session.specs.console.Desk.{guest_at, lines_of, is_over, is_heard}
 use Rattle.rfb_session.specs.console.Viewers.{HearsAt, LetsGo, LetsGoFor, Admits}
 use Rattle.rfb_session.specs.console.Turns.{TurnsAs, IsFreshDesk, DrawsAs, HoldsAs, ShowsAs}
 use Rattle.rfb_session.specs.console.Turns.{WritesLines, WritesSeat}
@@ -38,6 +39,11 @@ seat_waits (Some desk) k = waits_at desk.share k
 abbrev pub seat_over : Option Desk → ℕ → Bool
 seat_over None k = true
 seat_over (Some desk) k = is_over (guest_at desk k).progress
+
+-- whether more of the viewer of a seat is read
+abbrev pub seat_heard : Option Desk → ℕ → Bool
+seat_heard None k = false
+seat_heard (Some desk) k = is_heard desk k
 
 -- a door is a seat's: they have the doors 1 to 8
 abbrev pub is_seat : ℕ → Bool
@@ -125,6 +131,21 @@ module _ {S : Type 0} where
       else (if d == 10 then console.are_notes_lost
       else (if is_seat d then seat_over console.desk (d - 1) else true)))
 
+  -- how much of the owner is read in one turn: nothing once its input or all has ended, or while many notes wait
+  abbrev pub room_of_owner : Console S → ℕ
+  room_of_owner console =
+      cond (not console.has_input_ended && not (is_some console.outcome) && nat_lt (length console.notes.items) 65536)
+      65536 0
+
+  -- how much of a viewer is read in one turn: nothing once all has ended, or where it is not heard
+  abbrev pub room_of_seat : Console S → ℕ → ℕ
+  room_of_seat console k = cond (not (is_some console.outcome) && seat_heard console.desk k) 1024 0
+
+  -- so much is taken at the owner's door, and at each seat's
+  pub record OpensRooms (new : Console S) : Type 0 where
+    pub owner : space_at new 0 ≡ room_of_owner new
+    pub seats : (k : ℕ) → k < 8 → space_at new (k + 1) ≡ room_of_seat new k
+
   -- a console that was told nothing
   pub record IsFreshConsole (console : Console S) : Type 0 where
     pub desk : console.desk ≡ None
@@ -159,6 +180,7 @@ module _ {S : Type 0} where
     pub desk : new.desk ≡ old.desk
     pub outcome : new.outcome ≡ old.outcome
     pub owner : KeepsOwner old new
+    pub notes : new.notes ≡ old.notes
     pub next : new.next ≡ old.next
     pub stays : Stays old new
 
@@ -247,7 +269,7 @@ module _ {S : Type 0} where
       ByDoor door (KeepsDesk old new)
       (λ k. DoesAlways (λ a b. WritesSeat a k (length bytes) b) old new)
       (DoesAlways (λ a b. WritesLines a (length bytes) b) old new) (KeepsDesk old new)
-  Does old (Turned now) new = TurnsDesk old now new × NamesNext new
+  Does old (Turned now) new = TurnsDesk old now new × NamesNext new × OpensRooms new
 
   -- bytes that left are those that waited first
   abbrev pub Left : Console S → Event → Type 0

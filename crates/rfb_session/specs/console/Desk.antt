@@ -1,5 +1,5 @@
 -- What a desk has: its share, the lines that wait for the owner, and what is known of each viewer.
-use Rattle.std.specs.Prelude.{◌≡◌, ◌+◌, ℕ, zero, suc, Bool, true, false, ◌&&◌, not, nat_eq, List}
+use Rattle.std.specs.Prelude.{◌≡◌, ◌+◌, ℕ, zero, suc, Bool, true, false, ◌&&◌, not, nat_eq, nat_lt, List}
 use Rattle.std.specs.Prelude.{None}
 use Rattle.std.specs.Prelude.{slice_index_or, cond}
 use Rattle.rfb_picture.specs.Places.{has_bit}
@@ -28,6 +28,10 @@ is_over Absent = true
 is_over Shaking = false
 is_over Ready = false
 is_over Failing = true
+
+-- more of its viewer is read: there is one, it has not failed, and few bytes of lines wait that tell of it
+abbrev pub is_heard : Desk → ℕ → Bool
+is_heard desk k = not (is_over (guest_at desk k).progress) && nat_lt (guest_at desk k).told 4096
 
 -- its handshake is not done, or it has failed: it gives way to whoever comes
 abbrev pub gives_way : Progress → Bool

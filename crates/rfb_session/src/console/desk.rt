@@ -53,7 +53,7 @@ impl Desk {
     ghost use Rattle.rfb_server.specs.Server.{black};
     ghost use Rattle.rfb_server.specs.Drawing.{stroke};
     ghost use Rattle.rfb_session.specs.Share.{waits_at};
-    ghost use Rattle.rfb_session.specs.console.Desk.{lines_of, guest_at, is_over};
+    ghost use Rattle.rfb_session.specs.console.Desk.{lines_of, guest_at, is_over, is_heard};
     ghost use Rattle.rfb_session.specs.console.Turns.{IsFreshDesk, DrawsAs, HoldsAs, ShowsAs};
     ghost use Rattle.rfb_session.specs.console.Turns.{WritesLines, WritesSeat, ForgetsTold};
 
@@ -172,7 +172,9 @@ impl Desk {
     }
 
     /// Whether more of a viewer may be told of.
-    pub(crate) fn is_heard(&self, seat: Seat) -> bool {
+    pub(crate) fn is_heard(&self, seat: Seat) -> bool
+        ensures { result ≡ is_heard self.now seat }
+    {
         !self.is_over(seat) && self.guests[seat.place()].told < TOLD_MOST
     }
 

@@ -1,6 +1,6 @@
 //! Bytes that come to a console, and ends.
 
-ghost use Rattle.std.specs.Prelude.{◌≡◌, ◌≢◌, ◌≤◌, ◌<◌, ◌+◌, length, take, None};
+ghost use Rattle.std.specs.Prelude.{◌≡◌, ◌≢◌, ◌≤◌, ◌<◌, ◌+◌, ℕ, false, nat_eq, length, take, None};
 ghost use Rattle.rfb_session.specs.doors.Events.{Received};
 ghost use Rattle.rfb_session.specs.console.Console.{Does, space_at, KeepsSide, KeepsButRooms};
 ghost use Rattle.rfb_session.specs.console.Console.{KeepsButNotes};
@@ -189,7 +189,10 @@ impl<S: Speaker + Drop> Console<S> {
 
     // So many bytes of a door are taken.
     pub(crate) fn open_room(&mut self, door: usize, room: usize)
-        ensures { KeepsButRooms self.old self.new }
+        ensures keeps { KeepsButRooms self.old self.new }
+        ensures room { door < 9 → space_at self.new door ≡ room }
+        ensures others { (d : ℕ) → nat_eq d door ≡ false →
+            space_at self.new d ≡ space_at self.old d }
     {
         if door < READ {
             self.rooms[door] = room;

@@ -1,15 +1,16 @@
 //! The turns of a console.
 
-ghost use Rattle.std.specs.Prelude.{◌≡◌, None};
+ghost use Rattle.std.specs.Prelude.{◌≡◌, ◌<◌, ◌+◌, ℕ, None};
 ghost use Rattle.rfb_session.specs.console.Console.{TurnsDesk, NamesNext, Stays};
 ghost use Rattle.rfb_session.specs.console.Console.{KeepsSide, KeepsOwner, KeepsButRooms};
-ghost use Rattle.rfb_session.specs.console.Console.{KeepsButNotes};
+ghost use Rattle.rfb_session.specs.console.Console.{KeepsButNotes, OpensRooms, space_at};
+ghost use Rattle.rfb_session.specs.console.Console.{room_of_owner, room_of_seat};
 
 use crate::console::desk::turning::Late;
-use crate::console::entrances::seat_at;
 use crate::console::listening::{ROOM_OF_OWNER, ROOM_OF_SEAT};
 use crate::console::speaker::{Speaker, Why};
 use crate::console::{Console, OWNER, Outcome};
+use crate::seat::Seat;
 use crate::slots::SLOTS;
 
 // How long what waits is written after the end, in milliseconds.
@@ -77,6 +78,7 @@ impl<S: Speaker + Drop> Console<S> {
         ensures owner { KeepsOwner self.old self.new }
         ensures next { self.old.outcome ≡ None → self.new.next ≡ self.old.next }
         ensures stays { Stays self.old self.new }
+        ensures rooms { OpensRooms self.new }
     {
         self.open_owner();
         self.open_seats();
@@ -88,30 +90,43 @@ impl<S: Speaker + Drop> Console<S> {
         }
     }
 
+    fn open_owner(&mut self)
+        ensures keeps { KeepsButRooms self.old self.new }
+        ensures room { space_at self.new 0 ≡ room_of_owner self.old }
+    {
+        let room = self.room_of_owner();
+        self.open_room(OWNER, room);
+    }
+
     fn open_seats(&mut self)
-        ensures { KeepsButRooms self.old self.new }
+        ensures keeps { KeepsButRooms self.old self.new }
+        ensures owner { space_at self.new 0 ≡ space_at self.old 0 }
+        ensures rooms { (k : ℕ) → k < 8 → space_at self.new (k + 1) ≡ room_of_seat self.old k }
     {
         for place in 0..SLOTS {
-            self.open_seat(place + 1);
+            let room = self.room_of_seat(Seat::at(place));
+            self.open_room(place + 1, room);
         }
     }
 
-    fn open_owner(&mut self)
-        ensures { KeepsButRooms self.old self.new }
+    // How many bytes of the owner's are taken before the next turn.
+    fn room_of_owner(&self) -> usize
+        ensures { result ≡ room_of_owner self.now }
     {
         let is_open = !self.has_input_ended
             && self.outcome.is_none()
             && self.notes.len() < NOTES_FEW;
-        self.open_room(OWNER, if is_open { ROOM_OF_OWNER } else { 0 });
+        if is_open { ROOM_OF_OWNER } else { 0 }
     }
 
-    fn open_seat(&mut self, door: usize)
-        ensures { KeepsButRooms self.old self.new }
+    // How many bytes of a viewer are.
+    fn room_of_seat(&self, seat: Seat) -> usize
+        ensures { result ≡ room_of_seat self.now seat }
     {
-        let is_open = match (&self.desk, seat_at(door)) {
-            (Some(desk), Some(seat)) => self.outcome.is_none() && desk.is_heard(seat),
-            _ => false,
+        let is_open = match &self.desk {
+            Some(desk) => self.outcome.is_none() && desk.is_heard(seat),
+            None => false,
         };
-        self.open_room(door, if is_open { ROOM_OF_SEAT } else { 0 });
+        if is_open { ROOM_OF_SEAT } else { 0 }
     }
 }

@@ -12,6 +12,7 @@ returns-clause-steps g c =
             ends.desk ends.outcome ends.owner,
         λ going desk is. let was = sym ends.outcome ∙ going in
             ends.next was ∙ turns.next was desk (sym ends.desk ∙ is),
+        ends.rooms,
       );
       left = tt;
       stays = stays_then c.args.self.now c.turn_desk.new.self c.end_turn.new.self turns.side.stays ends.stays;

@@ -23,20 +23,20 @@ returns-clause-some g c =
         was = c.in-Some.desk;
         now = c.admit.new.self;
         was_there = c.in-Some.is;
-        is_there = c.open_room.ensures.desk ∙ c.note_gave_way.ensures.desk;
+        is_there = c.open_room.ensures.keeps.desk ∙ c.note_gave_way.ensures.desk;
         seat = c.in_ok-admission.field-0;
         door_is = ap (λ (n : ℕ). n + 1) c.place-door.ensures.value;
         left = c.in-Ok.admission.left;
         admits = subst (λ (seat : Option ℕ). Admits c.in-Some.desk c.args.from.now seat c.in-Ok.admission.left
             c.admit.new.self) c.in_ok-admission.was c.in-Ok.ensures;
         owner = record {
-          reader = c.open_room.ensures.owner.reader ∙ side.owner.reader;
-          input = c.open_room.ensures.owner.input ∙ side.owner.input;
+          reader = c.open_room.ensures.keeps.owner.reader ∙ side.owner.reader;
+          input = c.open_room.ensures.keeps.owner.input ∙ side.owner.input;
         };
         stays = record {
-          rules = c.open_room.ensures.stays.rules ∙ side.stays.rules;
-          name = c.open_room.ensures.stays.name ∙ side.stays.name;
-          ended = λ was. c.open_room.ensures.stays.ended (side.stays.ended was);
+          rules = c.open_room.ensures.keeps.stays.rules ∙ side.stays.rules;
+          name = c.open_room.ensures.keeps.stays.name ∙ side.stays.name;
+          ended = λ was. c.open_room.ensures.keeps.stays.ended (side.stays.ended was);
         };
       },
     )
