@@ -16,6 +16,11 @@ stamped now waits guest = record guest {
   idle = cond waits (Some (begun now guest.idle)) None;
 }
 
+-- since when the handshake of a viewer that gives way lasts, or since when it fails; where no turn has told the
+-- time yet, it comes after all whose time is known
+abbrev pub undone_since : Guest → ℕ
+undone_since guest = begun 18446744073709551615 guest.since
+
 -- it is so for that long at least
 abbrev pub has_lasted : ℕ → ℕ → Option ℕ → Bool
 has_lasted limit now None = false

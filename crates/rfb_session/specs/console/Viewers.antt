@@ -1,6 +1,6 @@
 -- What becomes of the viewers of a desk: who is let go, what they send, and who comes.
-use Rattle.std.specs.Prelude.{◌≡◌, ◌<◌, ◌≤◌, ℕ, suc, Bool, true, false, ◌&&◌, not, nat_eq, cond, length}
-use Rattle.std.specs.Prelude.{List, [], ◌++◌, Option, Some, None}
+use Rattle.std.specs.Prelude.{◌≡◌, ◌<◌, ◌≤◌, ℕ, suc, Bool, true, false, ◌&&◌, not, nat_eq, nat_le, nat_lt, cond, length}
+use Rattle.std.specs.Prelude.{List, [], ◌++◌, Option, Some, None, IfSome}
 use Rattle.rfb_picture.specs.Places.{has_bit}
 use Rattle.rfb_session.specs.declared.console.desk.Desk.{Desk}
 use Rattle.rfb_session.specs.declared.console.guest.Progress.{Progress}
@@ -16,6 +16,7 @@ use Rattle.rfb_session.specs.owner.Telling.{leave_line}
 use Rattle.rfb_session.specs.console.Telling.{IsFaultLine, leave_lines, told_line, come_line, busy_line}
 use Rattle.rfb_session.specs.console.Desk.{nobody, newcomer, guest_at, lines_of, is_over, gives_way, tells_in}
 use Rattle.rfb_session.specs.console.Desk.{KeepsRules, OtherGuests, seated}
+use Rattle.rfb_session.specs.console.Time.{undone_since}
 
 -- ---- viewers that are let go
 
@@ -184,12 +185,42 @@ pub data HearsAt (old : Desk) (k : ℕ) (bytes : List ℕ) (used ended : ℕ) (n
 
 -- ---- connections
 
--- nobody had to go, or one that gives way was let go
+-- there are as many viewers as may be
+abbrev pub is_full : Desk → Bool
+is_full desk = nat_le desk.rules.viewers (seated desk)
+
+-- a viewer gives way, and none began before it that gives way at one of the first `count` seats
+pub record IsOldest (desk : Desk) (count k : ℕ) : Type 0 where
+  pub within : k < count
+  pub gives : gives_way (guest_at desk k).progress ≡ true
+  pub oldest : (j : ℕ) → j < count → gives_way (guest_at desk j).progress ≡ true →
+      undone_since (guest_at desk k) ≤ undone_since (guest_at desk j)
+
+-- a viewer gives way, and it began before the one that was found
+abbrev pub is_older : Desk → ℕ → Option ℕ → Bool
+is_older desk k None = gives_way (guest_at desk k).progress
+is_older desk k (Some other) =
+    gives_way (guest_at desk k).progress
+    && nat_lt (undone_since (guest_at desk k)) (undone_since (guest_at desk other))
+
+-- it is that one; or at none of these seats there is a viewer that gives way
+pub record FindsOldest (desk : Desk) (count : ℕ) (found : Option ℕ) : Type 0 where
+  pub some : IfSome found (λ k. IsOldest desk count k)
+  pub none : found ≡ None → (k : ℕ) → k < count → gives_way (guest_at desk k).progress ≡ false
+
+-- where there are as many viewers as may be, the oldest that gives way is let go for a newcomer; where there are
+-- fewer, or none gives way, nobody is
 pub record MakesRoom (old : Desk) (left : Option ℕ) (new : Desk) : Type 0 where
   pub none : left ≡ None → new ≡ old
   pub one : (k : ℕ) → left ≡ Some k →
       (k < 8) × (gives_way (guest_at old k).progress ≡ true)
       × ((taken : Bool) × LetsGo old k taken (leave_line k) new)
+  pub only_full : (k : ℕ) → left ≡ Some k → is_full old ≡ true
+  pub none_gives_way : left ≡ None → is_full old ≡ true →
+      (k : ℕ) → k < 8 → gives_way (guest_at old k).progress ≡ false
+  pub oldest : (k : ℕ) → left ≡ Some k →
+      (j : ℕ) → j < 8 → gives_way (guest_at old j).progress ≡ true →
+      undone_since (guest_at old k) ≤ undone_since (guest_at old j)
 
 -- a viewer has just taken a seat
 pub record Welcomes (old : Desk) (k : ℕ) (new : Desk) : Type 0 where

@@ -34,7 +34,7 @@ impl Guest {
     ghost use Rattle.std.specs.Prelude.{◌≡◌};
     ghost use Rattle.rfb_session.specs.console.Turns.{WakesFor};
     ghost use Rattle.rfb_session.specs.console.Desk.{nobody, newcomer, gives_way, is_here};
-    ghost use Rattle.rfb_session.specs.console.Time.{stamped, is_slow, is_stuck};
+    ghost use Rattle.rfb_session.specs.console.Time.{stamped, is_slow, is_stuck, undone_since};
     ghost use Rattle.rfb_session.specs.console.Time.{IsByEnd, IsByLimit};
 
     /// There is no viewer.
@@ -64,6 +64,14 @@ impl Guest {
         ensures { result ≡ gives_way self.now.progress }
     {
         matches!(self.progress, Progress::Shaking | Progress::Failing)
+    }
+
+    /// Since when its handshake lasts, or since when it fails. Where no turn has told the time yet
+    /// that is later than any.
+    pub(crate) fn undone_since(&self) -> u64
+        ensures { result ≡ undone_since self.now }
+    {
+        self.since.unwrap_or(u64::MAX)
     }
 
     /// Whether there is a viewer.

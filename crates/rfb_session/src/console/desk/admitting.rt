@@ -1,9 +1,9 @@
 //! Connections that come to a console.
 
-ghost use Rattle.std.specs.Prelude.{◌≡◌, ◌<◌, true, IfOk, IfSome, nat_le};
-ghost use Rattle.rfb_session.specs.console.Desk.{gives_way, guest_at, seated};
+ghost use Rattle.std.specs.Prelude.{◌≡◌, ◌<◌, IfOk, IfSome};
+ghost use Rattle.rfb_session.specs.console.Desk.{seated};
 ghost use Rattle.rfb_session.specs.console.Viewers.{Admits, AdmitsAs, Welcomes, TurnsAway};
-ghost use Rattle.rfb_session.specs.console.Viewers.{MakesRoom};
+ghost use Rattle.rfb_session.specs.console.Viewers.{MakesRoom, FindsOldest, is_full, is_older};
 
 use crate::console::desk::Desk;
 use crate::console::guest::Guest;
@@ -85,7 +85,7 @@ impl Desk {
 
     // Whether there are as many viewers as there may be.
     fn is_full(&self) -> bool
-        ensures { result ≡ nat_le self.now.rules.viewers (seated self.now) }
+        ensures { result ≡ is_full self.now }
     {
         self.seated() >= self.rules.viewers
     }
@@ -105,20 +105,30 @@ impl Desk {
 
     // The place of the viewer whose handshake lasts longest, of those that give way.
     fn oldest_undone(&self) -> Option<usize>
-        ensures { IfSome result (λ k. (k < 8) × (gives_way (guest_at self.now k).progress ≡ true)) }
+        ensures { FindsOldest self.now 8 result }
     {
         let mut found = None;
-        let mut oldest = u64::MAX;
         for place in 0..SLOTS {
-            let guest = &self.guests[place];
-            if guest.gives_way() {
-                let since = guest.since.unwrap_or(u64::MAX);
-                if found.is_none() || since < oldest {
-                    found = Some(place);
-                    oldest = since;
-                }
+            if self.is_older(place, found) {
+                found = Some(place);
             }
         }
         found
+    }
+
+    // Whether the viewer at a place gives way, and before the one that was found.
+    fn is_older(&self, place: usize, found: Option<usize>) -> bool
+        requires place { place < 8 }
+        requires found { IfSome found (λ k. k < 8) }
+        ensures { result ≡ is_older self.now place found }
+    {
+        let guest = &self.guests[place];
+        if !guest.gives_way() {
+            return false;
+        }
+        let Some(other) = found else {
+            return true;
+        };
+        guest.undone_since() < self.guests[other].undone_since()
     }
 }
