@@ -4,6 +4,7 @@ pub mod CommandLemmas
 pub mod ComposingLemmas
 pub mod DeliveryLemmas
 pub mod EndsLemmas
+pub mod FirstLineLemmas
 pub mod HubWordLemmas
 pub mod HubStepLemmas
 pub mod HubLineLemmas

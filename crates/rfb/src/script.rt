@@ -43,7 +43,7 @@ pub mod steps;
 
 use crate::fault::Failure;
 use crate::script::cause::tell_bad_line;
-use crate::script::parting::ends_line;
+use crate::script::parting::lines_in;
 use crate::script::read::{read_screen, read_step, read_viewer};
 pub use hub::hub_step::{HubNumbered, HubStep};
 pub use hub::{HubScript, begins_hub, read_hub_explained};
@@ -75,7 +75,7 @@ pub fn read_script(alloc: Global, text: &[u8]) -> Result<Script, Failure>
     let mut wants = None;
     let mut steps = Vec::new(alloc);
     let mut number = 0;
-    for line in text.split(ends_line) {
+    for line in lines_in(text) {
         number += 1;
         if line.is_empty() {
             continue;

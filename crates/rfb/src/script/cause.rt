@@ -9,7 +9,7 @@ use crate::script::cause::form::{OF_SCRIPT, OF_SLOT, form_of};
 use crate::script::cause::kind::why_not_form;
 use crate::script::cause::reason::Reason;
 use crate::script::keyword::{HUB, SCREEN};
-use crate::script::parting::{ends_line, parts_words};
+use crate::script::parting::{lines_in, parts_words};
 use arrayvec::ArrayVec;
 pub use hub_cause::tell_bad_hub_line;
 use std::io::Write;
@@ -40,7 +40,7 @@ const HUB_ALONE: &str = ": `hub W H`, each side 1 to 4096, stands first, with `r
 /// Says why the line with this number, counted from 1, is bad.
 pub fn tell_bad_line<N: Write>(text: &[u8], number: u64, notes: &mut N) {
     let mut is_first = true;
-    for (at, line) in (1..u64::MAX).zip(text.split(ends_line)) {
+    for (at, line) in (1..u64::MAX).zip(lines_in(text)) {
         if at == number {
             tell_reason(number, why_bad(line, is_first), notes);
             return;

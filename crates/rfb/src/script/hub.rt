@@ -24,7 +24,7 @@ use crate::fault::Failure;
 use crate::script::cause::tell_bad_hub_line;
 use crate::script::hub::hub_line::{read_hub, read_hub_step, read_show};
 use crate::script::hub::hub_step::{HubNumbered, HubStep};
-use crate::script::parting::ends_line;
+use crate::script::parting::lines_in;
 use rfb_session::language::Screen;
 pub use slot::{SHARED, SOLE};
 use std::alloc::Global;
@@ -66,7 +66,7 @@ pub fn read_hub_explained<N: Write>(
 pub fn begins_hub(text: &[u8]) -> bool
     ensures { (result ≡ true) ↔ BeginHub (lines_of text.now) }
 {
-    for line in text.split(ends_line) {
+    for line in lines_in(text) {
         if !line.is_empty() {
             return read_hub(line).is_some();
         }
@@ -86,7 +86,7 @@ fn read_hub_script(alloc: Global, text: &[u8]) -> Result<HubScript, Failure>
     let mut shown = None;
     let mut number = 0;
     let mut after = 0;
-    for line in text.split(ends_line) {
+    for line in lines_in(text) {
         number += 1;
         if line.is_empty() {
             after = number;

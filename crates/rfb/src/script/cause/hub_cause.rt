@@ -5,7 +5,7 @@ use crate::script::cause::kind::{Kind, why_not_form};
 use crate::script::cause::reason::Reason;
 use crate::script::cause::{FIRST, first_words, tell_reason, why_not_words};
 use crate::script::keyword::{AT, SHOW};
-use crate::script::parting::ends_line;
+use crate::script::parting::lines_in;
 use rfb_session::language::read_slot;
 use std::io::Write;
 
@@ -25,7 +25,7 @@ const NO_LINE: &str = ": a line of the slot stands after `at S`";
 /// after its end.
 pub fn tell_bad_hub_line<N: Write>(text: &[u8], number: u64, notes: &mut N) {
     let mut has_shown = false;
-    for (at, line) in (1..u64::MAX).zip(text.split(ends_line)) {
+    for (at, line) in (1..u64::MAX).zip(lines_in(text)) {
         if at == number && !line.is_empty() {
             tell_reason(number, why_bad(line, has_shown), notes);
             return;

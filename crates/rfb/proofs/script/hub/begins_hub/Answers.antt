@@ -1,7 +1,8 @@
-use Rattle.std.proofs.Common.{◌==◌, ◌≡◌, true, false, rules, tests, subst, List, ℕ}
-use Rattle.std.proofs.lemmas.Iterator.Splits.{YieldsList-from_slice_split}
-use Rattle.std.proofs.lemmas.Iterator.Consumers.{YieldsList-turn, YieldsList-so_far, YieldsList-end}
-use Rattle.rfb.specs.Script.{AreEmpty, lines_of}
+use Rattle.std.proofs.Common.{◌≡◌, true, false, subst, List, ℕ}
+use Rattle.std.proofs.lemmas.Iterator.Consumers.{YieldsList-from_first, YieldsList-turn, YieldsList-so_far}
+use Rattle.std.proofs.lemmas.Iterator.Consumers.{YieldsList-end}
+use Rattle.rfb.specs.declared.script.parting.Lines.{Lines}
+use Rattle.rfb.specs.Script.{AreEmpty, lines_of, lines_left}
 use Rattle.rfb.proofs.LinesLemmas.{some_chars}
 use Rattle.rfb.proofs.HubLineLemmas.{begins_by, is_first_line, none_begins}
 use Rattle.rfb.proofs.script.hub.begins_hub.Goals as goal
@@ -11,18 +12,18 @@ returns-then-not-is_empty c =
     let l = c.loop-line in
     let line = c.in-Some.line in
     let some = some_chars line.now c.is_empty.result c.is_empty.ensures c.if-not-is_empty.true in
-    let turn = YieldsList-turn (YieldsList-from_slice_split _ (λ byte. byte == 10) c.args.text.now (cc) (cc) (cc)
-    (λ x r q k. search (rules, tests))) l.yielded _ l.yielded_by _ _ line c.in-Some.is c.next.ensures.steps in
-    let front = YieldsList-so_far (YieldsList-from_slice_split _ (λ byte. byte == 10) c.args.text.now (cc) (cc) (cc)
-    (λ x r q k. search (rules, tests))) l.yielded _ l.yielded_by in
+    let turn = YieldsList-turn (YieldsList-from_first (λ x. x.now) (λ (lines : Lines). lines_left lines.rest)
+    (lines_of c.args.text.now) (cc)) l.yielded _ l.yielded_by _ c.next.new.self line c.in-Some.is c.next.ensures.steps in
+    let front = YieldsList-so_far (YieldsList-from_first (λ x. x.now) (λ (lines : Lines). lines_left lines.rest)
+    (lines_of c.args.text.now) (cc)) l.yielded _ l.yielded_by in
     begins_by (lines_of c.args.text.now) line.now c.read_hub.result c.is_some.result (is_first_line
     (lines_of c.args.text.now) l.yielded line front turn l.invariant some) c.is_some.ensures c.read_hub.ensures
 
 pub returns : goal.returns
 returns c =
     let l = c.loop-line in
-    let end = YieldsList-end (YieldsList-from_slice_split _ (λ byte. byte == 10) c.args.text.now (cc) (cc) (cc)
-    (λ x r q k. search (rules, tests))) l.yielded _ l.yielded_by _ _ c.in-None.is c.next.ensures.steps in
+    let end = YieldsList-end (YieldsList-from_first (λ x. x.now) (λ (lines : Lines). lines_left lines.rest)
+    (lines_of c.args.text.now) (cc)) l.yielded _ l.yielded_by _ c.next.new.self c.in-None.is c.next.ensures.steps in
     let none =
     none_begins (lines_of c.args.text.now) (subst (λ (lines : List (List ℕ)). AreEmpty lines) end.0 l.invariant) in
     (λ yes. let e : false ≡ true = yes in absurd (cc), λ begins. absurd (none begins))

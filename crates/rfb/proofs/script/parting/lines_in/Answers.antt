@@ -1,0 +1,14 @@
+use Rattle.std.proofs.Common.{arith, ◌==◌}
+use Rattle.std.proofs.lemmas.List.Splits.{length-slice_split}
+use Rattle.std.proofs.lemmas.List.Sums.{count_by-le-length}
+use Rattle.rfb.proofs.script.parting.lines_in.Goals as goal
+
+pub returns-clause-few : goal.returns-clause-few
+returns-clause-few c =
+    let text = c.args.text.now in
+    omega (
+      arith,
+      length-slice_split (λ byte. byte == 10) text,
+      count_by-le-length (λ byte. byte == 10) text,
+      c.if-prove.false,
+    )
