@@ -67,5 +67,5 @@ def row(bench, size):
     """A row of the table."""
     width, height = map(str, size)
     ours, theirs = of_ours(bench, width, height), of_peer(bench, width, height)
-    cells = " | ".join(f"{shown(a)}, {shown(b)}" for a, b in zip(ours, theirs))
+    cells = " | ".join(f"{shown(a)} / {shown(b)}" for a, b in zip(ours, theirs))
     return f"| {size[0]:,} by {size[1]:,} | {cells} |"

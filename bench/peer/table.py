@@ -25,7 +25,7 @@ from messages import handshake
 
 ENCODINGS = ["raw", "rre", "hextile"]
 SIZES = [(1920, 1080), (4096, 4096)]
-CHANGES = ["copyrect hextile", "hextile", "copyrect raw"]
+CHANGES = ["copyrect raw", "hextile", "copyrect hextile"]
 PICTURES = scripts.PICTURES
 ONCE = "--once" in sys.argv
 if ONCE:
@@ -147,10 +147,10 @@ class Whole:
         sends, shows, plays = self.peer.result()
         cells = []
         for mine, theirs in zip(self.ours.result(), sends):
-            cells.append(f"{of(mine and mine.sent, places)}, {of(theirs.sent, places)}")
+            cells.append(both(mine and mine.sent, theirs.sent, places))
         cells[0] += f" ({of(self.own.result().sent, places)})"
         for play, show in zip(plays, shows):
-            cells.append(f"{of(play and play - idle, places)}, {of(show, places)}")
+            cells.append(both(play and play - idle, show, places))
         return f"| {self.picture}, {self.encoding} | " + " | ".join(cells) + " |"
 
 
@@ -181,16 +181,29 @@ class Changes:
         shown = dict(zip(offsets, shows))
         return sends, [shown.get(b, 0) if b != e else 0 for b, e in places]
 
-    def rows(self):
-        """A row for each change. What an empty copy costs is taken off what is drawn."""
+    def cells(self):
+        """For each change its name, what is drawn, and what was sent and shown. What an empty copy
+        costs is taken off what is drawn."""
         sends, shows = self.peer.result()
         mine = self.ours.result()
         width, height = self.size
         for at, name in list(enumerate(self.names, 1))[1:]:
             a, b = mine[at], sends[at]
-            told = f"{of(a and a.drawn - mine[-1].drawn)}, {of(b.drawn - sends[-1].drawn)}"
-            told += f" | {of(a and a.sent)}, {of(b.sent)} | {of(a and a.shown)}, {of(shows[at])}"
-            yield f"| {name}, {self.encodings}, {width:,} by {height:,} | {told} |"
+            drawn = both(a and a.drawn - mine[-1].drawn, b.drawn - sends[-1].drawn)
+            sent, shown = both(a and a.sent, b.sent), both(a and a.shown, shows[at])
+            yield f"{name}, {width:,} by {height:,}", drawn, f"{sent} | {shown}"
+
+
+def both(mine, peer, places=None):
+    """Our figure and the peer's."""
+    return f"{of(mine, places)} / {of(peer, places)}"
+
+
+def change_rows(lists):
+    """A row for each change of one size: what is drawn, and what each list of encodings needs."""
+    for found in zip(*(it.cells() for it in lists)):
+        name, drawn, _ = found[0]
+        yield f"| {name} | {drawn} | " + " | ".join(cells for _, _, cells in found) + " |"
 
 
 def main():
@@ -212,17 +225,19 @@ def main():
 
 def print_all(bench, begun):
     idle = bench.pool.submit(bench.play, "idle", "rgb888", handshake(*SIZES[0]))
-    changes = [Changes(bench, size, it) for size in reversed(SIZES) for it in CHANGES]
+    # The dearest are begun first.
+    changes = [Changes(bench, size, it) for size in reversed(SIZES) for it in reversed(CHANGES)]
     whole = [Whole(bench, it, form) for it in PICTURES for form in ENCODINGS]
     print("| Whole update, a place | server: rgb888 | rgb565 | bgr233 |", end="")
     print(" viewer: rgb888 | rgb565 | bgr233 |")
     print("|---|---|---|---|---|---|---|")
     for it in whole:
         print(it.row(idle.result()), flush=True)
-    print("\n| Change | drawing | request and update | at the viewer |")
-    print("|---|---|---|---|")
-    for it in reversed(changes):
-        for row in it.rows():
+    print("\n| Change | drawing |", end="")
+    print("".join(f" {it}: request and update | at the viewer |" for it in CHANGES))
+    print("|---|---|" + "---|---|" * len(CHANGES))
+    for size in SIZES:
+        for row in change_rows([it for it in reversed(changes) if it.size == size]):
             print(row, flush=True)
     print("\n| Largest memory, MiB | server | viewer |")
     print("|---|---|---|")
