@@ -50,7 +50,7 @@ OURS = [
         "rfb_server Session::feed_placed",
         "rfb_session World::feed_server",
     ],
-    ["rfb_server Server::compose", "rfb_server Session::compose", "rfb_session World::compose"],
+    ["rfb_server Server::compose", "rfb_server Session::compose", "rfb_server Session::send_due"],
     ["rfb_viewer Viewer::feed", "rfb_viewer Viewer::take_all", "rfb_session World::feed_viewer"],
     ["rfb_session World::step"],
 ]
