@@ -4,6 +4,7 @@ pub mod RecordLemmas
 pub mod ComposingLaws
 pub mod FollowingLaws
 pub mod DrawingLaws
+pub mod AskedLaws
 pub mod StaleLemmas
 pub mod ClaimLemmas
 pub mod ChainLemmas

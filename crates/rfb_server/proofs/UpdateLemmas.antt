@@ -32,7 +32,8 @@ use Rattle.rfb_server.specs.inside.Copies.{Copies, AppendsCopies, usable_hints}
 use Rattle.rfb_server.specs.Using.{AreUsed, usable}
 use Rattle.rfb_server.proofs.ClaimLemmas.{nothing_claimed}
 use Rattle.rfb_server.proofs.UsingLemmas.{used_all}
-use Rattle.rfb_server.specs.inside.Composed.{is_ready, HasComposed, StaysIdle, IsSettled, IsCounted}
+use Rattle.rfb_server.specs.Progress.{is_ready}
+use Rattle.rfb_server.specs.inside.Composed.{HasComposed, StaysIdle, IsSettled, IsCounted}
 use Rattle.rfb_server.proofs.NeedingLemmas.{differs_not}
 use Rattle.rfb_server.proofs.SentCells.{kept_then, quiet_unless}
 use Rattle.rfb_server.proofs.CellLemmas.{place_cell}

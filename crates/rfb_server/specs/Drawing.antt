@@ -108,6 +108,10 @@ copy_of (Hint area sx sy) = None
 abbrev pub notice_of : Stroke → Notice
 notice_of stroke = record { area = area_of stroke; copy = copy_of stroke; hint = hint_of stroke }
 
+-- what is told of a change in a rectangle, whatever it is
+abbrev pub change_in : Rect → Notice
+change_in area = record { area = area; copy = None; hint = None }
+
 -- the hints that a session keeps then
 abbrev pub with_hint_of : Option HintOf → List HintOf → List HintOf
 with_hint_of None hints = hints

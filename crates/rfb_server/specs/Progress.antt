@@ -98,6 +98,14 @@ is_idle (Encodings left number list) = false
 is_idle (CutText text_length left kept) = false
 is_idle (Failed fault) = false
 
+-- the handshake is done, and no fault has come
+abbrev pub is_ready : Progress → Bool
+is_ready Handshake = false
+is_ready (Head bytes) = true
+is_ready (Encodings left number list) = true
+is_ready (CutText text_length left kept) = true
+is_ready (Failed fault) = false
+
 -- the fault that it has failed with, if it has
 abbrev pub fault_in : Progress → Option ServerFault
 fault_in Handshake = None

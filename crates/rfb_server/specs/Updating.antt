@@ -1,10 +1,12 @@
 -- What a call to compose makes of a session over the screen that it is lent, and of a `Server`.
-use Rattle.std.specs.Prelude.{◌≡◌, ℕ, List, ◌++◌}
+use Rattle.std.specs.Prelude.{◌≡◌, ℕ, ◌<◌, true, List, ◌++◌}
 use Rattle.rfb_pixel.specs.declared.colour.Colour.{Colour}
 use Rattle.rfb_picture.specs.Grid.{Grid}
+use Rattle.rfb_picture.specs.Area.{asked_at}
 use Rattle.rfb_server.specs.declared.session.Session.{Session}
 use Rattle.rfb_server.specs.declared.server.Server.{Server}
 use Rattle.rfb_server.specs.Server.{Serving, ServerState}
+use Rattle.rfb_server.specs.Progress.{is_ready}
 use Rattle.rfb_server.specs.Standing.{SessionStandsFor, StandsFor, KeepsSession, Keeps}
 use Rattle.rfb_server.specs.Standing.{session_fault, session_serving, fault_of, screen_of}
 use Rattle.rfb_server.specs.Composing.{Part, Composes, IsDue}
@@ -27,6 +29,15 @@ pub record HasSent (serving : Serving) (s : ServerState) (prefix : List ℕ) (hi
   pub stands : SessionStandsFor serving screen new resulting prefix
 
 -- ---- a session
+
+-- its viewer waits for an update, RFC 6143 section 7.5.3: the handshake is done, no fault has come,
+-- and a place was asked for since the latest update
+pub record HasAsked (session : Session) : Type 0 where
+  pub ready : is_ready session.progress ≡ true
+  pub x : ℕ
+  pub y : ℕ
+  pub is_place : (x < session.known.width) × (y < session.known.height)
+  pub asked : asked_at session.area x y ≡ true
 
 -- an update was appended, of whatever the session stood for over the screen
 pub record SendsUpdate (screen : Grid Colour) (old new : Session) (before after : List ℕ)

@@ -6,9 +6,7 @@ mod notice;
 
 use crate::fault::Outside;
 pub use notice::Notice;
-use notice::{
-    notice_in, notice_in_row, notice_of, notice_of_copy, notice_of_hint, notice_of_scroll,
-};
+use notice::{notice_in_row, notice_of, notice_of_copy, notice_of_scroll};
 use rfb_codec::{paint_bytes, paint_pixels};
 use rfb_picture::{Picture, Rect};
 use rfb_pixel::{Colour, Format};
@@ -54,7 +52,7 @@ impl Drawing<'_> {
         ensures value { IfOk result (λ notice. notice ≡ notice_of (stroke self.now)) }
     {
         match *self {
-            Drawing::Fill(area, _) => notice_in(screen, area),
+            Drawing::Fill(area, _) => Notice::changed(screen, area),
             Drawing::Put(x, y, row) => notice_in_row(screen, x, y, row.len()),
             Drawing::Rows(area, rows) => notice_of(screen, area, 1, rows.len()),
             Drawing::Pixels(area, format, bytes) => {
@@ -63,7 +61,7 @@ impl Drawing<'_> {
             Drawing::Bytes(area, bytes) => notice_of(screen, area, 3, bytes.len()),
             Drawing::Copy(area, sx, sy) => notice_of_copy(screen, area, sx, sy),
             Drawing::Scroll(area, dx, dy) => notice_of_scroll(screen, area, dx, dy),
-            Drawing::Hint(area, sx, sy) => notice_of_hint(screen, area, sx, sy),
+            Drawing::Hint(area, sx, sy) => Notice::hint(screen, area, sx, sy),
         }
     }
 

@@ -1,7 +1,7 @@
 //! A session that takes the memory of its places once its handshake is about to be done.
 
-ghost use Rattle.std.specs.Prelude.{◌≡◌, ◌≢◌, ◌≤◌, ◌+◌, ◌++◌, ℕ, List, [], length, vec_len};
-ghost use Rattle.std.specs.Prelude.{Ok, None, IfOk, OnErr, true, false};
+ghost use Rattle.std.specs.Prelude.{◌≡◌, ◌≢◌, ◌≤◌, ◌+◌, ◌++◌, ◌↔◌, ℕ, List, [], length, vec_len};
+ghost use Rattle.std.specs.Prelude.{Ok, None, IfOk, OnErr, IsTrue, true, false};
 ghost use Rattle.std.specs.Vec.{vec_capacity};
 
 pub(crate) mod entrance;
@@ -47,7 +47,7 @@ impl LateSession {
     ghost use Rattle.rfb_server.specs.Standing.{KeepsSession, notes_in, session_fault};
     ghost use Rattle.rfb_server.specs.Following.{Follows};
     ghost use Rattle.rfb_server.specs.Hints.{hints_in};
-    ghost use Rattle.rfb_server.specs.Updating.{SendsUpdate, OwesUpdate, OwesNone};
+    ghost use Rattle.rfb_server.specs.Updating.{SendsUpdate, OwesUpdate, OwesNone, HasAsked};
     ghost use Rattle.rfb_server.specs.Intake.{IsUnfed, TakesNotice};
     ghost use Rattle.rfb_server.specs.Room.{GrowsWithin, update_room};
 
@@ -117,6 +117,17 @@ impl LateSession {
         match &mut self.stage {
             Stage::Entering(_) => Ok(false),
             Stage::Within(session) => session.compose(screen, out),
+        }
+    }
+
+    /// Whether its viewer waits for an update, as `Session::is_asked` tells: never before its
+    /// handshake is done.
+    pub fn is_asked(&self) -> bool
+        ensures { IsTrue result ↔ HasAsked self.now }
+    {
+        match &self.stage {
+            Stage::Entering(_) => false,
+            Stage::Within(session) => session.is_asked(),
         }
     }
 

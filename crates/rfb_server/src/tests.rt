@@ -21,3 +21,4 @@ mod scrolling;
 mod several_hints;
 mod shared;
 mod two_viewers;
+mod waiting;

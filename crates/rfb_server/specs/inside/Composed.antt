@@ -1,26 +1,16 @@
 -- What a call to compose makes of a session and of the bytes that are to be sent.
-use Rattle.std.specs.Prelude.{◌≡◌, ℕ, Bool, true, false, List, [], ◌∷◌, ◌++◌, length}
+use Rattle.std.specs.Prelude.{◌≡◌, ℕ, true, List, [], ◌∷◌, ◌++◌, length}
 use Rattle.rfb_pixel.specs.declared.colour.Colour.{Colour}
 use Rattle.rfb_picture.specs.Grid.{Grid}
 use Rattle.rfb_picture.specs.Area.{nothing}
 use Rattle.rfb_picture.specs.Places.{without}
 use Rattle.rfb_wire.specs.ServerHead.{SpellsUpdate}
 use Rattle.rfb_server.specs.declared.session.Session.{Session}
-use Rattle.rfb_server.specs.declared.session.input.progress.Progress.{Progress}
-use Rattle.rfb_server.specs.declared.session.input.progress.Progress.TheVariants.{Handshake, Head, Encodings, CutText}
-use Rattle.rfb_server.specs.declared.session.input.progress.Progress.TheVariants.{Failed}
+use Rattle.rfb_server.specs.Progress.{is_ready}
 use Rattle.rfb_server.specs.Composing.{Part, Composes, IsDue}
 use Rattle.rfb_server.specs.Using.{AreUsed, usable}
 use Rattle.rfb_server.specs.inside.Sessions.{IsSame}
 use Rattle.rfb_server.specs.inside.Sends.{state_of}
-
--- the handshake is done, and no fault has come
-abbrev pub is_ready : Progress → Bool
-is_ready Handshake = false
-is_ready (Head bytes) = true
-is_ready (Encodings left number list) = true
-is_ready (CutText text_length left kept) = true
-is_ready (Failed fault) = false
 
 -- an update is due
 pub record IsAwaited (screen : Grid Colour) (session : Session) : Type 0 where

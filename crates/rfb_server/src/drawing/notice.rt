@@ -3,6 +3,7 @@
 ghost use Rattle.std.specs.Prelude.{◌≡◌, ◌≤◌, ◌↔◌, ◌*◌, None, Some, IfOk, OnOk, IsErr, IsTrue};
 ghost use Rattle.rfb_picture.specs.Grid.{Holds};
 ghost use Rattle.rfb_picture.specs.Rect.{rect, scrolled_to};
+ghost use Rattle.rfb_server.specs.Drawing.{change_in};
 ghost use Rattle.rfb_server.specs.Hints.{scroll_hint};
 ghost use Rattle.rfb_server.specs.Standing.{row_from, HoldsBoth};
 
@@ -20,24 +21,60 @@ pub struct Notice {
     pub(crate) hint: Option<Hint>,
 }
 
-/// That of a drawing in a rectangle of the screen.
-pub(crate) fn notice_in(screen: &Picture<Colour>, area: Rect) -> Result<Notice, Outside>
-    ensures refused { IsErr result ↔ (Holds screen.now area → ⊥) }
-    ensures inside { OnOk result (Holds screen.now area) }
-    ensures value { IfOk result (λ notice.
-        notice ≡ record { area = area; copy = None; hint = None }) }
-{
-    if !screen.holds(area) {
-        return Err(Outside);
+impl Notice {
+    ghost use Rattle.rfb_pixel.specs.declared.colour.Colour.{Colour};
+    ghost use Rattle.rfb_picture.specs.Grid.{Grid, IsGrid};
+    ghost use Rattle.rfb_server.specs.Drawing.{Hint as Hinted, notice_of, area_told, hint_told};
+    ghost use Rattle.rfb_server.specs.Following.{IsSameOutside, IsTold};
+
+    /// That of any change of the screen inside a rectangle. It is for who tells sessions of a
+    /// screen that somebody else draws on, before the change or after. Refused is a rectangle that
+    /// leaves the screen.
+    pub fn changed(screen: &Picture<Colour>, area: Rect) -> Result<Notice, Outside>
+        ensures refused { IsErr result ↔ (Holds screen.now area → ⊥) }
+        ensures inside { OnOk result (Holds screen.now area) }
+        ensures value { IfOk result (λ notice. notice ≡ change_in area) }
+        ensures area { IfOk result (λ notice. area_told notice ≡ area) }
+        ensures hint { IfOk result (λ notice. hint_told notice ≡ None) }
+        ensures told { IfOk result (λ notice. (before after : Grid Colour) → IsGrid after
+            → IsSameOutside area before after → IsTold notice before after) }
+    {
+        if !screen.holds(area) {
+            return Err(Outside);
+        }
+        Ok(Notice {
+            area,
+            copy: None,
+            hint: None,
+        })
     }
-    Ok(Notice {
-        area,
-        copy: None,
-        hint: None,
-    })
+
+    /// That of a hint, which changes no place: a rectangle looks as the one of its size at (`sx`,
+    /// `sy`) did when that was last sent. Nothing rests on it. Refused is one where either
+    /// rectangle leaves the screen.
+    pub fn hint(screen: &Picture<Colour>, to: Rect, sx: u16, sy: u16) -> Result<Notice, Outside>
+        ensures refused { IsErr result ↔ (HoldsBoth screen.now to sx sy → ⊥) }
+        ensures inside { OnOk result (HoldsBoth screen.now to sx sy) }
+        ensures value { IfOk result (λ notice. notice ≡ notice_of (Hinted to sx sy)) }
+        ensures area { IfOk result (λ notice. area_told notice ≡ rect 0 0 0 0) }
+        ensures hint { IfOk result (λ notice.
+            hint_told notice ≡ Some (record { to = to; sx = sx; sy = sy })) }
+        ensures told { IfOk result (λ notice. (screen : Grid Colour) → IsGrid screen
+            → IsTold notice screen screen) }
+    {
+        if !holds_both(screen, to, sx, sy) {
+            return Err(Outside);
+        }
+        Ok(Notice {
+            area: Rect::new(0, 0, 0, 0),
+            copy: None,
+            hint: Some(Hint { to, sx, sy }),
+        })
+    }
 }
 
-/// The same where it has `count` values, and each place needs `size` of these.
+/// That of a drawing in a rectangle that has `count` values, where each place needs `size` of
+/// these.
 pub(crate) fn notice_of(
     screen: &Picture<Colour>,
     area: Rect,
@@ -48,13 +85,12 @@ pub(crate) fn notice_of(
     ensures refused { IsErr result
         ↔ (Holds screen.now area × (count ≡ area.h * area.w * size) → ⊥) }
     ensures inside { OnOk result (Holds screen.now area × (count ≡ area.h * area.w * size)) }
-    ensures value { IfOk result (λ notice.
-        notice ≡ record { area = area; copy = None; hint = None }) }
+    ensures value { IfOk result (λ notice. notice ≡ change_in area) }
 {
     if count != usize::from(area.h) * usize::from(area.w) * size {
         return Err(Outside);
     }
-    notice_in(screen, area)
+    Notice::changed(screen, area)
 }
 
 /// The same of `count` places of row `y`, from column `x` on, however many they are.
@@ -66,8 +102,7 @@ pub(crate) fn notice_in_row(
 ) -> Result<Notice, Outside>
     ensures refused { IsErr result ↔ (Holds screen.now (row_from x y count) → ⊥) }
     ensures inside { OnOk result (Holds screen.now (row_from x y count)) }
-    ensures value { IfOk result (λ notice.
-        notice ≡ record { area = row_from x y count; copy = None; hint = None }) }
+    ensures value { IfOk result (λ notice. notice ≡ change_in (row_from x y count)) }
 {
     let width = usize::from(screen.width());
     let fits = count <= width && usize::from(x) <= width - count;
@@ -135,31 +170,6 @@ pub(crate) fn notice_of_scroll(
         area: to,
         copy: Some(hint),
         hint: Some(hint),
-    })
-}
-
-/// That of a hint, which changes no place.
-pub(crate) fn notice_of_hint(
-    screen: &Picture<Colour>,
-    to: Rect,
-    sx: u16,
-    sy: u16,
-) -> Result<Notice, Outside>
-    ensures refused { IsErr result ↔ (HoldsBoth screen.now to sx sy → ⊥) }
-    ensures inside { OnOk result (HoldsBoth screen.now to sx sy) }
-    ensures value { IfOk result (λ notice. notice ≡ record {
-      area = rect 0 0 0 0;
-      copy = None;
-      hint = Some (record { to = to; sx = sx; sy = sy });
-    }) }
-{
-    if !holds_both(screen, to, sx, sy) {
-        return Err(Outside);
-    }
-    Ok(Notice {
-        area: Rect::new(0, 0, 0, 0),
-        copy: None,
-        hint: Some(Hint { to, sx, sy }),
     })
 }
 

@@ -7,12 +7,14 @@ ghost use Rattle.std.specs.Int.{div_ceil};
 ghost use Rattle.std.specs.Vec.{vec_capacity};
 ghost use Rattle.rfb_server.specs.Claims.{IsClaimed};
 ghost use Rattle.rfb_server.specs.Following.{Follows};
+ghost use Rattle.rfb_server.specs.Progress.{is_ready};
 ghost use Rattle.rfb_server.specs.inside.Sends.{IsEnough, AreLimits};
 ghost use Rattle.rfb_server.specs.inside.Sessions.{IsSame};
 ghost use Rattle.rfb_server.specs.inside.Copies.{usable_hints, AreMarkedFor};
-ghost use Rattle.rfb_server.specs.inside.Composed.{is_ready, IsAwaited, HasComposed, StaysIdle};
+ghost use Rattle.rfb_server.specs.inside.Composed.{IsAwaited, HasComposed, StaysIdle};
 ghost use Rattle.rfb_server.specs.inside.Composed.{IsSettled, IsCounted};
 
+mod asked;
 mod cells;
 mod copies;
 mod gains;

@@ -1,5 +1,5 @@
 //! A session whose memory is refused at the end of its handshake: the same byte, fed again, ends
-//! it. Where each allocation fails in turn, the test passes all the same.
+//! it. Where each allocation fails in turn, the tests pass all the same.
 
 use crate::{LateFault, LateSession, ServerEvent, ServerSetup};
 use rfb_hello::Fed;
@@ -49,5 +49,27 @@ fn a_session_that_was_refused_memory_is_ready_by_the_same_byte(
     let done = ends_its_handshake(&mut session);
     drop(session);
     assert!(rt; begun && done);
+    Ok(())
+}
+
+// A request for both places, RFC 6143 section 7.5.3.
+const ASKS: &[u8] = b"\x03\0\0\0\0\0\0\x02\0\x01";
+
+fn waits_once_it_asked(session: &mut LateSession) -> bool {
+    !session.is_asked()
+        && session.feed(VERSION).is_ok()
+        && !session.is_asked()
+        && ends_its_handshake(session)
+        && !session.is_asked()
+        && session.feed(ASKS).is_ok()
+        && session.is_asked()
+}
+
+#[test]
+fn a_viewer_of_a_late_session_waits_once_it_has_asked(rt: HostRuntime) -> Result<(), AllocError> {
+    let mut session = session_at_last(rt.alloc())?;
+    let waits = waits_once_it_asked(&mut session);
+    drop(session);
+    assert!(rt; waits);
     Ok(())
 }

@@ -5,7 +5,7 @@ ghost use Rattle.rfb_picture.specs.Grid.{Grid, IsGrid};
 ghost use Rattle.rfb_pixel.specs.declared.colour.Colour.{Colour};
 ghost use Rattle.rfb_server.specs.Following.{Follows};
 
-use crate::{Drawing, Session};
+use crate::{Drawing, Notice, Session};
 use rfb_hello::Version;
 use rfb_picture::{Picture, Rect};
 use rfb_pixel::Colour;
@@ -78,12 +78,18 @@ pub(super) enum Who {
 pub(super) enum Step<'a> {
     // The owner draws a rectangle of one colour.
     Draw(Rect, Colour),
+    // Someone else draws it, and then the sessions are told where.
+    Change(Rect, Colour),
     // The viewer sends bytes that give at most one event.
     Feed(Who, &'a [u8]),
+    // It sends bytes that are refused.
+    Fails(Who, &'a [u8]),
     // An update of exactly these bytes is composed for the viewer.
     Sends(Who, &'a [u8]),
     // Whether the viewer asks for the first place, and what it is known to have there.
     Stands(Who, bool, Option<u32>),
+    // Whether the viewer waits for an update.
+    Waits(Who, bool),
 }
 
 // A session that was fed nothing.
@@ -150,6 +156,17 @@ impl Shared {
         true
     }
 
+    // Both are notified once it has changed.
+    fn change(&mut self, rect: Rect, colour: Colour) -> bool {
+        let Ok(notice) = Notice::changed(&self.screen, rect) else {
+            return false;
+        };
+        self.screen.fill(rect, colour);
+        self.first.notified(&notice);
+        self.second.notified(&notice);
+        true
+    }
+
     fn feed(&mut self, who: Who, bytes: &[u8]) -> bool {
         match who {
             Who::First => self.first.feed(bytes).is_ok(),
@@ -174,12 +191,15 @@ impl Shared {
     fn is_right(&mut self, alloc: Global, step: Step) -> bool {
         match step {
             Step::Draw(rect, colour) => self.draw(rect, colour),
+            Step::Change(rect, colour) => self.change(rect, colour),
             Step::Feed(who, bytes) => self.feed(who, bytes),
+            Step::Fails(who, bytes) => !self.feed(who, bytes),
             Step::Sends(who, bytes) => self.sends(who, alloc, bytes),
             Step::Stands(who, asked, has) => {
                 let session = self.session(who);
                 asks(session) == asked && known(session) == has
             }
+            Step::Waits(who, waits) => self.session(who).is_asked() == waits,
         }
     }
 }
