@@ -37,6 +37,12 @@ pub mod ShareMemoryLemmas
 pub mod ShareLifeLemmas
 pub mod ShareLemmas
 mod ShareWorkLemmas
+pub mod MirrorSizeLemmas
+pub mod ShareMoveLemmas
+pub mod MirrorLemmas
+pub mod MirrorLaws
+pub mod ShareRelayLemmas
+pub mod ShareFeedLemmas
 pub mod ShareLawLemmas
 pub mod ShareViewerLemmas
 pub mod ShareUpdateLemmas

@@ -23,7 +23,7 @@ use Rattle.rfb_session.specs.declared.share.event.ShareFault.TheVariants.{NoSuch
 use Rattle.rfb_session.specs.declared.share.event.ShareFault.TheVariants.{Session as SessionFault}
 use Rattle.rfb_session.specs.declared.share.seat.ShareSeat.{ShareSeat}
 use Rattle.rfb_session.specs.LinkBytes.{IsSole, sole_told}
-use Rattle.rfb_session.specs.Share.{seat_in, serving_in, IsFreshIn}
+use Rattle.rfb_session.specs.Share.{seat_in, screen_of, serving_in, IsFreshIn}
 use Rattle.rfb_session.specs.ShareSeats.{IsSeatOf}
 use Rattle.rfb_session.specs.ShareSlots.{HearsIn, EndsIn}
 use Rattle.rfb_session.specs.ShareSteps.{KeepsScreen, OthersKept, HearsBy, RefusesAs, NoneHeard, SeatEmptied}
@@ -61,8 +61,8 @@ Serves serving session = (screen : Grid Colour) →
     SessionStandsFor serving screen session (with_screen screen (first_server serving)) []
 
 pub fresh_in : (share : Share) (session : Session) (seat : ShareSeat) (w h : ℕ) (name : List ℕ) →
-    w ≡ share.screen.width → h ≡ share.screen.height → name ≡ share.name.items →
-    IsGrid share.screen →
+    w ≡ (screen_of share).width → h ≡ (screen_of share).height → name ≡ share.name.items →
+    IsGrid (screen_of share) →
     ((screen : Grid Colour) → SessionStandsFor (serving_with share.offer w h name share.text_limit)
     screen session (with_screen screen
     (first_server (serving_with share.offer w h name share.text_limit))) []) →
@@ -73,18 +73,18 @@ fresh_in share session seat w h name wide high named whole stands follows hints 
     let made : ℕ → ℕ → List ℕ → Serving =
     λ x y t. serving_with share.offer x y t share.text_limit in
     let serves =
-    subst (λ (x : ℕ). Serves (made x share.screen.height share.name.items) session) wide
+    subst (λ (x : ℕ). Serves (made x (screen_of share).height share.name.items) session) wide
     (subst (λ (y : ℕ). Serves (made w y share.name.items) session) high
     (subst (λ (t : List ℕ). Serves (made w h t) session) named stands)) in
     record {
-      fresh = subst (λ (s : Session). SessionStandsFor (serving_in share) share.screen s
-          (with_screen share.screen (first_server (serving_in share))) []) (sym seated.session_is)
-          (serves share.screen);
+      fresh = subst (λ (s : Session). SessionStandsFor (serving_in share) (screen_of share) s
+          (with_screen (screen_of share) (first_server (serving_in share))) []) (sym seated.session_is)
+          (serves (screen_of share));
       greets = seated.greets
-          ∙ ap (λ hello. version_text hello.offer) (serves share.screen).setup_is;
+          ∙ ap (λ hello. version_text hello.offer) (serves (screen_of share)).setup_is;
       memory = seated.memory;
-      follows = subst (λ (s : Session). Follows share.screen s) (sym seated.session_is)
-          (follows share.screen whole (sym wide) (sym high));
+      follows = subst (λ (s : Session). Follows (screen_of share) s) (sym seated.session_is)
+          (follows (screen_of share) whole (sym wide) (sym high));
       hints = ap (λ (s : Session). hints_in s) seated.session_is ∙ hints;
     }
 

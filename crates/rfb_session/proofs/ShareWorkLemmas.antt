@@ -17,7 +17,7 @@ use Rattle.rfb_session.specs.declared.share.event.Composing.{Composing}
 use Rattle.rfb_session.specs.declared.share.event.Composing.TheVariants.{Composed, NotDue}
 use Rattle.rfb_session.specs.declared.share.event.Composing.TheVariants.{Waiting, NoSuchSeat}
 use Rattle.rfb_session.specs.declared.share.seat.ShareSeat.{ShareSeat}
-use Rattle.rfb_session.specs.Share.{seat_in, waiting_for}
+use Rattle.rfb_session.specs.Share.{seat_in, screen_of, waiting_for}
 use Rattle.rfb_session.specs.ShareSeats.{session_at, WritesAt}
 use Rattle.rfb_session.specs.ShareSlots.{ComposesIn, WantsRoomIn}
 use Rattle.rfb_session.specs.ShareSteps.{HasNoWork, IsIdle}
@@ -207,7 +207,7 @@ none_spared : (screen : Grid Colour) (b : Option ShareSeat) → WantsRoomIn scre
 none_spared screen b wants = wants
 
 -- so a seat that is not in the set has no work
-pub no_work : (share : Share) (k : ℕ) → OthersRest share.screen share.seats share.stirred →
+pub no_work : (share : Share) (k : ℕ) → OthersRest (screen_of share) share.seats share.stirred →
     has_bit share.stirred k ≡ false → HasNoWork share k
 no_work share k rest clear = by (seat_in share k) refl
   where
@@ -215,12 +215,12 @@ no_work share k rest clear = by (seat_in share k) refl
     by None is = record {
       written = ap (λ (o : Option ShareSeat). waiting_for o) is;
       idle = λ told new composes.
-          none_idle share.screen told (seat_in new k)
-          (subst (λ (o : Option ShareSeat). ComposesIn share.screen told o (seat_in new k)) is
+          none_idle (screen_of share) told (seat_in new k)
+          (subst (λ (o : Option ShareSeat). ComposesIn (screen_of share) told o (seat_in new k)) is
           composes.seat);
       spared = λ new wants.
-          none_spared share.screen (seat_in new k)
-          (subst (λ (o : Option ShareSeat). WantsRoomIn share.screen o (seat_in new k)) is
+          none_spared (screen_of share) (seat_in new k)
+          (subst (λ (o : Option ShareSeat). WantsRoomIn (screen_of share) o (seat_in new k)) is
           wants.seat);
     }
     by (Some seat) is =
@@ -228,21 +228,21 @@ no_work share k rest clear = by (seat_in share k) refl
         record {
           written = ap (λ (o : Option ShareSeat). waiting_for o) is ∙ rests.written;
           idle = λ told new composes.
-              seat_idle share.screen told seat (seat_in new k) rests
-              (subst (λ (o : Option ShareSeat). ComposesIn share.screen told o (seat_in new k)) is
+              seat_idle (screen_of share) told seat (seat_in new k) rests
+              (subst (λ (o : Option ShareSeat). ComposesIn (screen_of share) told o (seat_in new k)) is
               composes.seat);
           spared = λ new wants.
-              seat_spared share.screen seat (seat_in new k) rests
-              (subst (λ (o : Option ShareSeat). WantsRoomIn share.screen o (seat_in new k)) is
+              seat_spared (screen_of share) seat (seat_in new k) rests
+              (subst (λ (o : Option ShareSeat). WantsRoomIn (screen_of share) o (seat_in new k)) is
               wants.seat);
         }
 
 -- and whoever sits there rests
-pub rests_in : (share : Share) (k : ℕ) → OthersRest share.screen share.seats share.stirred →
-    has_bit share.stirred k ≡ false → RestsIn share.screen (seat_in share k)
+pub rests_in : (share : Share) (k : ℕ) → OthersRest (screen_of share) share.seats share.stirred →
+    has_bit share.stirred k ≡ false → RestsIn (screen_of share) (seat_in share k)
 rests_in share k rest clear = by (seat_in share k) refl
   where
-    by : (o : Option ShareSeat) → seat_in share k ≡ o → RestsIn share.screen (seat_in share k)
-    by None is = subst (λ (o : Option ShareSeat). RestsIn share.screen o) (sym is) tt
+    by : (o : Option ShareSeat) → seat_in share k ≡ o → RestsIn (screen_of share) (seat_in share k)
+    by None is = subst (λ (o : Option ShareSeat). RestsIn (screen_of share) o) (sym is) tt
     by (Some seat) is =
-        subst (λ (o : Option ShareSeat). RestsIn share.screen o) (sym is) (rest k seat clear is)
+        subst (λ (o : Option ShareSeat). RestsIn (screen_of share) o) (sym is) (rest k seat clear is)

@@ -33,9 +33,14 @@ pub mod HubSteps
 pub mod ShareRoom
 pub mod ShareSeats
 pub mod ShareSlots
+pub mod Mirrors
+pub mod ShareScreen
 pub mod ShareWork
 pub mod Share
 pub mod ShareSteps
+pub mod ShareMoves
+pub mod ShareMirrors
+pub mod ShareAsking
 pub mod ShareLives
 pub mod ShareViewers
 pub mod language

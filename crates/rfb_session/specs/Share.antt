@@ -8,8 +8,10 @@ use Rattle.rfb_server.specs.Following.{Follows}
 use Rattle.rfb_server.specs.Hints.{hints_in}
 use Rattle.rfb_server.specs.Server.{Serving, first_server}
 use Rattle.rfb_server.specs.Standing.{SessionStandsFor, serving_with, session_fault, with_screen}
+use Rattle.rfb_viewer.specs.declared.viewer.Viewer.{Viewer}
 use Rattle.rfb_session.specs.declared.share.Share.{Share}
 use Rattle.rfb_session.specs.declared.share.seat.ShareSeat.{ShareSeat}
+use Rattle.rfb_session.specs.ShareScreen.{shown_on, canvas_on, viewer_on}
 use Rattle.rfb_session.specs.ShareSeats.{session_at, waiting_in, is_update, memory_at}
 use Rattle.rfb_session.specs.Slots.{seat_at, is_taken}
 
@@ -19,12 +21,20 @@ seat_in share k = seat_at k share.seats
 
 -- its screen
 abbrev pub screen_of : Share → Grid Colour
-screen_of share = share.screen
+screen_of share = shown_on share.screen
+
+-- what its owner draws on, where it is that
+abbrev pub canvas_of : Share → Option (Grid Colour)
+canvas_of share = canvas_on share.screen
+
+-- the viewer whose picture it is, where it is one's
+abbrev pub viewer_of : Share → Option Viewer
+viewer_of share = viewer_on share.screen
 
 -- what its sessions are made with
 abbrev pub serving_in : Share → Serving
 serving_in share =
-    serving_with share.offer share.screen.width share.screen.height share.name.items
+    serving_with share.offer (screen_of share).width (screen_of share).height share.name.items
     share.text_limit
 
 -- no seat is taken

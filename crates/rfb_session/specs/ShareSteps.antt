@@ -19,16 +19,19 @@ use Rattle.rfb_session.specs.declared.share.event.SeatEvent.TheVariants.{CutText
 use Rattle.rfb_session.specs.declared.share.event.ShareFault.{ShareFault}
 use Rattle.rfb_session.specs.declared.share.event.ShareFault.TheVariants.{NoSuchSeat, Session, NoMemory}
 use Rattle.rfb_session.specs.declared.share.seat.ShareSeat.{ShareSeat}
-use Rattle.rfb_session.specs.Share.{seat_in, screen_of, serving_in, waits_at, IsFreshIn, AllTaken}
+use Rattle.rfb_session.specs.Share.{seat_in, screen_of, canvas_of, viewer_of, serving_in, waits_at, IsFreshIn}
+use Rattle.rfb_session.specs.Share.{AllTaken}
 use Rattle.rfb_session.specs.ShareSeats.{Hears, Ends, WritesAt, IsNotifiedIn}
 use Rattle.rfb_session.specs.ShareSlots.{ComposesIn, WantsRoomIn}
 use Rattle.rfb_session.specs.Slots.{is_taken, OnSlot, StaysUnless}
 
 -- ---- what stays
 
--- the screen is as it was, and so is what its sessions are made with
+-- the screen is as it was, and whose it is, and so is what its sessions are made with
 pub record KeepsScreen (old new : Share) : Type 0 where
   pub screen : screen_of new ≡ screen_of old
+  pub canvas : canvas_of new ≡ canvas_of old
+  pub viewer : viewer_of new ≡ viewer_of old
   pub made : serving_in new ≡ serving_in old
 
 -- every other seat is as it was: its session, and what waits there
@@ -45,6 +48,7 @@ pub record KeepsAll (old new : Share) : Type 0 where
 -- the screen is drawn on, and each session was told; nothing else has changed
 pub record DrawsOn (old : Share) (s : Stroke) (new : Share) : Type 0 where
   pub screen : screen_of new ≡ drawn_by s (screen_of old)
+  pub canvas : canvas_of new ≡ Some (screen_of new)
   pub seats : (k : ℕ) →
       OnSlot (λ a b. IsNotifiedIn (notice_of s) a b) (seat_in old k) (seat_in new k)
   pub made : serving_in new ≡ serving_in old

@@ -30,6 +30,7 @@ ghost use Rattle.rfb_session.specs.InFlight.{ReachesViewer, ReachesServer};
 pub mod messages;
 pub mod pictures;
 pub mod seats;
+pub mod shown;
 pub mod streams;
 pub mod viewers;
 

@@ -1,16 +1,21 @@
 //! A share: one screen that its owner draws on, and seats for eight viewers of it. It has no
 //! sockets: its owner brings it what the viewers send, and writes to them what waits for them.
 
-ghost use Rattle.std.specs.Prelude.{◌≡◌, ◌≤◌, length, All, IfOk};
+ghost use Rattle.std.specs.Prelude.{◌≡◌, ◌≤◌, length, All, IfOk, Some};
 ghost use Rattle.std.specs.Option.{ForSome};
 ghost use Rattle.rfb_server.specs.Following.{Follows};
+ghost use Rattle.rfb_session.specs.ShareScreen.{shown_on};
 ghost use Rattle.rfb_session.specs.ShareSeats.{session_at};
 ghost use Rattle.rfb_session.specs.ShareWork.{OthersRest};
 
+mod asking;
 mod drawing;
 pub(crate) mod event;
 mod joining;
+pub(crate) mod mirror;
+mod mirroring;
 mod receiving;
+pub(crate) mod screen;
 pub(crate) mod seat;
 mod sending;
 #[cfg(test)]
@@ -20,6 +25,7 @@ pub(crate) mod waiting;
 use crate::hub::{BLACK, NAME_LIMIT, name_of};
 use crate::seat::Seat;
 use crate::seats::Seats;
+use crate::share::screen::Screen;
 use crate::share::seat::ShareSeat;
 use crate::slots::{SLOTS, seat_of};
 use arrayvec::ArrayVec;
@@ -36,7 +42,7 @@ use std::alloc::{AllocError, Global};
 #[derive(Debug, Drop)]
 pub struct Share {
     alloc: Global,
-    screen: Picture<Colour>,
+    screen: Screen,
     name: ArrayVec<u8, NAME_LIMIT>,
     offer: Version,
     text_limit: u32,
@@ -44,10 +50,11 @@ pub struct Share {
     // Where something came about since a composing found nothing to do. Elsewhere nothing waits.
     stirred: Seats,
     ghost eight: { length seats ≡ 8 },
-    ghost columns: { screen.width ≤ 4096 },
-    ghost rows: { screen.height ≤ 4096 },
-    ghost follow: { All (λ slot. ForSome slot (λ seat. Follows screen (session_at seat))) seats },
-    ghost rest: { OthersRest screen seats stirred },
+    ghost columns: { (shown_on screen).width ≤ 4096 },
+    ghost rows: { (shown_on screen).height ≤ 4096 },
+    ghost follow: { All (λ slot. ForSome slot (λ seat.
+        Follows (shown_on screen) (session_at seat))) seats },
+    ghost rest: { OthersRest (shown_on screen) seats stirred },
 }
 
 impl Share {
@@ -55,7 +62,7 @@ impl Share {
     ghost use Rattle.rfb_server.specs.Server.{black};
     ghost use Rattle.rfb_server.specs.Standing.{serving_with};
     ghost use Rattle.rfb_session.specs.Share.{IsEmptyShare, serving_in, screen_of};
-    ghost use Rattle.rfb_session.specs.Share.{fault_in};
+    ghost use Rattle.rfb_session.specs.Share.{canvas_of, fault_in};
 
     /// A share with a black screen and eight empty seats. Each session offers versions up to
     /// `setup.offer`, names the screen, and keeps at most `setup.text_limit` bytes of each text
@@ -67,13 +74,14 @@ impl Share {
         ensures empty { IfOk result IsEmptyShare }
         ensures screen { let setup = setup.entry in
             IfOk result (λ share. screen_of share ≡ uniform setup.width setup.height black) }
+        ensures drawn { IfOk result (λ share. canvas_of share ≡ Some (screen_of share)) }
         ensures made { let setup = setup.entry in IfOk result (λ share. serving_in share
             ≡ serving_with setup.offer setup.width setup.height setup.name.now setup.text_limit) }
     {
         let screen = Picture::new(alloc, setup.width, setup.height, BLACK)?;
         Ok(Share {
             alloc,
-            screen,
+            screen: Screen::Drawn(screen),
             name: name_of(setup.name),
             offer: setup.offer,
             text_limit: setup.text_limit,
@@ -86,7 +94,7 @@ impl Share {
     pub fn picture(&self) -> &Picture<Colour>
         ensures { result.now ≡ screen_of self.now }
     {
-        &self.screen
+        self.screen.picture()
     }
 
     /// The fault that the session of a seat has failed with, if it has. Its viewer is to be let go:

@@ -1,10 +1,11 @@
 -- What is drawn on a share for its owner's lines.
 use Rattle.std.specs.Prelude.{◌≡◌, Bool, true, false, Option, Some, None}
-use Rattle.rfb_server.specs.Drawing.{Stroke, IsInside}
+use Rattle.rfb_server.specs.Drawing.{Stroke}
 use Rattle.rfb_server.specs.Drawing.{Fill as OneFill, Copy as OneCopy, Hint as OneHint}
 use Rattle.rfb_server.specs.Drawing.{Scroll as OneScroll}
 use Rattle.rfb_session.specs.declared.share.Share.{Share}
-use Rattle.rfb_session.specs.Share.{screen_of}
+use Rattle.rfb_session.specs.Share.{canvas_of}
+use Rattle.rfb_session.specs.ShareScreen.{IsOnCanvas}
 use Rattle.rfb_session.specs.ShareSteps.{DrawsOn}
 use Rattle.rfb_session.specs.declared.owner.order.OwnerLine.{OwnerLine}
 use Rattle.rfb_session.specs.declared.owner.order.OwnerLine.TheVariants.{Screen, Fill, Copy, Hint}
@@ -23,8 +24,8 @@ stroke_of Hold = None
 stroke_of Show = None
 stroke_of Quit = None
 
--- a drawing is done; or it leaves the screen, or has not one colour for each of its places, and
+-- a drawing is done; or it leaves the canvas, or there is none, or it has not one colour for each of its places, and
 -- nothing has changed
 pub data DrawsOne (old : Share) (s : Stroke) (new : Share) : Bool → Type 0 where
   Drawn : DrawsOn old s new → DrawsOne old s new true
-  Outside : (IsInside (screen_of old) s → ⊥) → new ≡ old → DrawsOne old s new false
+  Outside : (IsOnCanvas (canvas_of old) s → ⊥) → new ≡ old → DrawsOne old s new false

@@ -35,9 +35,10 @@ impl Share {
     fn fresh_seat(&self) -> Result<ShareSeat, NoMemory>
         ensures { IfOk result (λ seat. IsFreshIn self.now seat) }
     {
+        let screen = self.screen.picture();
         let setup = ShareSetup {
-            width: self.screen.width(),
-            height: self.screen.height(),
+            width: screen.width(),
+            height: screen.height(),
             name: self.name.as_slice(),
             offer: self.offer,
             text_limit: self.text_limit,

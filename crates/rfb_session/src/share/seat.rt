@@ -1,7 +1,7 @@
 //! A viewer's seat at a share: its session, and the bytes that wait to be written to the viewer.
 
 ghost use Rattle.std.specs.Prelude.{◌≡◌, ◌≢◌, ◌≤◌, ◌<◌, ◌++◌, ℕ, [], length, take, drop};
-ghost use Rattle.std.specs.Prelude.{true, false, None, Some, IfOk, IfErr, OnErr};
+ghost use Rattle.std.specs.Prelude.{true, false, None, Some, IfOk, IfErr, OnErr, IsTrue, ◌↔◌};
 ghost use Rattle.rfb_server.specs.Intake.{AreTaken};
 ghost use Rattle.rfb_server.specs.Told.{seen};
 ghost use Rattle.rfb_session.specs.ShareRoom.{kept_in, answers_in, HasRoomForAnswers};
@@ -39,6 +39,7 @@ impl ShareSeat {
     ghost use Rattle.rfb_hello.specs.Version.{version_text};
     ghost use Rattle.rfb_server.specs.Following.{Follows};
     ghost use Rattle.rfb_server.specs.Standing.{session_fault};
+    ghost use Rattle.rfb_server.specs.Updating.{HasAsked};
     ghost use Rattle.rfb_session.specs.ShareSeats.{waiting_in, session_at, is_update, IsFresh};
     ghost use Rattle.rfb_session.specs.ShareSeats.{IsSeatOf, Hears, ComposesAt, WantsRoom};
     ghost use Rattle.rfb_session.specs.ShareSeats.{WritesAt};
@@ -117,6 +118,13 @@ impl ShareSeat {
         self.waiting = Waiting::Update(update);
         self.written = 0;
         Ok(Composing::Composed)
+    }
+
+    /// Whether its viewer waits for an update.
+    pub(crate) fn is_asked(&self) -> bool
+        ensures { IsTrue result ↔ HasAsked (session_at self.now) }
+    {
+        self.session.is_asked()
     }
 
     /// The fault that its session has failed with, if it has.

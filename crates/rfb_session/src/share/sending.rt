@@ -4,6 +4,7 @@ ghost use Rattle.std.specs.Prelude.{◌≡◌, ◌≤◌, ℕ, length, false, If
 ghost use Rattle.std.specs.Option.{ForSome};
 ghost use Rattle.rfb_picture.specs.Places.{has_bit};
 ghost use Rattle.rfb_server.specs.Following.{Follows};
+ghost use Rattle.rfb_session.specs.ShareScreen.{shown_on};
 ghost use Rattle.rfb_session.specs.ShareSeats.{session_at, WritesAt};
 ghost use Rattle.rfb_session.specs.ShareSlots.{ComposesIn, WantsRoomIn};
 ghost use Rattle.rfb_session.specs.ShareWork.{RestsIn};
@@ -13,11 +14,10 @@ use crate::seat::Seat;
 use crate::seats::Seats;
 use crate::share::Share;
 use crate::share::event::Composing;
+use crate::share::screen::Screen;
 use crate::share::seat::ShareSeat;
 use crate::slots::seat_of;
 use crate::told::NoMemory;
-use rfb_picture::Picture;
-use rfb_pixel::Colour;
 
 impl Share {
     ghost use Rattle.rfb_session.specs.Share.{waits_at, is_update_at, screen_of, seat_in};
@@ -84,14 +84,15 @@ fn write_in(slot: &mut Option<ShareSeat>, count: usize)
 }
 
 // An update is composed for a seat, where there is a viewer.
-fn compose_in(slot: &mut Option<ShareSeat>, screen: &Picture<Colour>) -> Result<Composing, NoMemory>
-    requires follows { ForSome slot.old (λ seat. Follows screen.now (session_at seat)) }
-    ensures composes { IfOk result (λ told. ComposesIn screen.now told slot.old slot.new) }
-    ensures wants { OnErr result (WantsRoomIn screen.now slot.old slot.new) }
-    ensures follows { ForSome slot.new (λ seat. Follows screen.now (session_at seat)) }
+fn compose_in(slot: &mut Option<ShareSeat>, screen: &Screen) -> Result<Composing, NoMemory>
+    requires follows { ForSome slot.old (λ seat. Follows (shown_on screen.now) (session_at seat)) }
+    ensures composes { IfOk result (λ told.
+        ComposesIn (shown_on screen.now) told slot.old slot.new) }
+    ensures wants { OnErr result (WantsRoomIn (shown_on screen.now) slot.old slot.new) }
+    ensures follows { ForSome slot.new (λ seat. Follows (shown_on screen.now) (session_at seat)) }
 {
     match slot {
-        Some(seat) => seat.compose(screen),
+        Some(seat) => seat.compose(screen.picture()),
         None => Ok(Composing::NoSuchSeat),
     }
 }

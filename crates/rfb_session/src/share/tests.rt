@@ -6,6 +6,7 @@ ghost use Rattle.std.specs.Prelude.{◌<◌};
 mod beside;
 mod console;
 mod cuts;
+mod mirroring;
 mod seats;
 mod work;
 

@@ -1,6 +1,7 @@
 use Rattle.std.proofs.Common.{◌<◌, length, sym, ◌∙◌, arith}
 use Rattle.std.proofs.lemmas.List.{length-set}
 use Rattle.rfb_server.specs.Following.{Follows}
+use Rattle.rfb_session.specs.ShareScreen.{shown_on}
 use Rattle.rfb_session.proofs.FollowLemmas.{all_set}
 use Rattle.rfb_session.proofs.SlotLemmas.{at_slot, each_seat}
 use Rattle.rfb_session.proofs.ShareWorkLemmas.{rest_more, rest_with, rest_without, idle_rests}
@@ -12,7 +13,7 @@ compose_in-requires c =
     let k = c.place.result in
     let within : k < length s.seats = omega (arith, c.place.ensures.below, s.eight) in
     record {
-      follows = λ x is. each_seat (λ y. Follows s.screen y.session) s.seats s.follow k x
+      follows = λ x is. each_seat (λ y. Follows (shown_on s.screen) y.session) s.seats s.follow k x
           (sym (at_slot s.seats k _ within) ∙ is);
     }
 
@@ -24,7 +25,7 @@ invariant_of-self c =
       columns = s.columns;
       rows = s.rows;
       follow = s.follow;
-      rest = rest_more s.screen s.seats s.stirred c.with-self.result c.args.seat
+      rest = rest_more (shown_on s.screen) s.seats s.stirred c.with-self.result c.args.seat
           c.with-self.ensures s.rest;
     }
 
@@ -37,9 +38,9 @@ invariant_of-self-in-Break-1 c =
       eight = length-set s.seats k c.compose_in.new.slot ∙ s.eight;
       columns = s.columns;
       rows = s.rows;
-      follow = all_set (λ seat. seat.session) s.screen s.seats k c.compose_in.new.slot
+      follow = all_set (λ seat. seat.session) (shown_on s.screen) s.seats k c.compose_in.new.slot
           within s.follow c.compose_in.ensures.follows;
-      rest = rest_with s.screen s.seats s.stirred c.with-self.result k c.args.seat
+      rest = rest_with (shown_on s.screen) s.seats s.stirred c.with-self.result k c.args.seat
           c.compose_in.new.slot c.place.ensures.value c.with-self.ensures s.rest;
     }
 
@@ -52,9 +53,9 @@ invariant_of-self-else-is_idle c =
       eight = length-set s.seats k c.compose_in.new.slot ∙ s.eight;
       columns = s.columns;
       rows = s.rows;
-      follow = all_set (λ seat. seat.session) s.screen s.seats k c.compose_in.new.slot
+      follow = all_set (λ seat. seat.session) (shown_on s.screen) s.seats k c.compose_in.new.slot
           within s.follow c.compose_in.ensures.follows;
-      rest = rest_with s.screen s.seats s.stirred c.with-self.result k c.args.seat
+      rest = rest_with (shown_on s.screen) s.seats s.stirred c.with-self.result k c.args.seat
           c.compose_in.new.slot c.place.ensures.value c.with-self.ensures s.rest;
     }
 
@@ -67,12 +68,12 @@ invariant_of-self-then-is_idle c =
       eight = length-set s.seats k c.compose_in.new.slot ∙ s.eight;
       columns = s.columns;
       rows = s.rows;
-      follow = all_set (λ seat. seat.session) s.screen s.seats k c.compose_in.new.slot
+      follow = all_set (λ seat. seat.session) (shown_on s.screen) s.seats k c.compose_in.new.slot
           within s.follow c.compose_in.ensures.follows;
-      rest = rest_without s.screen s.seats c.with-self.result c.without-self.result k c.args.seat
+      rest = rest_without (shown_on s.screen) s.seats c.with-self.result c.without-self.result k c.args.seat
           c.compose_in.new.slot c.place.ensures.value within s.eight c.without-self.ensures
-          (rest_with s.screen s.seats s.stirred c.with-self.result k c.args.seat
+          (rest_with (shown_on s.screen) s.seats s.stirred c.with-self.result k c.args.seat
           c.compose_in.new.slot c.place.ensures.value c.with-self.ensures s.rest)
-          (idle_rests s.screen c.in_ok-told.told _ c.compose_in.new.slot
+          (idle_rests (shown_on s.screen) c.in_ok-told.told _ c.compose_in.new.slot
           c.in_ok-told.ensures.composes (c.is_idle.ensures.idle c.if-is_idle.true));
     }

@@ -1,8 +1,11 @@
-use Rattle.std.proofs.Common.{◌∙◌, arith}
+use Rattle.std.proofs.Common.{◌≤◌, ◌∙◌, subst, arith}
 use Rattle.rfb_server.specs.Drawing.{stroke, notice_of}
 use Rattle.rfb_server.proofs.DrawingLaws.{area_held}
+use Rattle.rfb_session.specs.declared.share.screen.Screen.{Screen}
+use Rattle.rfb_session.specs.ShareScreen.{shown_on}
 use Rattle.rfb_session.specs.ShareSeats.{IsNotifiedIn}
-use Rattle.rfb_session.proofs.FollowLemmas.{all_about, all_notified}
+use Rattle.rfb_session.specs.ShareWork.{OthersRest}
+use Rattle.rfb_session.proofs.FollowLemmas.{AllFollow, all_about, all_notified}
 use Rattle.rfb_session.proofs.ShareWorkLemmas.{rest_of_all}
 use Rattle.rfb_session.proofs.share.Share.draw.Goals as goal
 
@@ -12,8 +15,9 @@ notify_all-requires c =
     let one = stroke c.args.drawing.now in (
       omega arith,
       rw c.in_ok-notice.ensures.value
-          (all_about (λ seat. seat.session) s.screen s.seats _ s.follow
-          (area_held one s.screen c.in_ok-notice.ensures.inside)),
+          (all_about (λ seat. seat.session) c.in-Drawn.picture s.seats _
+          (subst (λ (x : Screen). AllFollow (λ seat. seat.session) (shown_on x) s.seats) c.in-Drawn.is s.follow)
+          (area_held one c.in-Drawn.picture c.in_ok-notice.ensures.inside)),
     )
 
 pub draw_on-requires : goal.draw_on-requires
@@ -22,15 +26,34 @@ draw_on-requires c = record { inside = c.in_ok-notice.ensures.inside }
 pub invariant_of-self : goal.invariant_of-self
 invariant_of-self c =
     let s = c.args.self.now in
+    record { eight = s.eight; columns = s.columns; rows = s.rows; follow = s.follow; rest = s.rest }
+
+pub invariant_of-self-in-Break-1 : goal.invariant_of-self-in-Break-1
+invariant_of-self-in-Break-1 c =
+    let s = c.args.self.now in
+    let is = c.in-Drawn.is in
+    record {
+      eight = s.eight;
+      columns = subst (λ (x : Screen). (shown_on x).width ≤ 4096) is s.columns;
+      rows = subst (λ (x : Screen). (shown_on x).height ≤ 4096) is s.rows;
+      follow = subst (λ (x : Screen). AllFollow (λ seat. seat.session) (shown_on x) s.seats) is s.follow;
+      rest = subst (λ (x : Screen). OthersRest (shown_on x) s.seats s.stirred) is s.rest;
+    }
+
+pub invariant_of-self-2 : goal.invariant_of-self-2
+invariant_of-self-2 c =
+    let s = c.args.self.now in
     let one = stroke c.args.drawing.now in
+    let is = c.in-Drawn.is in
     record {
       eight = c.notify_all.ensures.size ∙ s.eight;
-      columns = rw c.draw_on.ensures.width s.columns;
-      rows = rw c.draw_on.ensures.height s.rows;
+      columns = rw c.draw_on.ensures.width (subst (λ (x : Screen). (shown_on x).width ≤ 4096) is s.columns);
+      rows = rw c.draw_on.ensures.height (subst (λ (x : Screen). (shown_on x).height ≤ 4096) is s.rows);
       rest = rest_of_all c.draw_on.new.screen c.notify_all.new.slots c.all-self.result
           (c.notify_all.ensures.size ∙ s.eight) c.all-self.ensures;
       follow = rw c.draw_on.ensures.value
-          (all_notified (λ seat. seat.session) (λ a b. IsNotifiedIn (notice_of one) a b) s.screen
-          s.seats c.notify_all.new.slots one (λ a b one. one.follows) s.follow
+          (all_notified (λ seat. seat.session) (λ a b. IsNotifiedIn (notice_of one) a b) c.in-Drawn.picture
+          s.seats c.notify_all.new.slots one (λ a b one. one.follows)
+          (subst (λ (x : Screen). AllFollow (λ seat. seat.session) (shown_on x) s.seats) is s.follow)
           (rw c.in_ok-notice.ensures.value at c.notify_all.ensures.notified));
     }

@@ -1,5 +1,6 @@
 use Rattle.std.proofs.Common.{◌<◌, length, ◌∙◌, arith}
 use Rattle.std.proofs.lemmas.List.{length-set}
+use Rattle.rfb_session.specs.ShareScreen.{shown_on}
 use Rattle.rfb_session.proofs.FollowLemmas.{all_set}
 use Rattle.rfb_session.proofs.ShareLemmas.{none_follows}
 use Rattle.rfb_session.proofs.ShareWorkLemmas.{rest_left}
@@ -14,9 +15,9 @@ invariant_of-self c =
       eight = length-set s.seats k c.empty.new.slot ∙ s.eight;
       columns = s.columns;
       rows = s.rows;
-      rest = rest_left s.screen s.seats s.stirred k c.empty.new.slot within c.empty.ensures.empty
+      rest = rest_left (shown_on s.screen) s.seats s.stirred k c.empty.new.slot within c.empty.ensures.empty
           s.rest;
-      follow = all_set (λ seat. seat.session) s.screen s.seats k c.empty.new.slot within
+      follow = all_set (λ seat. seat.session) (shown_on s.screen) s.seats k c.empty.new.slot within
           s.follow
-          (λ seat is. none_follows s.screen c.empty.new.slot seat c.empty.ensures.empty is);
+          (λ seat is. none_follows (shown_on s.screen) c.empty.new.slot seat c.empty.ensures.empty is);
     }

@@ -4,6 +4,7 @@ use Rattle.std.proofs.lemmas.Result.{err_from_is_err_and}
 use Rattle.rfb_picture.specs.Places.{has_bit}
 use Rattle.rfb_server.specs.Following.{Follows}
 use Rattle.rfb_server.specs.Told.{seen}
+use Rattle.rfb_session.specs.ShareScreen.{shown_on}
 use Rattle.rfb_session.specs.ShareSteps.{asks_alone}
 use Rattle.rfb_session.proofs.FollowLemmas.{all_set, all_emptied}
 use Rattle.rfb_session.proofs.ShareLemmas.{refused_there, received_there, refused_as, received_as, seen_none}
@@ -20,7 +21,7 @@ invariant_of-self c =
       columns = s.columns;
       rows = s.rows;
       follow = s.follow;
-      rest = rest_more s.screen s.seats s.stirred c.with-self.result c.args.seat
+      rest = rest_more (shown_on s.screen) s.seats s.stirred c.with-self.result c.args.seat
           c.with-self.ensures s.rest;
     }
 
@@ -33,11 +34,11 @@ invariant_of-self-in-Break-1 c =
       eight = length-set s.seats k c.hear_in.new.slot ∙ s.eight;
       columns = s.columns;
       rows = s.rows;
-      rest = rest_with s.screen s.seats s.stirred c.with-self.result k c.args.seat
+      rest = rest_with (shown_on s.screen) s.seats s.stirred c.with-self.result k c.args.seat
           c.hear_in.new.slot c.place-place.ensures.value c.with-self.ensures s.rest;
-      follow = all_set (λ seat. seat.session) s.screen s.seats k c.hear_in.new.slot within
-          s.follow (λ seat is. c.hear_in.ensures.follows s.screen (λ x there.
-          each_seat (λ y. Follows s.screen y.session) s.seats s.follow k x
+      follow = all_set (λ seat. seat.session) (shown_on s.screen) s.seats k c.hear_in.new.slot within
+          s.follow (λ seat is. c.hear_in.ensures.follows (shown_on s.screen) (λ x there.
+          each_seat (λ y. Follows (shown_on s.screen) y.session) s.seats s.follow k x
           (sym (at_slot s.seats k _ within) ∙ there)) seat is);
     }
 
@@ -50,7 +51,7 @@ returns-in_err-fed-clause-refused c =
     refused_there s _ k c.args.seat c.args.bytes.now c.in_err-fed.field-0.0 c.place-place.ensures.value
     (refused_as s _ k c.args.bytes.now c.in_err-fed.field-0.0 _ c.hear_in.new.slot c.in_err-fed.ensures.ended
     (sym (at_slot s.seats k _ within)) (seat_set_same s.seats k c.hear_in.new.slot within)
-    (record { screen = refl; made = refl })
+    (record { screen = refl; canvas = refl; viewer = refl; made = refl })
     (λ j differ. seat_set_other s.seats k j c.hear_in.new.slot differ)))
 
 pub invariant_of-self-then-is_sole : goal.invariant_of-self-then-is_sole
@@ -63,16 +64,16 @@ invariant_of-self-then-is_sole c =
           ∙ (length-set s.seats k c.hear_in.new.slot ∙ s.eight);
       columns = s.columns;
       rows = s.rows;
-      rest = rest_emptied s.screen (set s.seats k c.hear_in.new.slot)
+      rest = rest_emptied (shown_on s.screen) (set s.seats k c.hear_in.new.slot)
           c.empty_others-ended.new.slots c.with-self.result k
-          (rest_with s.screen s.seats s.stirred c.with-self.result k c.args.seat
+          (rest_with (shown_on s.screen) s.seats s.stirred c.with-self.result k c.args.seat
           c.hear_in.new.slot c.place-place.ensures.value c.with-self.ensures s.rest)
           c.empty_others-ended.ensures.own c.empty_others-ended.ensures.others;
-      follow = all_emptied (λ seat. seat.session) s.screen (set s.seats k c.hear_in.new.slot)
+      follow = all_emptied (λ seat. seat.session) (shown_on s.screen) (set s.seats k c.hear_in.new.slot)
           c.empty_others-ended.new.slots k
-          (all_set (λ seat. seat.session) s.screen s.seats k c.hear_in.new.slot within s.follow
-          (λ seat is. c.hear_in.ensures.follows s.screen (λ x there.
-          each_seat (λ y. Follows s.screen y.session) s.seats s.follow k x
+          (all_set (λ seat. seat.session) (shown_on s.screen) s.seats k c.hear_in.new.slot within s.follow
+          (λ seat is. c.hear_in.ensures.follows (shown_on s.screen) (λ x there.
+          each_seat (λ y. Follows (shown_on s.screen) y.session) s.seats s.follow k x
           (sym (at_slot s.seats k _ within) ∙ there)) seat is))
           c.empty_others-ended.ensures.own c.empty_others-ended.ensures.others;
     }
@@ -99,7 +100,7 @@ returns-then-is_sole-clause-heard c =
     (λ j differ. stays_emptied _ _ _ (flag_others s.seats k j c.empty_others-ended.result
     c.told_of.result.ended sole ended alone bits differ)
     (c.empty_others-ended.ensures.others j differ))
-    (record { screen = refl; made = refl }))
+    (record { screen = refl; canvas = refl; viewer = refl; made = refl }))
 
 pub invariant_of-self-else-is_sole : goal.invariant_of-self-else-is_sole
 invariant_of-self-else-is_sole c =
@@ -110,11 +111,11 @@ invariant_of-self-else-is_sole c =
       eight = length-set s.seats k c.hear_in.new.slot ∙ s.eight;
       columns = s.columns;
       rows = s.rows;
-      rest = rest_with s.screen s.seats s.stirred c.with-self.result k c.args.seat
+      rest = rest_with (shown_on s.screen) s.seats s.stirred c.with-self.result k c.args.seat
           c.hear_in.new.slot c.place-place.ensures.value c.with-self.ensures s.rest;
-      follow = all_set (λ seat. seat.session) s.screen s.seats k c.hear_in.new.slot within
-          s.follow (λ seat is. c.hear_in.ensures.follows s.screen (λ x there.
-          each_seat (λ y. Follows s.screen y.session) s.seats s.follow k x
+      follow = all_set (λ seat. seat.session) (shown_on s.screen) s.seats k c.hear_in.new.slot within
+          s.follow (λ seat is. c.hear_in.ensures.follows (shown_on s.screen) (λ x there.
+          each_seat (λ y. Follows (shown_on s.screen) y.session) s.seats s.follow k x
           (sym (at_slot s.seats k _ within) ∙ there)) seat is);
     }
 
@@ -135,4 +136,4 @@ returns-clause-heard c =
     (ends_none s.seats k heard.result.ended (c.args.heeds && asks_alone told) shares heard.ensures.ended)
     (λ j differ. stays_clear heard.result.ended j _ _ heard.ensures.ended
     (seat_set_other s.seats k j c.hear_in.new.slot differ))
-    (record { screen = refl; made = refl }))
+    (record { screen = refl; canvas = refl; viewer = refl; made = refl }))

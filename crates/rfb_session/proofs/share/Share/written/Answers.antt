@@ -2,6 +2,7 @@ use Rattle.std.proofs.Common.{◌<◌, length, Option, sym, ◌∙◌, subst, ar
 use Rattle.std.proofs.lemmas.List.{length-set}
 use Rattle.rfb_server.specs.Following.{Follows}
 use Rattle.rfb_server.specs.declared.session.Session.{Session}
+use Rattle.rfb_session.specs.ShareScreen.{shown_on}
 use Rattle.rfb_session.specs.ShareSeats.{WritesAt}
 use Rattle.rfb_session.proofs.FollowLemmas.{all_set}
 use Rattle.rfb_session.proofs.SlotLemmas.{at_slot, each_seat, on_seat}
@@ -19,14 +20,14 @@ invariant_of-self c =
       eight = length-set s.seats k c.write_in.new.slot ∙ s.eight;
       columns = s.columns;
       rows = s.rows;
-      rest = rest_written s.screen s.seats s.stirred k c.args.count c.write_in.new.slot within
+      rest = rest_written (shown_on s.screen) s.seats s.stirred k c.args.count c.write_in.new.slot within
           (subst (λ (o : Option ShareSeat). OnSlot (λ a b. WritesAt c.args.count a b) o
           c.write_in.new.slot) (at_slot s.seats k _ within) c.write_in.ensures) s.rest;
-      follow = all_set (λ seat. seat.session) s.screen s.seats k c.write_in.new.slot
+      follow = all_set (λ seat. seat.session) (shown_on s.screen) s.seats k c.write_in.new.slot
           within s.follow (λ seat is.
           let one = on_seat (λ a b. WritesAt c.args.count a b) _ c.write_in.new.slot seat
           c.write_in.ensures is in
-          subst (λ (t : Session). Follows s.screen t) (sym one.2.session)
-          (each_seat (λ y. Follows s.screen y.session) s.seats s.follow k one.0
+          subst (λ (t : Session). Follows (shown_on s.screen) t) (sym one.2.session)
+          (each_seat (λ y. Follows (shown_on s.screen) y.session) s.seats s.follow k one.0
           (sym (at_slot s.seats k _ within) ∙ one.1)));
     }

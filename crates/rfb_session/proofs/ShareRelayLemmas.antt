@@ -1,0 +1,107 @@
+-- A share of the picture that a viewer has: its seats follow it.
+use Rattle.std.proofs.Common.{◌≡◌, ◌≢◌, ◌≤◌, ℕ, Bool, true, false, List, [], ◌∷◌, ◌==◌, Option, Some, None, All}
+use Rattle.std.proofs.Common.{refl, sym, ap, subst, ◌∙◌, ◌+◌, ◌<◌, length, IfSome, arith}
+use Rattle.std.proofs.lemmas.Bool.Decides.{nat_tests}
+use Rattle.std.specs.Option.{ForSome, is_some}
+use Rattle.rfb_pixel.specs.declared.colour.Colour.{Colour}
+use Rattle.rfb_picture.specs.declared.rect.Rect.{Rect}
+use Rattle.rfb_picture.specs.Grid.{Grid, IsGrid}
+use Rattle.rfb_codec.specs.Effect.{IsAlike}
+use Rattle.rfb_server.specs.Following.{Follows}
+use Rattle.rfb_server.specs.Standing.{notes_in}
+use Rattle.rfb_viewer.specs.declared.viewer.Viewer.{Viewer}
+use Rattle.rfb_viewer.specs.declared.viewer.moved.Move.{Move}
+use Rattle.rfb_viewer.specs.Damage.{IsSameOutside}
+use Rattle.rfb_session.specs.declared.share.seat.ShareSeat.{ShareSeat}
+use Rattle.rfb_session.specs.ShareMirrors.{HasCopies, HasTold}
+use Rattle.rfb_session.specs.ShareMoves.{IsRelayed, GetsWhole}
+use Rattle.rfb_session.specs.ShareWork.{Rests, OthersRest}
+use Rattle.rfb_session.specs.Slots.{seat_at, OnSlot}
+use Rattle.rfb_session.proofs.FollowLemmas.{AllFollow}
+use Rattle.rfb_session.proofs.ShareMoveLemmas.{keeps_itself, none_same}
+use Rattle.rfb_session.proofs.SlotLemmas.{on_seat, each_seat, all_seats}
+
+-- what is so at each slot by one relation is so by one that follows from it
+pub slot_by : (R S : ShareSeat → ShareSeat → Type 0) (a b : Option ShareSeat) →
+    ((x y : ShareSeat) → R x y → S x y) → OnSlot R a b → OnSlot S a b
+slot_by R S None None goes is = tt
+slot_by R S None (Some y) goes is = absurd is
+slot_by R S (Some x) None goes is = absurd is
+slot_by R S (Some x) (Some y) goes is = goes x y is
+
+pub all_alike : (screen after : Grid Colour) (slots : List (Option ShareSeat)) →
+    AllFollow (λ seat. seat.session) screen slots → IsAlike after screen →
+    All (λ slot. ForSome slot (λ seat. IsAlike after (notes_in seat.session).known)) slots
+all_alike screen after slots follow alike = λ k d within seat is.
+    let one = (follow k d within seat is).alike in
+    record { columns = alike.columns ∙ one.columns; rows = alike.rows ∙ one.rows }
+
+-- ---- where nothing was damaged or copied
+
+pub not_some : (o : Option Rect) → is_some o ≡ false → o ≡ None
+not_some None none = refl
+not_some (Some r) none = absurd (let e = none in cc)
+
+pub no_moves : (moves : List Move) → true ≡ (length moves == 0) → moves ≡ []
+no_moves [] none = refl
+no_moves (move ∷ moves) none = absurd (some (length (move ∷ moves)) none (omega arith))
+  where
+    some : (n : ℕ) → true ≡ (n == 0) → 0 < n → ⊥
+    some n none less = let zero : n ≡ 0 = grind (arith, nat_tests) in omega (arith, zero, less)
+
+pub quiet : (screen : Grid Colour) (damage : Option Rect) (moves : List Move) (slots : List (Option ShareSeat)) →
+    IsGrid screen → damage ≡ None → moves ≡ [] → (k : ℕ) →
+    OnSlot (λ a b. IsRelayed screen damage moves a b) (seat_at k slots) (seat_at k slots)
+quiet screen damage moves slots whole none empty k = by (seat_at k slots)
+  where
+    one : (seat : ShareSeat) → IsRelayed screen None [] seat seat
+    one seat = record {
+      keeps = keeps_itself seat;
+      hints = refl;
+      follows = λ before alike outside follows.
+          subst (λ (g : Grid Colour). Follows g seat.session)
+          (sym (none_same before screen follows.whole whole alike outside)) follows;
+    }
+
+    by : (o : Option ShareSeat) → OnSlot (λ a b. IsRelayed screen damage moves a b) o o
+    by None = tt
+    by (Some seat) =
+        subst (λ (d : Option Rect). IsRelayed screen d moves seat seat) (sym none)
+        (subst (λ (ms : List Move). IsRelayed screen None ms seat seat) (sym empty) (one seat))
+
+pub quiet_rests : (before screen : Grid Colour) (old new : List (Option ShareSeat)) (bits : ℕ) →
+    AllFollow (λ seat. seat.session) before old → ((k : ℕ) → seat_at k new ≡ seat_at k old) → IsGrid screen →
+    IsAlike screen before → IsSameOutside None (Some before) (Some screen) → OthersRest before old bits →
+    OthersRest screen new bits
+quiet_rests before screen old new bits follow same whole alike outside rest k seat clear is =
+    let was = sym (same k) ∙ is in
+    let follows = each_seat (λ s. Follows before s.session) old follow k seat was in
+    subst (λ (g : Grid Colour). Rests g seat) (sym (none_same before screen follows.whole whole alike outside))
+    (rest k seat clear was)
+
+-- ---- where something was
+
+pub all_relayed : (before screen : Grid Colour) (damage : Option Rect) (moves : List Move)
+    (old new : List (Option ShareSeat)) → AllFollow (λ seat. seat.session) before old →
+    ((k : ℕ) → OnSlot (λ a b. IsRelayed screen damage moves a b) (seat_at k old) (seat_at k new)) →
+    IsAlike screen before → IsSameOutside damage (Some before) (Some screen) →
+    AllFollow (λ seat. seat.session) screen new
+all_relayed before screen damage moves old new follow told alike outside =
+    all_seats (λ seat. Follows screen seat.session) new (λ k seat there.
+    let one = on_seat (λ a b. IsRelayed screen damage moves a b) (seat_at k old) (seat_at k new) seat (told k) there in
+    one.2.follows before alike outside (each_seat (λ s. Follows before s.session) old follow k one.0 one.1))
+
+pub all_whole : (before screen : Grid Colour) (old new : List (Option ShareSeat)) →
+    AllFollow (λ seat. seat.session) before old →
+    ((k : ℕ) → OnSlot (λ a b. GetsWhole screen a b) (seat_at k old) (seat_at k new)) →
+    IsAlike screen before → AllFollow (λ seat. seat.session) screen new
+all_whole before screen old new follow told alike =
+    all_seats (λ seat. Follows screen seat.session) new (λ k seat there.
+    let one = on_seat (λ a b. GetsWhole screen a b) (seat_at k old) (seat_at k new) seat (told k) there in
+    one.2.follows before alike (each_seat (λ s. Follows before s.session) old follow k one.0 one.1))
+
+-- ---- what is said of a viewer that there is
+
+pub if_viewer : (o : Option Viewer) (P : Viewer → Type 0) (viewer : Viewer) → o ≡ Some viewer → P viewer →
+    IfSome o P
+if_viewer o P viewer is so = subst (λ (x : Option Viewer). IfSome x P) (sym is) so
