@@ -15,6 +15,7 @@ pub mod LoopbackLemmas
 pub mod OptionLemmas
 pub mod PlayingLemmas
 pub mod RecordingLemmas
+pub mod RelayingLemmas
 pub mod SceneLemmas
 pub mod ScriptLemmas
 pub mod ServingLemmas

@@ -17,7 +17,7 @@ use Rattle.rfb.specs.command.Values.{GivesOr, IsAbsent, IsFlagged, IsThere}
 use Rattle.rfb.specs.command.Serving.{CountsConnections, GivesConnections, HasBadConnections}
 use Rattle.rfb.specs.command.Program.{asked, program}
 use Rattle.rfb.specs.command.Values.{GivesFormat, HasBadFormat, NamesFormat}
-use Rattle.rfb.specs.command.Looking.{GivesEncodings, HasBadEncodings, NamesEncodings}
+use Rattle.rfb.specs.command.Values.{GivesEncodings, HasBadEncodings, NamesEncodings}
 use Rattle.rfb.specs.Options.{AreOrdered, AreWrong, HasBadValue, IsOrder, IsWrongValue}
 use Rattle.rfb_session.specs.language.Words.{AreEncodings, IsFormatWord, parts_of}
 
@@ -53,13 +53,15 @@ format_given rows word (Ok f) e named = subst (λ (o : Option Text). NamesFormat
 format_given rows word (Err bad) e none = (word, e, none)
 
 -- the same of a list of encodings
-pub encodings_given : (rows : List Row) (list : Text) (r : Result (ArrayVec Encoding) BadValue) →
+pub encodings_given : (otherwise : List Encoding) (rows : List Row) (list : Text)
+    (r : Result (ArrayVec Encoding) BadValue) →
     first_of (codes "encodings") rows ≡ Some list →
     MatchResult r (λ es. AreEncodings (parts_of list) es.items)
     (λ _. (es : List Encoding) → ¬ (AreEncodings (parts_of list) es)) →
-    MatchResult r (λ es. GivesEncodings rows es.items) (λ _. HasBadEncodings rows)
-encodings_given rows list (Ok es) e named = subst (λ (o : Option Text). NamesEncodings o es.items) (sym e) named
-encodings_given rows list (Err bad) e none = (list, e, none)
+    MatchResult r (λ es. GivesEncodings otherwise rows es.items) (λ _. HasBadEncodings rows)
+encodings_given otherwise rows list (Ok es) e named =
+    subst (λ (o : Option Text). NamesEncodings otherwise o es.items) (sym e) named
+encodings_given otherwise rows list (Err bad) e none = (list, e, none)
 
 -- ---- numbers, by what `get_one` reads
 

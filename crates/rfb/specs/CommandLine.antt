@@ -25,10 +25,11 @@ use Rattle.clap.specs.Words.{Text}
 use Rattle.rfb.specs.declared.options.Order.{Order}
 use Rattle.rfb.specs.declared.commands.Task.{Task}
 use Rattle.rfb.specs.declared.options.paths.Paths.{Paths}
-use Rattle.rfb.specs.declared.commands.Task.TheVariants.{Script, Loop, Play, Serve, View, Share}
+use Rattle.rfb.specs.declared.commands.Task.TheVariants.{Script, Loop, Play, Serve, View, Share, Relay}
 use Rattle.rfb.specs.Loopback.{LeavesSomePicture, PlaysSomeScript}
 use Rattle.rfb.specs.Options.{AreOrdered}
 use Rattle.rfb.specs.Recording.{LeavesRecording, PlaysRecording}
+use Rattle.rfb.specs.Relaying.{LeavesRelay, Relays}
 use Rattle.rfb.specs.Serving.{LeavesServed, ServesAsked}
 use Rattle.rfb.specs.Sharing.{LeavesShare, Shares}
 use Rattle.rfb.specs.Viewing.{FailsSomehow, LeavesSomeView, ViewsSome}
@@ -129,7 +130,7 @@ FailsAt read (Picture flaw) = ⊥
 -- ---- any command
 
 -- what was read and written at a command; of the bytes that come over a connection nothing is
--- known, and of a share it is said what happened to its console
+-- known, and of a share and a relay it is said what happened to its core
 abbrev pub Does : Task → Option (List ℕ) → Option (List ℕ) → Option (List ℕ) → Type 0
 Does Script read before after = PlaysScript read before after
 Does Loop read before after = PlaysSomeScript read before after
@@ -137,6 +138,7 @@ Does (Serve options) read before after = ServesAsked options before after
 Does (View options) read before after = ViewsSome options.sight before after
 Does (Play options) read before after = PlaysRecording options read before after
 Does (Share options) read before after = Shares options
+Does (Relay options) read before after = Relays options
 
 -- what was written at a command that failed: nothing, or a beginning of what it was to write; what
 -- a view keeps of a server's bytes is written as they come, and has what its viewer was fed
@@ -149,6 +151,7 @@ Leaves (View options) read before after =
     × FailsSomehow options.sight before after
 Leaves (Play options) read before after = LeavesRecording options read before after
 Leaves (Share options) read before after = LeavesShare options before after
+Leaves (Relay options) read before after = LeavesRelay options before after
 
 -- where a file is named, it is read in place of standard input; of its bytes nothing is known
 abbrev pub FromFile : Option (Bor Text) → (Option (List ℕ) → Type 0) → Option (List ℕ) → Type 0

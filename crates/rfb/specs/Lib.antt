@@ -3,6 +3,7 @@ pub mod CommandLine
 pub mod Context
 pub mod Delivery
 pub mod Explain
+pub mod Ending
 pub mod Fault
 pub mod Few
 pub mod HubPlaying
@@ -11,6 +12,7 @@ pub mod Loopback
 pub mod Options
 pub mod Playing
 pub mod Ready
+pub mod Relaying
 pub mod Recording
 pub mod Scene
 pub mod Serving

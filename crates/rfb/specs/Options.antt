@@ -7,7 +7,7 @@ use Rattle.clap.specs.declared.error.kind.ErrorKind.{ErrorKind}
 use Rattle.clap.specs.declared.error.kind.ErrorKind.TheVariants.{DisplayHelp, DisplayVersion}
 use Rattle.rfb.specs.declared.options.Order.{Order}
 use Rattle.rfb.specs.declared.commands.Task.{Task}
-use Rattle.rfb.specs.declared.commands.Task.TheVariants.{Script, Loop, Play, Serve, View, Share}
+use Rattle.rfb.specs.declared.commands.Task.TheVariants.{Script, Loop, Play, Serve, View, Share, Relay}
 use Rattle.rfb.specs.declared.options.WrongWords.{WrongWords}
 use Rattle.rfb.specs.declared.options.WrongWords.TheVariants.{Words, Value}
 use Rattle.rfb.specs.declared.play.play_options.PlayOptions.{PlayOptions}
@@ -18,6 +18,7 @@ use Rattle.rfb.specs.command.Values.{GivesFormat, HasBadFormat, GivesNumber, May
 use Rattle.rfb.specs.command.Values.{NamesHost, NamesWord}
 use Rattle.rfb.specs.command.Serving.{GivesServeOptions, HasBadServe}
 use Rattle.rfb.specs.command.Looking.{GivesViewOptions, HasBadView}
+use Rattle.rfb.specs.command.Relaying.{GivesRelayOptions, HasBadRelay}
 
 -- what `share` is asked for
 pub record GivesShareOptions (rows : List Row) (options : ShareOptions) : Type 0 where
@@ -50,6 +51,7 @@ IsTask (Some (name, rows)) (Serve options) =
     (name ≡ codes "serve") × GivesServeOptions rows options
 IsTask (Some (name, rows)) (View options) = (name ≡ codes "view") × GivesViewOptions rows options
 IsTask (Some (name, rows)) (Share options) = (name ≡ codes "share") × GivesShareOptions rows options
+IsTask (Some (name, rows)) (Relay options) = (name ≡ codes "relay") × GivesRelayOptions rows options
 
 -- no command has this name
 abbrev pub IsNoName : Text → Type 0
@@ -60,7 +62,8 @@ abbrev pub HasBadValue : Option (Text × List Row) → Type 0
 HasBadValue None = Unit {0}
 HasBadValue (Some (name, rows)) =
     ((name ≡ codes "play") × HasBadFormat rows) ⊎ ((name ≡ codes "serve") × HasBadServe rows)
-    ⊎ ((name ≡ codes "view") × HasBadView rows) ⊎ IsNoName name
+    ⊎ ((name ≡ codes "view") × HasBadView rows) ⊎ ((name ≡ codes "relay") × HasBadRelay rows)
+    ⊎ IsNoName name
 
 -- a word asks for sentences
 abbrev pub is_explain : Text → Bool

@@ -1,12 +1,12 @@
 -- What a share does, as far as its console tells it: all that happens to the console is what its doors
 -- bring, and what leaves there.
-use Rattle.std.specs.Prelude.{◌≡◌, ◌⊎◌, ⊤, ℕ, ◌*◌, List, Option, Some, None}
+use Rattle.std.specs.Prelude.{◌≡◌, ◌⊎◌, ℕ, ◌*◌, List, Option}
 use Rattle.rfb_session.specs.declared.console.Console.{Console}
 use Rattle.rfb_session.specs.declared.console.Outcome.{Outcome}
-use Rattle.rfb_session.specs.declared.console.Outcome.TheVariants.{Quit, Idle, BadLine, NoMemory, Device}
 use Rattle.rfb_session.specs.doors.Tenants.{Happening}
 use Rattle.rfb_session.specs.console.Console.{IsFreshConsole}
 use Rattle.rfb_session.specs.console.History.{Lasts}
+use Rattle.rfb.specs.Ending.{EndsWell, IsNoEnd}
 use Rattle.rfb.specs.declared.sharing.share_words.ShareOptions.{ShareOptions}
 use Rattle.rfb.specs.declared.sharing.speaker.Reporter.{Reporter}
 
@@ -29,24 +29,6 @@ pub record SharesUntil (options : ShareOptions) (outcome : Option Outcome) : Typ
   pub happenings : List Happening
   pub lasts : Lasts old happenings new
   pub ends : new.outcome ≡ outcome
-
--- a line said `quit`, or the last viewer has gone
-abbrev pub EndsWell : Option Outcome → Type 0
-EndsWell None = ⊥
-EndsWell (Some Quit) = ⊤
-EndsWell (Some Idle) = ⊤
-EndsWell (Some (BadLine number)) = ⊥
-EndsWell (Some NoMemory) = ⊥
-EndsWell (Some Device) = ⊥
-
--- it has not ended so
-abbrev pub IsNoEnd : Option Outcome → Type 0
-IsNoEnd None = ⊤
-IsNoEnd (Some Quit) = ⊥
-IsNoEnd (Some Idle) = ⊥
-IsNoEnd (Some (BadLine number)) = ⊤
-IsNoEnd (Some NoMemory) = ⊤
-IsNoEnd (Some Device) = ⊤
 
 -- a share that ends well
 abbrev pub Shares : ShareOptions → Type 0

@@ -5,3 +5,4 @@ pub mod Program
 pub mod Values
 pub mod Serving
 pub mod Looking
+pub mod Relaying

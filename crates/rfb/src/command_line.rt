@@ -80,9 +80,9 @@ rfb: encodings are raw, copyrect, rre and hextile: one to four of them, with a c
 ///
 /// - 0: the work is done. Help and the version count as work, and go to `output`.
 /// - 1: it failed, and a line on `errors` says why. Nothing was written to `output`, unless writing
-///   there is what failed: then a beginning of what was to be written. What `serve`, `share` and
-///   `view --record` write as they go stays. With `--partial` the picture of what came by an early
-///   end is written.
+///   there is what failed: then a beginning of what was to be written. What `serve`, `share`,
+///   `relay` and `view --record` write as they go stays. With `--partial` the picture of what came
+///   by an early end is written.
 /// - 2: the words ask for nothing that there is, and `errors` has a text that says so.
 ///
 /// `output` is flushed before the status is chosen. A write to `errors` that fails changes nothing.
@@ -212,18 +212,25 @@ For more information, try '--help'."
             let _ = writeln!(Notes::new(errors, explains), "{ENCODINGS}");
             writeln!(errors, "bad encodings")
         }
-        BadValue::Server(word) => writeln!(
-            errors,
-            "error: invalid value '{word}' for '[SERVER]'
-  [HOST, HOST:DISPLAY with a display from 0 to 99, HOST:PORT from port 100 on, or HOST::PORT]
-
-For more information, try '--help'."
-        ),
+        BadValue::Server(word) => tell_server_word(word, "[SERVER]", errors),
+        BadValue::NeededServer(word) => tell_server_word(word, "<SERVER>", errors),
         BadValue::Servers => writeln!(errors, "{SERVERS}"),
         BadValue::NoServer => writeln!(errors, "{NO_SERVER}"),
         BadValue::Sides => writeln!(errors, "{SIDES}"),
         BadValue::Connections => writeln!(errors, "{CONNECTIONS}"),
     };
+}
+
+// Prints that a word names no server. `name` is how help has such a word.
+fn tell_server_word<E: Write>(word: &str, name: &str, errors: &mut E) -> io::Result<()> {
+    writeln!(
+        errors,
+        "error: invalid value '{word}' for '{name}'
+  [HOST, HOST:DISPLAY with a display from 0 to 99, HOST:PORT from port 100 on, or HOST::PORT]
+
+For more information, try '--help'."
+    )?;
+    Ok(())
 }
 
 /// Tells on `errors` why there are no words to go by, and answers the exit status: 2 for a word

@@ -15,6 +15,7 @@ use crate::loopback::{LOOP, script_through_loopback};
 use crate::options::BadValue;
 use crate::options::usage::{Usage, command_of};
 use crate::play::{PLAY, PlayOptions, play_options_in, play_recording};
+use crate::relaying::{RELAY, RelayOptions, relay_at, relay_options_in};
 use crate::script::{SCRIPT, script};
 use crate::serving::{SERVE, ServeOptions, serve_at, serve_options_in};
 use crate::sharing::{SHARE, ShareOptions, share_at, share_options_in};
@@ -35,6 +36,7 @@ pub enum Verb {
     Serve,
     View,
     Share,
+    Relay,
 }
 
 /// The commands, in the order that help has them in.
@@ -45,6 +47,7 @@ pub const COMMANDS: &[Verb] = &[
     Verb::Serve,
     Verb::View,
     Verb::Share,
+    Verb::Relay,
 ];
 
 /// A command, and what it is asked for.
@@ -62,6 +65,8 @@ pub enum Task<'a> {
     View(ViewOptions<'a>),
     /// To share a screen that a program draws.
     Share(ShareOptions<'a>),
+    /// To relay a server.
+    Relay(RelayOptions<'a>),
 }
 
 impl Verb {
@@ -76,6 +81,7 @@ impl Verb {
             Verb::Serve => SERVE,
             Verb::View => VIEW,
             Verb::Share => SHARE,
+            Verb::Relay => RELAY,
         }
     }
 }
@@ -86,7 +92,7 @@ impl Task<'_> {
         match self {
             Task::Play(options) => options.is_partial,
             Task::View(options) => options.sight.is_partial,
-            Task::Script | Task::Loop | Task::Serve(_) | Task::Share(_) => false,
+            Task::Script | Task::Loop | Task::Serve(_) | Task::Share(_) | Task::Relay(_) => false,
         }
     }
 }
@@ -129,6 +135,7 @@ pub fn task_in<'a>(verb: Verb, given: &ArgMatches<'a>) -> Result<Task<'a>, BadVa
         Verb::Serve => Task::Serve(serve_options_in(given)?),
         Verb::View => Task::View(view_options_in(given)?),
         Verb::Share => Task::Share(share_options_in(given)),
+        Verb::Relay => Task::Relay(relay_options_in(given)?),
     };
     Ok(task)
 }
@@ -151,5 +158,6 @@ pub fn run<P: AllocGlobal + Clock + Files + Net, R: Read, W: Write, E: Write>(
         Task::Serve(options) => serve_at(context, options),
         Task::View(options) => view_at(context, options),
         Task::Share(options) => share_at(context, options),
+        Task::Relay(options) => relay_at(context, options),
     }
 }

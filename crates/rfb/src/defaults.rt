@@ -1,7 +1,9 @@
 //! What ends are made with where nothing else is said.
 
-ghost use Rattle.std.specs.Prelude.{◌≡◌, ◌∷◌, [], IfOk};
-ghost use Rattle.rfb_wire.specs.declared.encoding.Encoding.TheVariants.{Raw};
+ghost use Rattle.std.specs.Prelude.{◌≡◌, ◌∷◌, [], true, IfOk};
+ghost use Rattle.rfb_hello.specs.declared.version.Version.TheVariants.{V38};
+ghost use Rattle.rfb_wire.specs.declared.encoding.Encoding.TheVariants.{CopyRect, Hextile};
+ghost use Rattle.rfb_wire.specs.declared.encoding.Encoding.TheVariants.{Raw, Rre};
 ghost use Rattle.rfb.specs.Playing.{IsFreshServer};
 ghost use Rattle.rfb.specs.Recording.{IsFresh};
 
@@ -38,15 +40,26 @@ pub fn fresh_server(alloc: Global, screen: Screen) -> Result<Server, AllocError>
 pub fn fresh_viewer(alloc: Global, format: Format, encodings: ArrayVec<Encoding, 4>) -> Viewer
     ensures { IsFresh format encodings.items result }
 {
-    let setup = ViewerSetup {
+    Viewer::of(alloc, viewer_setup(format, encodings))
+}
+
+/// What such a viewer is made with.
+pub fn viewer_setup(format: Format, encodings: ArrayVec<Encoding, 4>) -> ViewerSetup
+    ensures format { result.format ≡ format }
+    ensures encodings { result.encodings.items ≡ encodings.items }
+    ensures limit { result.limit ≡ V38 }
+    ensures shared { result.shared ≡ true }
+    ensures max_places { result.max_places ≡ 16777216 }
+    ensures text_limit { result.text_limit ≡ 1024 }
+{
+    ViewerSetup {
         format,
         encodings,
         limit: Version::V38,
         shared: true,
         max_places: MAX_PLACES,
         text_limit: TEXT_LIMIT,
-    };
-    Viewer::of(alloc, setup)
+    }
 }
 
 /// The same encodings.
@@ -58,6 +71,18 @@ pub fn copy_of(encodings: &ArrayVec<Encoding, 4>) -> ArrayVec<Encoding, 4>
         Ok(()) => copy,
         Err(_) => unreachable!(),
     }
+}
+
+/// All that there are: those that take few bytes to pass on first.
+pub fn all_encodings() -> ArrayVec<Encoding, 4>
+    ensures { result.items ≡ CopyRect ∷ Hextile ∷ Rre ∷ Raw ∷ [] }
+{
+    let mut encodings = ArrayVec::new();
+    encodings.push(Encoding::CopyRect);
+    encodings.push(Encoding::Hextile);
+    encodings.push(Encoding::Rre);
+    encodings.push(Encoding::Raw);
+    encodings
 }
 
 /// Raw alone.

@@ -17,7 +17,7 @@ mod telling;
 use crate::fault::{Failure, Fault};
 pub use early::{Early, tell_closed, tell_part};
 pub use escaped::Escaped;
-pub use failing::{Flaw, tell_client, tell_server};
+pub use failing::{Flaw, ServerFlaw, tell_client, tell_server};
 pub use heard::Heard;
 pub use hearing::{Hearing, Shared, tell_played};
 pub use keeping::Writing;

@@ -19,6 +19,8 @@ pub enum Topic {
     Servers,
     /// The lines of a share's owner, and those that it gets.
     Owners,
+    /// What a relay does, and the lines that it writes.
+    Relays,
 }
 
 impl Topic {
@@ -32,6 +34,7 @@ impl Topic {
             Topic::Viewers => VIEWERS,
             Topic::Servers => SERVERS,
             Topic::Owners => OWNERS,
+            Topic::Relays => RELAYS,
         }
     }
 }
@@ -43,7 +46,7 @@ Status:
   2  the words of the command ask for nothing that there is
 
 With --explain, at any command, sentences on standard error say how it goes and why it fails. At a
-terminal, with RFB_EXPLAIN=1 in the environment, and at `share`, they do by themselves.
+terminal, with RFB_EXPLAIN=1 in the environment, and at `share` and `relay`, they do by themselves.
 
 `rfb help faults` has refusals and faults by number, docs/PROTOCOL.md the language of scripts.";
 
@@ -152,3 +155,21 @@ Standard output has a line for each thing that viewers do; N is a seat, 0 to 7:
 
 Example:
   (echo screen 640 480; echo fill 0 0 640 480 336699) | rfb share --port 5950";
+
+const RELAYS: &str = "\
+A server's screen for up to eight viewers at once. The server has one viewer, which is this one; it
+must offer the security type None, and have a screen of at most 4096 pixels a side. Viewers wait
+until its first picture is there. Their keys, pointers and texts go to the server in the order in
+which they came. A text or a bell of the server's goes to none of them. Standard input is not read.
+It ends with the server, with status 1, or by --until-idle.
+
+A line on standard output says what the server does:
+  server up W H NAME          it is there, with a screen of this size; its name, by hexadecimal digits
+  server bell                 it rings
+  server text HEX             it cuts a text, of which at most 1024 bytes are here
+  server down WHY             it goes away: closed, failed, or a fault by its number and name
+The lines that say what viewers do are those of `rfb help share`.
+docs/PROTOCOL.md has the faults by number.
+
+Example, of a server at display 1 that viewers have at port 5950:
+  rfb relay localhost:1 --port 5950";

@@ -1,8 +1,8 @@
 //! The program `rfb`: both ends of the Remote Framebuffer protocol (RFC 6143) at work.
 //!
 //! `command_line` has the statuses, `options` the words, `commands` the commands, each with a
-//! module of its own: `scripting`, `loopback`, `play`, `serving`, `viewing` and `sharing`. `script`
-//! has the language of scripts.
+//! module of its own: `scripting`, `loopback`, `play`, `serving`, `viewing`, `sharing` and
+//! `relaying`. `script` has the language of scripts.
 #![tactic(auto)]
 
 mod command_line;
@@ -17,6 +17,7 @@ mod loopback;
 mod options;
 mod play;
 mod reaching;
+mod relaying;
 mod scene;
 mod script;
 mod serving;
@@ -36,8 +37,10 @@ use streams::{StandardInput, StandardOutput};
 // The variable that, where it is 1, asks for sentences as `--explain` does.
 const EXPLAIN_VARIABLE: &str = "RFB_EXPLAIN";
 
-// The command at which they are said always, and its word against them.
+// The commands at which they are said always, and their word against them.
 const SHARE: &str = "share";
+
+const RELAY: &str = "relay";
 
 const QUIET: &str = "--quiet";
 
@@ -60,8 +63,8 @@ fn main(rt: HostRuntime) -> ExitCode {
 }
 
 // The words that the program was called with, its own name first. `--explain` is after them where a
-// person reads the errors, the environment asks for it, or a screen is shared; unless `--quiet` is
-// among them. A word that is not UTF-8 is an error of the kind `InvalidData`.
+// person reads the errors, the environment asks for it, or a screen is shared or relayed; unless
+// `--quiet` is among them. A word that is not UTF-8 is an error of the kind `InvalidData`.
 fn words(rt: &HostRuntime) -> io::Result<Vec<String>> {
     let mut words: Vec<String> = env::args(rt)?.collect(rt.alloc())?;
     let is_wanted = rt.stderr().is_terminal() || is_asked(rt) || is_sharing(&words);
@@ -76,11 +79,11 @@ fn has(words: &[String], wanted: &str) -> bool {
     words.iter().any(|word| word.as_str() == wanted)
 }
 
-// Whether they name the command that shares a screen.
+// Whether they name a command that shares a screen, or relays one.
 fn is_sharing(words: &[String]) -> bool {
     for word in words.iter().skip(1) {
         if word.as_str() != EXPLAIN {
-            return word.as_str() == SHARE;
+            return word.as_str() == SHARE || word.as_str() == RELAY;
         }
     }
     false

@@ -40,6 +40,8 @@ pub enum BadValue<'a> {
     Encodings,
     /// No name of a server.
     Server(&'a str),
+    /// The same, where one has to be given.
+    NeededServer(&'a str),
     /// Two servers: one by its name, and one by a host or a port.
     Servers,
     /// No server at all.

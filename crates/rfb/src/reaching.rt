@@ -60,6 +60,21 @@ pub fn connect<'a, N: Net + Clock>(
     Ok(Patient::new(stream, deadline))
 }
 
+/// Connects to a host, once. The connection does not wait from then on.
+pub fn connect_once<N: Net>(net: &N, host: &str, port: u16) -> io::Result<N::Stream> {
+    let stream = TcpStream::connect(net, (host, port))?;
+    hurry(&stream)?;
+    Ok(stream)
+}
+
+/// A read or a write of this connection does not wait from here on, and what is written goes out at
+/// once. It is an error where they would wait.
+pub fn hurry<S: OpenStream>(stream: &S) -> io::Result<()> {
+    stream.set_nonblocking(true)?;
+    let _ = stream.set_nodelay(true);
+    Ok(())
+}
+
 // Tries to connect until the deadline, or once where there is none.
 fn connect_until<N: Net + Clock>(
     net: &N,

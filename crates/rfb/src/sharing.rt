@@ -6,37 +6,38 @@
 
 ghost use Rattle.std.specs.Prelude.{◌≡◌, OnOk, OnErr};
 ghost use Rattle.rfb.specs.Context.{KeepsStreams};
-ghost use Rattle.rfb.specs.Sharing.{EndsWell, IsAsked, IsNoEnd, LeavesShare, Shares};
+ghost use Rattle.rfb.specs.Sharing.{IsAsked, LeavesShare, Shares};
 
+pub mod ending;
 mod owner_cause;
 mod ready;
-mod setup;
+pub mod setup;
 mod share_words;
-mod shell;
-mod speaker;
-mod standard;
-mod tenant;
+pub mod shell;
+pub mod speaker;
+pub mod standard;
+pub mod tenant;
 
 use crate::context::Context;
 use crate::explain::{Notes, tell_closed_output};
 use crate::fault::{Failure, Fault};
 use crate::serving::listener_at;
+use crate::sharing::ending::result_of;
 use crate::sharing::setup::setup_of;
-use crate::sharing::shell::Shell;
+use crate::sharing::shell::{First, Shell};
 use crate::sharing::speaker::Reporter;
-use crate::sharing::standard::{Streams, open_streams};
-use crate::sharing::tenant::Tenant;
-use rfb_session::SLOTS;
-use rfb_session::console::{Console, DOORS, Outcome};
-use rfb_session::doors::{Counted, Place, live};
+use crate::sharing::standard::open_streams;
+use crate::sharing::tenant::{Tenant, doors_of};
+use rfb_session::console::Console;
+use rfb_session::doors::live;
 pub use share_words::{SHARE, ShareOptions, share_options_in};
-use std::alloc::{AllocError, Global};
+use std::alloc::Global;
 use std::io::{Read, Write};
 use std::net::{Net, OpenListener};
 use std::time::Clock;
 
-// How many bytes are read at once: as many as a pipe holds.
-const READ_AT_ONCE: usize = 65536;
+/// How many bytes are read at once: as many as a pipe holds.
+pub const READ_AT_ONCE: usize = 65536;
 
 /// Shares a screen until a line says `quit`, or with the last viewer if that is wanted. The input
 /// is standard input. A line of its that is bad is reported. Sentences are said, unless the options
@@ -62,16 +63,11 @@ pub fn share_at<P: AllocGlobal + Clock + Net, R: Read, W: Write, E: Write>(
     let listener = listener_at(context.rt, options.listen, options.port, notes)?;
     listener.set_nonblocking(true)?;
     let alloc = context.alloc();
-    let shell = &mut Shell::new(context.rt, alloc, listener, streams)?;
+    let shell = &mut Shell::new(context.rt, alloc, listener, First::Input, streams)?;
     let console = &mut console_of(alloc, &options, says);
     let mut part = Vec::from_elem(alloc, 0, READ_AT_ONCE)?;
-    let mut doors = doors_of(
-        alloc,
-        context.input,
-        context.output,
-        context.errors,
-        streams,
-    )?;
+    let input = Tenant::input(context.input, streams.input);
+    let mut doors = doors_of(alloc, input, context.output, context.errors, streams)?;
     live(console, &mut doors, shell, &mut part);
     result_of(console.outcome())
 }
@@ -82,51 +78,4 @@ fn console_of(alloc: Global, options: &ShareOptions<'_>, says: bool) -> Console<
 {
     let reporter = Reporter { are_wanted: says };
     Console::new(alloc, &setup_of(options), reporter)
-}
-
-// A device at a door, or nobody.
-type Door<'a, R, W, E, S> = Place<Counted<Tenant<'a, R, W, E, S>>>;
-
-// The doors: the streams of the process at theirs, and nobody at the others.
-fn doors_of<'a, R: Read, W: Write, E: Write, S: Read + Write + Drop>(
-    alloc: Global,
-    input: &'a mut R,
-    output: &'a mut W,
-    errors: &'a mut E,
-    streams: Streams,
-) -> Result<Vec<Door<'a, R, W, E, S>>, AllocError> {
-    let mut doors = Vec::with_capacity(alloc, DOORS)?;
-    doors.push(held(if streams.input {
-        Tenant::Input(input)
-    } else {
-        Tenant::Missing
-    }))?;
-    for _seat in 0..SLOTS {
-        doors.push(Place::Empty)?;
-    }
-    doors.push(held(Tenant::Output(output)))?;
-    doors.push(held(if streams.errors {
-        Tenant::Errors(errors)
-    } else {
-        Tenant::Missing
-    }))?;
-    Ok(doors)
-}
-
-// A stream at its door.
-fn held<'a, R, W, E, S>(tenant: Tenant<'a, R, W, E, S>) -> Door<'a, R, W, E, S> {
-    Place::Held(Counted::new(tenant))
-}
-
-// How a share has ended. Where its console does not say so, waiting has failed.
-fn result_of(outcome: Option<Outcome>) -> Result<(), Failure>
-    ensures well { OnOk result (EndsWell outcome) }
-    ensures ill { OnErr result (IsNoEnd outcome) }
-{
-    match outcome {
-        Some(Outcome::Quit | Outcome::Idle) => Ok(()),
-        Some(Outcome::BadLine(number)) => Err(Failure::BadLine(number)),
-        Some(Outcome::NoMemory) => Err(Failure::Fault(Fault::NoMemory)),
-        Some(Outcome::Device) | None => Err(Failure::Fault(Fault::Device)),
-    }
 }

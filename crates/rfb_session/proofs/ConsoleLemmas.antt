@@ -155,8 +155,13 @@ module _ {S : Type 0} where
   received_then old mid new door part done keeps = record {
     at_owner = λ is. hears_then old mid new part (done.at_owner is) keeps;
     at_seat = λ k within is.
-        let hears = done.at_seat k within is in
-        (hears.0, hears.1, hears.2, does_then _ old mid new hears.3 keeps.desk keeps.outcome keeps.owner);
+        let hears = done.at_seat k within is in (
+          hears.0,
+          hears.1,
+          hears.2,
+          hears.3,
+          does_then _ old mid new hears.4 keeps.desk keeps.outcome keeps.owner,
+        );
     at_lines = λ is. keeps_then old mid new (done.at_lines is) keeps;
     at_other = λ far. keeps_then old mid new (done.at_other far) keeps;
   }

@@ -19,6 +19,7 @@ use Rattle.rfb_session.specs.owner.Reader.{known_after}
 use Rattle.rfb_session.specs.owner.Telling.{leave_line}
 use Rattle.rfb_session.specs.Share.{waits_at}
 use Rattle.rfb_session.specs.console.Desk.{lines_of}
+use Rattle.rfb_session.specs.declared.share.event.SeatEvent.{SeatEvent}
 use Rattle.rfb_session.specs.console.Viewers.{HearsAt, LetsGo, LetsGoFor, Admits}
 use Rattle.rfb_session.specs.console.Turns.{TurnsAs, IsFreshDesk, DrawsAs, HoldsAs, ShowsAs, WritesLines, WritesSeat}
 use Rattle.rfb_session.specs.console.Console.{OnDesk, NoDesk, Over, Done, RanOut, ObeysSome}
@@ -43,8 +44,8 @@ pub data DeskMove (h : Happening) (a b : Desk) : Type 0 where
   Loses : (k : ℕ) (taken : Bool) → IsSilent h → LetsGoFor a k taken b → DeskMove h a b
   Holds : IsSilent h → HoldsAs a Begins b → DeskMove h a b
   Shows : IsSilent h → ShowsAs a b → DeskMove h a b
-  Hears : (k : ℕ) (bytes part : List ℕ) (used ended : ℕ) → k < 8 → h ≡ Told (Received (k + 1) part) →
-      part ≡ take used bytes → HearsAt a k bytes used ended b → DeskMove h a b
+  Hears : (k : ℕ) (bytes part : List ℕ) (used ended : ℕ) (event : Option SeatEvent) → k < 8 →
+      h ≡ Told (Received (k + 1) part) → part ≡ take used bytes → HearsAt a k bytes used ended event b → DeskMove h a b
   Writes : (k : ℕ) (bytes : List ℕ) → k < 8 → h ≡ Told (Wrote (k + 1) bytes) →
       bytes ≡ take (length bytes) (waits_at a.share k) → WritesSeat a k (length bytes) b → DeskMove h a b
   WritesOut : (bytes : List ℕ) → h ≡ Told (Wrote 9 bytes) → bytes ≡ take (length bytes) (lines_of a) →

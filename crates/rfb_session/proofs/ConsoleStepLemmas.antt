@@ -123,9 +123,9 @@ module _ {S : Type 0} where
       by (AtOwner is) = heard (came_elsewhere door bytes (inl is)) (steps.does.at_owner is)
       by (AtSeat k within is) =
           let hears = steps.does.at_seat k within is in
-          on_desk _ _ old.desk new.desk old.outcome new.outcome going goes hears.3.desk (λ none. refl)
-          (λ a b was done. Hears k hears.0 bytes hears.1 done.0 within
-          (ap (λ (d : ℕ). Told (Received d bytes)) is) hears.2 done.1)
+          on_desk _ _ old.desk new.desk old.outcome new.outcome going goes hears.4.desk (λ none. refl)
+          (λ a b was done. Hears k hears.0 bytes hears.1 done.0 hears.2 within
+          (ap (λ (d : ℕ). Told (Received d bytes)) is) hears.3 done.1)
       by (AtLines is) =
           alike _ old.desk new.desk (came_elsewhere door bytes (inr (omega (arith, is)))) (steps.does.at_lines is).desk
       by (AtOther far) =
@@ -247,7 +247,7 @@ module _ {S : Type 0} where
     where
       by : AtDoor door → IsKept old new
       by (AtOwner is) = absurd (beside is)
-      by (AtSeat k within is) = kept_on _ old new goes (steps.does.at_seat k within is).3
+      by (AtSeat k within is) = kept_on _ old new goes (steps.does.at_seat k within is).4
       by (AtLines is) = kept_desk old new (steps.does.at_lines is)
       by (AtOther far) = kept_desk old new (steps.does.at_other far)
   kept_so old new (Told (Ended door)) goes steps beside = by (at_door door)

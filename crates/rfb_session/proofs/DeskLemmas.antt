@@ -1,12 +1,14 @@
 -- What the calls of a desk come to, one after the other.
-use Rattle.std.proofs.Common.{◌≡◌, ◌<◌, ◌+◌, ◌++◌, ◌∙◌, ℕ, Bool, true, false, not, nat_eq, ◌&&◌, ◌||◌, List, []}
+use Rattle.std.proofs.Common.{◌≡◌, ◌<◌, ◌+◌, ◌-◌, ◌++◌, ◌∙◌, ℕ, Bool, true, false, not, nat_eq, ◌&&◌, ◌||◌, List, []}
 use Rattle.std.proofs.Common.{zero, suc}
-use Rattle.std.proofs.Common.{refl, sym, ap, subst, append_assoc, arith, inl, inr, length, cond, Option}
+use Rattle.std.proofs.Common.{refl, sym, ap, subst, append_assoc, arith, inl, inr, length, cond, Option, None}
 use Rattle.std.proofs.lemmas.Bool.{false≢true}
+use Rattle.std.proofs.lemmas.List.{length-append}
 use Rattle.std.proofs.lemmas.Bool.Decides.{eqb_tells, leb_tells}
 use Rattle.rfb_pixel.specs.declared.colour.Colour.{Colour}
 use Rattle.rfb_picture.specs.Grid.{Grid}
 use Rattle.rfb_picture.specs.Places.{has_bit}
+use Rattle.rfb_wire.specs.stream.Placing.{counted_on}
 use Rattle.rfb_session.specs.declared.console.desk.Desk.{Desk}
 use Rattle.rfb_session.specs.declared.console.guest.Guest.{Guest}
 use Rattle.rfb_session.specs.declared.console.guest.Progress.{Progress}
@@ -26,6 +28,7 @@ use Rattle.rfb_session.specs.console.Viewers.{Parts, TellsEvent, CountsTold}
 use Rattle.rfb_session.specs.console.Turns.{ComposesUpTo, ComposesOne, TriesOne}
 use Rattle.rfb_session.specs.console.Turns.{Serves, Rested, Tried, Wanted}
 use Rattle.rfb_session.specs.console.Viewers.{TellsOf, Fails, Stirs, HearsAt, Took, Refused, progress_after}
+use Rattle.rfb_session.specs.console.Viewers.{told_after}
 
 -- one seat more
 pub serves_one : (screen : Grid Colour) (tries wants more : Bool) (a b : Option ShareSeat) →
@@ -69,6 +72,8 @@ composes_next n old mid new tries wants more rests before one = record {
       ∙ before.later k (omega (arith, from));
   screen = record {
     screen = one.screen.screen ∙ before.screen.screen;
+    canvas = one.screen.canvas ∙ before.screen.canvas;
+    viewer = one.screen.viewer ∙ before.screen.viewer;
     made = one.screen.made ∙ before.screen.made;
   };
   beside = record {
@@ -99,8 +104,11 @@ parts_not k set old new parts none = elim (leb_tells 8 k) [
       ∙ ap (λ (b : Bool). cond b nobody (guest_at old k)) none
 ]
 
+longer_by : (l whole more : List ℕ) → whole ≡ l ++ more → length whole - length l ≡ length more
+longer_by l whole more is = omega (arith, ap (λ (w : List ℕ). length w) is, length-append l more)
+
 pub tells_of_is : (old mid told new : Desk) (k : ℕ) (heard : Heard) → Parts old heard.ended mid →
-    TellsEvent mid k heard.event told → CountsTold told k new → TellsOf old k heard new
+    TellsEvent mid k heard.event told → CountsTold told k (length (lines_of mid)) new → TellsOf old k heard new
 tells_of_is old mid told new k heard parts tells counts = record {
   share = counts.share ∙ tells.share ∙ parts.share;
   progress = λ none. counts.progress ∙ tells.progress
@@ -108,6 +116,12 @@ tells_of_is old mid told new k heard parts tells counts = record {
       (parts_not k heard.ended old mid parts none);
   since = λ none. counts.since ∙ tells.since
       ∙ ap (λ (g : Guest). g.since) (parts_not k heard.ended old mid parts none);
+  told = λ none. counts.told
+      ∙ ap (λ (n : ℕ). counted_on n (length (lines_of told) - length (lines_of mid)))
+      (tells.told ∙ ap (λ (g : Guest). g.told) (parts_not k heard.ended old mid parts none))
+      ∙ ap (λ (n : ℕ). counted_on (guest_at old k).told n)
+      (longer_by (lines_of mid) (lines_of told) (told_line mid.rules.view_only k heard.event) tells.lines)
+      ∙ ap (λ (r : Rules). told_after r.view_only k heard.event (guest_at old k).told) parts.rules.rules;
   others = λ j within other. counts.others j other ∙ tells.others j other ∙ parts.guests j within;
   lines = counts.lines ∙ tells.lines
       ∙ ap (λ (l : List ℕ). l ++ told_line mid.rules.view_only k heard.event) parts.lines
@@ -154,16 +168,20 @@ module _ (old mid heard_by new : Desk) (k : ℕ) (bytes : List ℕ) (stirs : Sti
 
   pub hears_took : (heard : Heard) →
       HearsBy (not mid.rules.always_shared) mid.share k bytes heard heard_by.share →
-      TellsOf heard_by k heard new → HearsAt old k bytes heard.used heard.ended new
+      TellsOf heard_by k heard new → HearsAt old k bytes heard.used heard.ended heard.event new
   hears_took heard hears tells =
       let made = rules.rules ∙ stirs.rules.rules in
-      Took heard refl refl
+      Took heard refl refl refl
       (subst (λ (s : Share). HearsBy (not old.rules.always_shared) old.share k bytes heard s)
       (sym tells.share)
       (rw (ap (λ (r : Rules). r.always_shared) (sym stirs.rules.rules), sym stirs.share) hears))
       (tells.progress (not_itself (not mid.rules.always_shared) mid.share heard_by.share k bytes heard hears)
       ∙ ap (λ (g : Guest). progress_after heard.event g.progress) (guests k)
       ∙ ap (λ (p : Progress). progress_after heard.event p) stirs.progress)
+      (tells.told (not_itself (not mid.rules.always_shared) mid.share heard_by.share k bytes heard hears)
+      ∙ ap (λ (g : Guest). told_after heard_by.rules.view_only k heard.event g.told) (guests k)
+      ∙ ap (λ (n : ℕ). told_after heard_by.rules.view_only k heard.event n) stirs.told
+      ∙ ap (λ (r : Rules). told_after r.view_only k heard.event (guest_at old k).told) made)
       (λ j within other. tells.others j within other
       ∙ ap (λ (g : Guest). cond (has_bit heard.ended j) nobody g) (guests j ∙ stirs.others j other))
       (tells.lines
@@ -182,14 +200,14 @@ module _ (old mid heard_by new : Desk) (k : ℕ) (bytes : List ℕ) (stirs : Sti
 
   pub hears_not : (fault : ShareFault) (ended : ℕ) (told : Bool) →
       RefusesAs mid.share k bytes fault heard_by.share → ((j : ℕ) → has_bit ended j ≡ false) →
-      Fails heard_by k told new → HearsAt old k bytes (length bytes) ended new
+      Fails heard_by k told new → HearsAt old k bytes (length bytes) ended None new
   hears_not fault ended told refuses none fails =
       let was : (guest_at heard_by k).progress ≡ (guest_at old k).progress =
       ap (λ (g : Guest). g.progress) (guests k) ∙ stirs.progress in
       let over : told ≡ not (is_over (guest_at old k).progress) =
       fails.told_is ∙ ap (λ (p : Progress). not (is_over p)) was in
       let same = lines ∙ stirs.lines in
-      Refused fault refl none
+      Refused fault refl none refl
       (subst (λ (s : Share). RefusesAs old.share k bytes fault s) (sym fails.share)
       (rw (sym stirs.share) refuses))
       (record {

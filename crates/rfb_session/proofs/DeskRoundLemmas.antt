@@ -85,6 +85,8 @@ module _ (step p : ℕ) (old mid new : Desk) (tries wants more : Bool) (within :
   screens : KeepsScreen old.share new.share
   screens = record {
     screen = one.screen.screen ∙ before.screen.screen;
+    canvas = one.screen.canvas ∙ before.screen.canvas;
+    viewer = one.screen.viewer ∙ before.screen.viewer;
     made = one.screen.made ∙ before.screen.made;
   }
 

@@ -10,7 +10,7 @@ use Rattle.rfb_session.specs.declared.console.plan.Rules.{Rules}
 use Rattle.rfb_session.specs.declared.share.Share.{Share}
 use Rattle.rfb_session.specs.declared.share.seat.ShareSeat.{ShareSeat}
 use Rattle.rfb_session.specs.Rounds.{first_after, is_left}
-use Rattle.rfb_session.specs.Share.{seat_in, screen_of, serving_in, waiting_for}
+use Rattle.rfb_session.specs.Share.{seat_in, screen_of, canvas_of, viewer_of, serving_in, waiting_for}
 use Rattle.rfb_session.specs.ShareSteps.{KeepsScreen}
 use Rattle.rfb_session.specs.owner.Telling.{leave_line}
 use Rattle.rfb_session.specs.console.Telling.{leave_lines}
@@ -82,6 +82,10 @@ module _ (old released begins stays shows : Desk) (now slow stuck late : ℕ) (h
   screen_shown = record {
     screen = ap (λ (s : Share). screen_of s) stills.share ∙ goes.screen.screen
         ∙ ap (λ (s : Share). screen_of s) stamps.share ∙ releases.screen.screen;
+    canvas = ap (λ (s : Share). canvas_of s) stills.share ∙ goes.screen.canvas
+        ∙ ap (λ (s : Share). canvas_of s) stamps.share ∙ releases.screen.canvas;
+    viewer = ap (λ (s : Share). viewer_of s) stills.share ∙ goes.screen.viewer
+        ∙ ap (λ (s : Share). viewer_of s) stamps.share ∙ releases.screen.viewer;
     made = ap (λ (s : Share). serving_in s) stills.share ∙ goes.screen.made
         ∙ ap (λ (s : Share). serving_in s) stamps.share ∙ releases.screen.made;
   }
@@ -135,6 +139,8 @@ module _ (old released begins stays shows : Desk) (now slow stuck late : ℕ) (h
                 ∙ ap (λ (n : ℕ). first_after n last) (aside.rules.first ∙ first_shown);
             screen = record {
               screen = ap (λ (s : Share). screen_of s) same ∙ screen.screen ∙ screen_shown.screen;
+              canvas = ap (λ (s : Share). canvas_of s) same ∙ screen.canvas ∙ screen_shown.canvas;
+              viewer = ap (λ (s : Share). viewer_of s) same ∙ screen.viewer ∙ screen_shown.viewer;
               made = ap (λ (s : Share). serving_in s) same ∙ screen.made ∙ screen_shown.made;
             };
             rules = beside.rules.rules ∙ round.made ∙ aside.rules.rules ∙ stills.made ∙ rules_stay;
@@ -163,7 +169,7 @@ module _ (old released begins stays shows : Desk) (now slow stuck late : ℕ) (h
           λ k within. ap (λ (d : Desk). seat_in d.share k) same ∙ seat_shown k within in
           turns (subst (λ (d : Desk). KeepsBeside shows d) (sym same) same_beside)
           (subst (λ (d : Desk). KeepsScreen shows.share d.share) (sym same)
-          (record { screen = refl; made = refl }))
+          (record { screen = refl; canvas = refl; viewer = refl; made = refl }))
           (λ k within. subst (λ (h : Bool). ServesUnless (h || is_left old.first last k) (screen_of old.share) wants
           (seat_left old now k) (seat_in composed.share k)) (sym is) (stays k within))
           (subst (λ (o : Option ℕ). EndsLarge o (seat_left old now) (seat_in composed.share)) (sym (none is)) tt)

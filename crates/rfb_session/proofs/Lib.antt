@@ -44,6 +44,8 @@ pub mod MirrorLaws
 pub mod ShareRelayLemmas
 pub mod ShareFeedLemmas
 pub mod ShareLawLemmas
+pub mod RelayLemmas
+pub mod RelayStepLemmas
 pub mod ShareViewerLemmas
 pub mod ShareUpdateLemmas
 pub mod ShareCallLemmas

@@ -15,6 +15,7 @@ use Rattle.rfb_session.specs.owner.Reader.{Feeds, ComesTo}
 use Rattle.rfb_session.specs.owner.Telling.{leave_line}
 use Rattle.rfb_session.specs.console.Telling.{leave_lines, come_line, busy_line}
 use Rattle.rfb_session.specs.console.Desk.{guest_at, lines_of, is_over}
+use Rattle.rfb_session.specs.declared.share.event.SeatEvent.{SeatEvent}
 use Rattle.rfb_session.specs.console.Viewers.{HearsAt, Took, Refused, MakesRoom}
 use Rattle.rfb_session.specs.console.Turns.{tells_late}
 use Rattle.rfb_session.specs.console.Console.{IsFreshConsole, Stays, HearsOwner, Ignored, Heard, ObeysSome, Obeys}
@@ -56,11 +57,11 @@ room_text None a b room =
     ([], ap (λ (d : Desk). lines_of d) (room.none refl) ∙ sym (append-nil (lines_of a)))
 room_text (Some k) a b room = let goes = (room.one k refl).2 in (cond goes.0 (leave_line k) [], goes.1.lines)
 
-heard_tells : (h : Happening) (k : ℕ) (bytes : List ℕ) (used ended : ℕ) (a b : Desk) → left_in 9 h ≡ [] →
-    HearsAt a k bytes used ended b → Tells h (lines_of a) (lines_of b)
-heard_tells h k bytes used ended a b none (Took heard is gone hears progress guests lines rules) =
+heard_tells : (h : Happening) (k : ℕ) (bytes : List ℕ) (used ended : ℕ) (event : Option SeatEvent) (a b : Desk) →
+    left_in 9 h ≡ [] → HearsAt a k bytes used ended event b → Tells h (lines_of a) (lines_of b)
+heard_tells h k bytes used ended event a b none (Took heard is gone event_is hears progress told guests lines rules) =
     tells_more h (lines_of a) (lines_of b) _ none lines
-heard_tells h k bytes used ended a b none (Refused fault is gone refuses tells progress guests rules) =
+heard_tells h k bytes used ended event a b none (Refused fault is gone quiet refuses tells progress guests rules) =
     by (is_over (guest_at a k).progress) refl
   where
     by : (over : Bool) → is_over (guest_at a k).progress ≡ over → Tells h (lines_of a) (lines_of b)
@@ -78,8 +79,8 @@ move_tells h a b (Loses k false silent lets) = tells_none h _ _ (silent_9 h sile
 move_tells h a b (Holds silent holds) = tells_none h _ _ (silent_9 h silent) holds.lines
 move_tells h a b (Shows silent shows) =
     tells_none h _ _ (silent_9 h silent) (shows.composes.beside.lines ∙ shows.holds.lines)
-move_tells h a b (Hears k bytes part used ended low is parts hears) =
-    heard_tells h k bytes used ended a b (ap (λ (e : Happening). left_in 9 e) is) hears
+move_tells h a b (Hears k bytes part used ended event low is parts hears) =
+    heard_tells h k bytes used ended event a b (ap (λ (e : Happening). left_in 9 e) is) hears
 move_tells h a b (Writes k bytes low is waited writes) =
     tells_none h _ _ (ap (λ (e : Happening). left_in 9 e) is
     ∙ if_other 9 (k + 1) bytes (λ same. omega (arith, same, low))) writes.lines

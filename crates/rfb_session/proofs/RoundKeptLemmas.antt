@@ -4,16 +4,19 @@ use Rattle.std.proofs.lemmas.Bool.{false≢true}
 use Rattle.rfb_session.specs.declared.console.Console.{Console}
 use Rattle.rfb_session.specs.declared.console.desk.Desk.{Desk}
 use Rattle.rfb_session.specs.doors.Tenants.{Happening}
+use Rattle.rfb_session.specs.declared.share.event.SeatEvent.{SeatEvent}
 use Rattle.rfb_session.specs.console.Viewers.{HearsAt, Took, Refused, MakesRoom}
 use Rattle.rfb_session.specs.console.History.{Happens, HasRead, is_turn, KeepsFirst}
 use Rattle.rfb_session.proofs.ConsoleMoveLemmas.{DeskMove, Alike, Draws, Goes, Loses, Holds, Shows, Hears, Writes}
 use Rattle.rfb_session.proofs.ConsoleMoveLemmas.{WritesOut, Turns, Comes, Refuses, Moves, None_yet, Begun, Moved}
 use Rattle.rfb_session.proofs.ConsoleStepLemmas.{moves_so, stays_so, went_on}
 
-heard_first : (k : ℕ) (bytes : List ℕ) (used ended : ℕ) (a b : Desk) → HearsAt a k bytes used ended b →
-    b.first ≡ a.first
-heard_first k bytes used ended a b (Took heard used_is ended_is hears progress others lines rules) = rules.first
-heard_first k bytes used ended a b (Refused fault used_is none refuses tells progress others rules) = rules.first
+heard_first : (k : ℕ) (bytes : List ℕ) (used ended : ℕ) (event : Option SeatEvent) (a b : Desk) →
+    HearsAt a k bytes used ended event b → b.first ≡ a.first
+heard_first k bytes used ended event a b (Took heard used_is ended_is event_is hears progress told others lines rules) =
+    rules.first
+heard_first k bytes used ended event a b (Refused fault used_is none quiet refuses tells progress others rules) =
+    rules.first
 
 room_first : (left : Option ℕ) (a mid : Desk) → MakesRoom a left mid → mid.first ≡ a.first
 room_first None a mid room = ap (λ (d : Desk). d.first) (room.none refl)
@@ -26,8 +29,8 @@ moved_first h a b none (Goes k taken silent lets) = lets.rules.first
 moved_first h a b none (Loses k taken silent lets) = lets.rules.first
 moved_first h a b none (Holds silent holds) = holds.first
 moved_first h a b none (Shows silent shows) = shows.composes.beside.rules.first ∙ shows.holds.first
-moved_first h a b none (Hears k bytes part used ended low is parts hears) =
-    heard_first k bytes used ended a b hears
+moved_first h a b none (Hears k bytes part used ended event low is parts hears) =
+    heard_first k bytes used ended event a b hears
 moved_first h a b none (Writes k bytes low is waited writes) = writes.rules.first
 moved_first h a b none (WritesOut bytes is waited writes) = writes.rules.first
 moved_first h a b none (Turns now slow stuck is silent turns) =

@@ -81,15 +81,15 @@ module _ (serving : Serving) (k : ℕ) (within : k < 8) where
       silently h _ _ silent (go_on serving k [] [] [] [] a.share shows.mid.share b.share
       (same_share serving k _ _ shows.holds.share)
       (served_on serving k shows.wants _ _ shows.composes.screen (shows.composes.seats k within)))
-  moved_on h a b kept (Hears n bytes part used ended low is parts hears) =
+  moved_on h a b kept (Hears n bytes part used ended event low is parts hears) =
       subst (λ (e : Happening). GoesOn serving k (came_in (k + 1) e) (left_in (k + 1) e) a.share b.share) (sym is)
       (elim (eqb_tells (k + 1) (n + 1)) [
         | inl same ↦
             rw same.0 (subst (λ (l : List ℕ). GoesOn serving k l [] a.share b.share) (sym parts)
-            (hears_here serving k bytes used ended a b
-            (subst (λ (m : ℕ). HearsAt a m bytes used ended b) (omega (arith, same.1)) hears)))
+            (hears_here serving k bytes used ended event a b
+            (subst (λ (m : ℕ). HearsAt a m bytes used ended event b) (omega (arith, same.1)) hears)))
         | inr other ↦
-            rw other.0 (hears_beside serving k n bytes used ended a b (apart k n other.1) hears)
+            rw other.0 (hears_beside serving k n bytes used ended event a b (apart k n other.1) hears)
       ])
   moved_on h a b kept (Writes n bytes low is waited writes) =
       subst (λ (e : Happening). GoesOn serving k (came_in (k + 1) e) (left_in (k + 1) e) a.share b.share) (sym is)

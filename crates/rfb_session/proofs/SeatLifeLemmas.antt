@@ -17,13 +17,14 @@ use Rattle.rfb_session.specs.declared.share.event.ShareFault.{ShareFault}
 use Rattle.rfb_session.specs.declared.share.seat.ShareSeat.{ShareSeat}
 use Rattle.rfb_session.specs.doors.Events.{left}
 use Rattle.rfb_session.specs.owner.Drawing.{DrawsOne, Drawn, Outside}
-use Rattle.rfb_session.specs.Share.{seat_in, screen_of, serving_in, waits_at}
+use Rattle.rfb_session.specs.Share.{seat_in, screen_of, canvas_of, viewer_of, serving_in, waits_at}
 use Rattle.rfb_session.specs.ShareLives.{Lives, LivesAt}
 use Rattle.rfb_session.specs.ShareSeats.{IsNotifiedIn}
 use Rattle.rfb_session.specs.ShareSlots.{ComposesIn, WantsRoomIn}
 use Rattle.rfb_session.specs.ShareSteps.{KeepsScreen, LeavesAs, JoinsAs, Full, Joined, HearsBy, NoneHeard, SeatEmptied}
 use Rattle.rfb_session.specs.ShareSteps.{SeatEnded, RefusesAs, WritesAs}
 use Rattle.rfb_session.specs.Slots.{OnSlot}
+use Rattle.rfb_session.specs.declared.share.event.SeatEvent.{SeatEvent}
 use Rattle.rfb_session.specs.console.Viewers.{HearsAt, Took, Refused, Admits, MakesRoom}
 use Rattle.rfb_session.specs.console.Turns.{Serves, Rested, Tried, Wanted, ServesUnless}
 use Rattle.rfb_session.proofs.ShareLifeLemmas.{lives_heard}
@@ -61,6 +62,8 @@ module _ (serving : Serving) (k : ℕ) where
   pub same_share : (a b : Share) → b ≡ a → GoesOn serving k [] [] a b
   same_share a b same = stayed a b (record {
     screen = ap (λ (s : Share). screen_of s) same;
+    canvas = ap (λ (s : Share). canvas_of s) same;
+    viewer = ap (λ (s : Share). viewer_of s) same;
     made = ap (λ (s : Share). serving_in s) same;
   }) (ap (λ (s : Share). seat_in s k) same)
 
@@ -200,21 +203,22 @@ module _ (serving : Serving) (k : ℕ) where
   refused_beside n bytes fault a b other (SeatEnded of is before now there here ends keeps others) =
       stayed a b keeps (others k other)
 
-  pub hears_here : (bytes : List ℕ) (used ended : ℕ) (a b : Desk) → HearsAt a k bytes used ended b →
+  pub hears_here : (bytes : List ℕ) (used ended : ℕ) (event : Option SeatEvent) (a b : Desk) →
+      HearsAt a k bytes used ended event b →
       GoesOn serving k (take used bytes) [] a.share b.share
-  hears_here bytes used ended a b (Took heard is gone hears progress guests lines rules) =
+  hears_here bytes used ended event a b (Took heard is gone event_is hears progress told guests lines rules) =
       subst (λ (n : ℕ). GoesOn serving k (take n bytes) [] a.share b.share) (sym is)
       (heard_on (not a.rules.always_shared) bytes heard a.share b.share hears)
-  hears_here bytes used ended a b (Refused fault is gone refuses tells progress guests rules) =
+  hears_here bytes used ended event a b (Refused fault is gone none refuses tells progress guests rules) =
       subst (λ (l : List ℕ). GoesOn serving k l [] a.share b.share)
       (sym (ap (λ (n : ℕ). take n bytes) is ∙ take-length bytes))
       (refused_on bytes fault a.share b.share refuses)
 
-  pub hears_beside : (n : ℕ) (bytes : List ℕ) (used ended : ℕ) (a b : Desk) → nat_eq k n ≡ false →
-      HearsAt a n bytes used ended b → GoesOn serving k [] [] a.share b.share
-  hears_beside n bytes used ended a b other (Took heard is gone hears progress guests lines rules) =
+  pub hears_beside : (n : ℕ) (bytes : List ℕ) (used ended : ℕ) (event : Option SeatEvent) (a b : Desk) →
+      nat_eq k n ≡ false → HearsAt a n bytes used ended event b → GoesOn serving k [] [] a.share b.share
+  hears_beside n bytes used ended event a b other (Took heard is gone event_is hears progress told guests lines rules) =
       heard_beside (not a.rules.always_shared) n bytes heard a.share b.share other hears
-  hears_beside n bytes used ended a b other (Refused fault is gone refuses tells progress guests rules) =
+  hears_beside n bytes used ended event a b other (Refused fault is gone none refuses tells progress guests rules) =
       refused_beside n bytes fault a.share b.share other refuses
 
   -- ---- connections

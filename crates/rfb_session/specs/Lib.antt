@@ -56,3 +56,4 @@ pub mod netpbm
 pub mod inside
 pub mod doors
 pub mod console
+pub mod relay

@@ -4,6 +4,7 @@ ghost use Rattle.std.specs.Prelude.{◌≡◌, ◌≤◌, ◌++◌, ℕ, List, [
 ghost use Rattle.std.specs.Prelude.{◌≢◌, ◌+◌, true, false, None, Ok, IfOk, OnOk, OnErr};
 ghost use Rattle.std.specs.Vec.{vec_capacity};
 
+use crate::share::Share;
 use rfb_picture::Picture;
 use rfb_pixel::Colour;
 use rfb_server::Session;
@@ -43,6 +44,7 @@ impl Channel {
     ghost use Rattle.rfb_server.specs.Updating.{SendsUpdate, OwesUpdate, OwesNone};
     ghost use Rattle.rfb_session.specs.LinkBytes.{IsCalled};
     ghost use Rattle.rfb_session.specs.inside.Room.{IsSameSize};
+    ghost use Rattle.rfb_session.specs.relay.Desk.{CallsShare};
 
     /// A channel with nothing in flight. It takes no memory.
     pub(crate) fn new(alloc: Global) -> Channel
@@ -134,6 +136,18 @@ impl Channel {
         ensures unnoted { is_noted call.now ≡ false → viewer.new ≡ viewer.old }
     {
         viewer.append(call, &mut self.bytes)
+    }
+
+    /// The same of the viewer whose picture a share has.
+    pub(crate) fn send_from(
+        &mut self,
+        share: &mut Share,
+        call: &Call<'_>,
+    ) -> Result<(), AppendFault>
+        requires few { length (text_in call.now) ≤ 1048576 }
+        ensures { CallsShare share.old call.now self.old result self.new share.new }
+    {
+        share.append(call, &mut self.bytes)
     }
 }
 

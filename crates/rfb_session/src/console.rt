@@ -18,7 +18,7 @@
 //!   and heard. So small ones do not wait behind those of eight whole screens.
 
 pub(crate) mod desk;
-mod entrances;
+pub(crate) mod entrances;
 pub(crate) mod guest;
 mod hosting;
 pub mod laws;
@@ -37,6 +37,7 @@ use crate::console::desk::Desk;
 pub use crate::console::plan::{ConsoleSetup, Rules};
 pub use crate::console::speaker::{NOTE_MAX, Note, Saying, Silent, Speaker, Why};
 use crate::owner::{Beginning, OwnerReader};
+use crate::relay::Gone;
 use crate::seats::Seats;
 use arrayvec::ArrayVec;
 use std::alloc::Global;
@@ -73,6 +74,8 @@ pub enum Outcome {
     NoMemory,
     /// What tells the owner has failed.
     Device,
+    /// The server of a relay has gone away.
+    ServerGone(Gone),
 }
 
 /// A console. `S` makes its sentences.
@@ -80,7 +83,7 @@ pub enum Outcome {
 pub struct Console<S: Drop> {
     alloc: Global,
     name: ArrayVec<u8, NAME_MAX>,
-    rules: Rules,
+    pub(crate) rules: Rules,
     reader: OwnerReader,
     // What has come of the owner's line.
     said: Beginning,
@@ -88,7 +91,7 @@ pub struct Console<S: Drop> {
     count: u64,
     has_input_ended: bool,
     // There is none before the owner says how large the screen is.
-    desk: Option<Desk>,
+    pub(crate) desk: Option<Desk>,
     // How many bytes each door takes before the next turn.
     rooms: [usize; READ],
     notes: Vec<u8>,
@@ -97,12 +100,12 @@ pub struct Console<S: Drop> {
     are_notes_lost: bool,
     // There was no memory for a line that tells of a bad one.
     are_notes_wanting: bool,
-    outcome: Option<Outcome>,
+    pub(crate) outcome: Option<Outcome>,
     // Until when what waits is written after the end, once a turn has told the time.
     patience: Option<u64>,
-    is_over: bool,
+    pub(crate) is_over: bool,
     // When it wants the next turn.
-    next: Option<u64>,
+    pub(crate) next: Option<u64>,
     speaker: S,
     ghost nine: { length rooms ≡ 9 },
     ghost few_notes: { length notes.items ≤ 8388608 },

@@ -42,6 +42,7 @@ mod link;
 mod loops;
 pub mod netpbm;
 pub mod owner;
+pub mod relay;
 mod reply;
 mod seat;
 mod seats;

@@ -29,6 +29,7 @@ pub use crate::language::SCREEN;
 pub use beginning::Beginning;
 pub use drawing::drawing_of;
 pub use line::{END, HOLD, PIXELS, QUIT, SCROLL, SHOW, read_owner_line, read_shift};
+pub(crate) use notices::tell_text_hex;
 pub use notices::{tell_event, tell_fault, tell_join, tell_leave, tell_refusal};
 pub use order::{Order, OwnerLine, Refusal};
 pub use pixels::data_length;

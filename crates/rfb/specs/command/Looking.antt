@@ -1,13 +1,12 @@
 -- What the words of `view` ask for.
-use Rattle.std.specs.Prelude.{◌≡◌, ◌⊎◌, ℕ, List, [], ◌∷◌, Option, Some, None, codes}
+use Rattle.std.specs.Prelude.{◌⊎◌, ℕ, List, [], ◌∷◌, Option, codes}
 use Rattle.clap.specs.Words.{Row, Text, first_of}
-use Rattle.rfb_wire.specs.declared.encoding.Encoding.{Encoding}
 use Rattle.rfb_wire.specs.declared.encoding.Encoding.TheVariants.{Raw}
 use Rattle.rfb.specs.declared.viewing.view_options.ViewOptions.{ViewOptions}
 use Rattle.rfb.specs.declared.viewing.view_options.Sight.{Sight}
 use Rattle.rfb.specs.Address.{GivesServer}
-use Rattle.rfb_session.specs.language.Words.{AreEncodings, parts_of}
-use Rattle.rfb.specs.command.Values.{GivesFormat, HasBadFormat, GivesNumber, MayGiveNumber, IsFlagged}
+use Rattle.rfb.specs.command.Values.{GivesEncodings, GivesFormat, HasBadEncodings, HasBadFormat}
+use Rattle.rfb.specs.command.Values.{GivesNumber, IsFlagged, MayGiveNumber}
 
 -- the server that is given
 abbrev pub NamesServer : List Row → Option ℕ → Text → ℕ → Type 0
@@ -25,24 +24,10 @@ HasBadAddress rows =
     (number : Option ℕ) × MayGiveNumber (codes "port") 1 65535 rows number
     × ((host : Text) (port : ℕ) → ¬ (NamesServer rows number host port))
 
--- the encodings that are given by their names, with commas between them, or Raw
-abbrev pub NamesEncodings : Option Text → List Encoding → Type 0
-NamesEncodings None encodings = encodings ≡ Raw ∷ []
-NamesEncodings (Some list) encodings = AreEncodings (parts_of list) encodings
-
-abbrev pub GivesEncodings : List Row → List Encoding → Type 0
-GivesEncodings rows encodings = NamesEncodings (first_of (codes "encodings") rows) encodings
-
--- a list of encodings has a part that is the name of none, or too many
-abbrev pub HasBadEncodings : List Row → Type 0
-HasBadEncodings rows =
-    (list : Text) × (first_of (codes "encodings") rows ≡ Some list)
-    × ((encodings : List Encoding) → ¬ (AreEncodings (parts_of list) encodings))
-
 -- what is to be seen of a server
 pub record GivesSight (rows : List Row) (sight : Sight) : Type 0 where
   pub format : GivesFormat rows sight.wants.format
-  pub encodings : GivesEncodings rows sight.wants.encodings.items
+  pub encodings : GivesEncodings (Raw ∷ []) rows sight.wants.encodings.items
   pub updates : GivesNumber (codes "updates") 1 4294967295 rows sight.updates
   pub is_recorded : IsFlagged (codes "record") rows sight.is_recorded
   pub is_partial : IsFlagged (codes "partial") rows sight.is_partial

@@ -9,6 +9,7 @@ use Rattle.rfb.specs.command.Rules.{partial_rule, input_rule, output_rule, any_p
 use Rattle.rfb.specs.command.Rules.{connections_rule, forever_rule, picture_rule, viewers_rule, name_rule, idle_rule}
 use Rattle.rfb.specs.command.Rules.{first_updates_rule, timeout_rule, updates_rule}
 use Rattle.rfb.specs.command.Rules.{handshake_rule, hold_rule, shared_rule, view_only_rule, quiet_rule}
+use Rattle.rfb.specs.command.Rules.{needed_server_rule, other_name_rule, relay_encodings_rule}
 
 -- a command of these words
 abbrev pub command : Text → List Rule → Shape
@@ -40,6 +41,12 @@ share_shape = command (codes "share")
     (port_rule ∷ listen_rule ∷ viewers_rule ∷ name_rule ∷ idle_rule ∷ handshake_rule ∷ timeout_rule
     ∷ hold_rule ∷ shared_rule ∷ view_only_rule ∷ quiet_rule ∷ [])
 
+abbrev pub relay_shape : Shape
+relay_shape = command (codes "relay")
+    (needed_server_rule ∷ port_rule ∷ listen_rule ∷ viewers_rule ∷ other_name_rule ∷ idle_rule
+    ∷ handshake_rule ∷ timeout_rule ∷ shared_rule ∷ view_only_rule ∷ quiet_rule ∷ format_rule
+    ∷ relay_encodings_rule ∷ [])
+
 abbrev pub shape_named : Verb → Shape
 shape_named verbs.Script = script_shape
 shape_named verbs.Loop = loop_shape
@@ -47,6 +54,7 @@ shape_named verbs.Play = play_shape
 shape_named verbs.Serve = serve_shape
 shape_named verbs.View = view_shape
 shape_named verbs.Share = share_shape
+shape_named verbs.Relay = relay_shape
 
 -- what a command is called
 abbrev pub name_of : Verb → Text
@@ -62,7 +70,8 @@ top = record {
 abbrev pub program : App
 program =
     with_subcommand (with_subcommand (with_subcommand (with_subcommand (with_subcommand
-    (with_subcommand top script_shape) loop_shape) play_shape) serve_shape) view_shape) share_shape
+    (with_subcommand (with_subcommand top script_shape) loop_shape) play_shape) serve_shape)
+    view_shape) share_shape) relay_shape
 
 -- the command that words name, and what they give to its options
 abbrev pub asked : List Text → Option (Text × List Row)

@@ -20,6 +20,10 @@ format_rule = word_rule (codes "format") (codes "rgb888")
 abbrev pub server_rule : Rule
 server_rule = record (new_rule (codes "server")) { value_names = 1 }
 
+-- the same, which has to be given
+abbrev pub needed_server_rule : Rule
+needed_server_rule = record server_rule { required = true }
+
 abbrev pub host_rule : Rule
 host_rule = record (new_rule (codes "host")) {
   long = Some (codes "host");
@@ -31,6 +35,10 @@ listen_rule = word_rule (codes "listen") (codes "127.0.0.1")
 
 abbrev pub encodings_rule : Rule
 encodings_rule = word_rule (codes "encodings") (codes "raw")
+
+-- those that a relay asks its server for
+abbrev pub relay_encodings_rule : Rule
+relay_encodings_rule = word_rule (codes "encodings") (codes "copyrect,hextile,rre,raw")
 
 -- a word that is given or not
 abbrev pub flag_rule : Text → Rule
@@ -96,6 +104,13 @@ viewers_rule = record (number_rule (codes "viewers") 1 8) { defaults = codes "8"
 
 abbrev pub name_rule : Rule
 name_rule = word_rule (codes "name") (codes "rfb")
+
+-- a name in place of a server's own
+abbrev pub other_name_rule : Rule
+other_name_rule = record (new_rule (codes "name")) {
+  long = Some (codes "name");
+  value_names = 1;
+}
 
 abbrev pub idle_rule : Rule
 idle_rule = flag_rule (codes "until-idle")

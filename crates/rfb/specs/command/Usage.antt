@@ -32,6 +32,7 @@ abbrev pub taking : Takes → Rule → Rule
 taking takes.Nothing rule = record rule { action = Some SetTrue }
 taking (takes.Text value) rule = valued rule
 taking (takes.TextOr value default) rule = or_else default.now (valued rule)
+taking (takes.NeededText value) rule = record (valued rule) { required = true }
 taking (takes.Number value most) rule = numbered most rule
 taking (takes.NumberOr value most default) rule = or_else default.now (numbered most rule)
 taking (takes.Needed value most) rule = record (numbered most rule) { required = true }

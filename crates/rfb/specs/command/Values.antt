@@ -1,10 +1,11 @@
--- What a word gives: a format, a number, a file, or that it is there.
+-- What a word gives: a format, encodings, a number, a file, or that it is there.
 use Rattle.std.specs.Prelude.{◌≡◌, ◌≤◌, ℕ, Bool, true, false, List, Option, Some, None, codes, option_map}
 use Rattle.std.specs.Str.Parse.{IsNumeral, digits_value, without_leading_plus}
 use Rattle.clap.specs.Words.{Row, Text, first_of, one_of}
 use Rattle.rfb_pixel.specs.Format.{PixelFormat, rgb888}
+use Rattle.rfb_wire.specs.declared.encoding.Encoding.{Encoding}
 use Rattle.rfb.specs.declared.options.paths.Paths.{Paths}
-use Rattle.rfb_session.specs.language.Words.{IsFormatWord}
+use Rattle.rfb_session.specs.language.Words.{AreEncodings, IsFormatWord, parts_of}
 
 -- the format that is given by its name, or rgb888
 abbrev pub NamesFormat : Option Text → PixelFormat → Type 0
@@ -19,6 +20,21 @@ abbrev pub HasBadFormat : List Row → Type 0
 HasBadFormat rows =
     (word : Text) × (first_of (codes "format") rows ≡ Some word)
     × ((format : PixelFormat) → ¬ (IsFormatWord word format))
+
+-- the encodings that are given by their names, with commas between them, or these
+abbrev pub NamesEncodings : List Encoding → Option Text → List Encoding → Type 0
+NamesEncodings otherwise None encodings = encodings ≡ otherwise
+NamesEncodings otherwise (Some list) encodings = AreEncodings (parts_of list) encodings
+
+abbrev pub GivesEncodings : List Encoding → List Row → List Encoding → Type 0
+GivesEncodings otherwise rows encodings =
+    NamesEncodings otherwise (first_of (codes "encodings") rows) encodings
+
+-- a list of encodings has a part that is the name of none, or too many
+abbrev pub HasBadEncodings : List Row → Type 0
+HasBadEncodings rows =
+    (list : Text) × (first_of (codes "encodings") rows ≡ Some list)
+    × ((encodings : List Encoding) → ¬ (AreEncodings (parts_of list) encodings))
 
 -- a number that is given by its digits, a plus before them or none, if it lies in the range
 abbrev pub GivesNumber : Text → ℕ → ℕ → List Row → ℕ → Type 0

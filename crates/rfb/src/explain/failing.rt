@@ -61,18 +61,7 @@ fn tell_viewer_fault<N: Write>(
         ViewerFault::SecurityFailed(_) => {
             tell_reason("does not let the viewer in", viewer.reason(), notes)
         }
-        ViewerFault::UnknownMessage(kind) => {
-            writeln!(
-                notes,
-                "rfb: a message has type {kind}, which no server has in RFC 6143"
-            )
-        }
-        ViewerFault::UnknownEncoding(number) => writeln!(
-            notes,
-            "rfb: a rectangle has encoding {}, and only raw, copyrect, rre and hextile are taken",
-            EncodingNumber(number)
-        ),
-        other => writeln!(notes, "rfb: {}", flaw_of_server(other)),
+        other => writeln!(notes, "rfb: {}", ServerFlaw(other)),
     }
 }
 
@@ -88,6 +77,27 @@ fn tell_reason<N: Write>(does: &str, reason: &[u8], notes: &mut N) -> io::Result
     )
 }
 
+/// What a server did wrong, or refused, as far as its fault says it. It prints as a clause.
+#[derive(Clone, Copy)]
+pub struct ServerFlaw(pub ViewerFault);
+
+impl fmt::Display for ServerFlaw {
+    fn fmt<F: fmt::Write>(&self, f: &mut fmt::Formatter<F>) -> fmt::Result {
+        match self.0 {
+            ViewerFault::UnknownMessage(kind) => write!(
+                f,
+                "a message has type {kind}, which no server has in RFC 6143"
+            ),
+            ViewerFault::UnknownEncoding(number) => write!(
+                f,
+                "a rectangle has encoding {}, and only raw, copyrect, rre and hextile are taken",
+                EncodingNumber(number)
+            ),
+            other => f.write_str(flaw_of_server(other)),
+        }
+    }
+}
+
 // What is wrong with what a server sent, where its fault alone says it.
 fn flaw_of_server(fault: ViewerFault) -> &'static str {
     match fault {
@@ -99,6 +109,12 @@ fn flaw_of_server(fault: ViewerFault) -> &'static str {
             "the mask of a tile of Hextile has a foreground, and subrectangles with colours"
         }
         ViewerFault::SourceOutside => "the source of a CopyRect leaves the screen",
+        ViewerFault::BadVersion => "the other end sent no version: it is no server of RFB",
+        ViewerFault::NoneNotOffered | ViewerFault::BadSecurityWord => {
+            "the server offers no security type 1 (None)"
+        }
+        ViewerFault::Refused(_) => "the server refuses the connection",
+        ViewerFault::SecurityFailed(_) => "the server does not let the viewer in",
         ViewerFault::ScreenEmpty => "the server's screen has no pixel",
         ViewerFault::ScreenTooLarge => "the server's screen has more than 16777216 pixels",
         ViewerFault::NoMemory => "there is no memory for the screen",

@@ -1,16 +1,21 @@
-//! The server that `view` is asked for.
+//! The server that `view` and `relay` are asked for.
 
 ghost use Rattle.std.specs.Prelude.{codes, ℕ, List, option_map, MatchOption, MatchResult};
 ghost use Rattle.clap.specs.Words.{found_of, rows_of};
 ghost use Rattle.rfb.specs.Address.{GivesServer, IsAddress, NamesDisplay, NamesPort, OrLoopback};
 ghost use Rattle.rfb.specs.command.Values.{MayGiveNumber};
 ghost use Rattle.rfb.specs.command.Looking.{GivesAddress, HasBadAddress};
+ghost use Rattle.rfb.specs.command.Relaying.{GivesServerAlone, HasNoServer};
 
 use crate::options::BadValue;
-use crate::options::given::{number_given, within};
+use crate::options::given::{number_given, within, word_in};
 use crate::options::usage::{Mark, Takes, Word};
 use clap::ArgMatches;
 use rfb_session::language::read_number;
+
+// What a word for a server may be.
+const FORMS: &str =
+    "HOST, HOST:N or HOST::PORT; below 100 N is a display, at port 5900 + N; HOST alone is 5900";
 
 const LOOPBACK: &str = "127.0.0.1";
 
@@ -32,7 +37,15 @@ pub const SERVER: Word<'static> = Word {
     name: "server",
     mark: Mark::Alone,
     takes: Takes::Text("SERVER"),
-    help: "HOST, HOST:N or HOST::PORT; below 100 N is a display, at port 5900 + N; HOST alone is 5900",
+    help: FORMS,
+};
+
+/// The same, where it has to be given.
+pub const NEEDED_SERVER: Word<'static> = Word {
+    name: "server",
+    mark: Mark::Alone,
+    takes: Takes::NeededText("SERVER"),
+    help: FORMS,
 };
 
 /// A host.
@@ -62,6 +75,21 @@ pub fn address_in<'a>(given: &ArgMatches<'a>) -> Result<Address<'a>, BadValue<'a
         given.get_str("host"),
         port_given(given),
     )
+}
+
+/// The server that is given by a word alone.
+pub fn server_in<'a>(given: &ArgMatches<'a>) -> Result<Address<'a>, BadValue<'a>>
+    ensures { MatchResult result
+        (λ address. GivesServerAlone (rows_of (found_of given.now)) address.host.now address.port)
+        (λ _. HasNoServer (rows_of (found_of given.now))) }
+{
+    let Some(word) = word_in(given, "server") else {
+        return Err(BadValue::NoServer);
+    };
+    match address_named(word) {
+        Ok(address) => Ok(address),
+        Err(_) => Err(BadValue::NeededServer(word)),
+    }
 }
 
 // The server of a word, a host and a port, each of which may be left out.

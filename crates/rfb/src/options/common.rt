@@ -49,3 +49,57 @@ pub const OUTPUT: Word<'static> = Word {
     takes: Takes::Text("FILE"),
     help: "Writes this file in place of standard output, whole or not at all",
 };
+
+/// How many viewers there are at once at most.
+pub const MOST_VIEWERS: u16 = 8;
+
+/// The seconds that a handshake has where no number is given.
+pub const HANDSHAKE_SECONDS: u32 = 10;
+
+/// How many viewers there may be at once.
+pub const VIEWERS: Word<'static> = Word {
+    name: "viewers",
+    mark: Mark::Long,
+    takes: Takes::NumberOr("N", MOST_VIEWERS as u32, "8"),
+    help: "How many viewers there may be at once, 1 to 8",
+};
+
+/// Whether all ends with the last viewer.
+pub const UNTIL_IDLE: Word<'static> = Word {
+    name: "until-idle",
+    mark: Mark::Long,
+    takes: Takes::Nothing,
+    help: "Ends once viewers came and the last of them has gone",
+};
+
+/// How long a viewer's handshake may take.
+pub const HANDSHAKE: Word<'static> = Word {
+    name: "handshake",
+    mark: Mark::Long,
+    takes: Takes::NumberOr("S", u32::MAX, "10"),
+    help: "The seconds that a viewer's handshake may take, 1 to 4294967295",
+};
+
+/// How long bytes may wait for a viewer.
+pub const PATIENCE: Word<'static> = Word {
+    name: "timeout",
+    mark: Mark::Long,
+    takes: Takes::Number("S", u32::MAX),
+    help: "The seconds that bytes may wait for a viewer that takes none, 1 to 4294967295",
+};
+
+/// Whether no viewer has the screen alone.
+pub const ALWAYS_SHARED: Word<'static> = Word {
+    name: "always-shared",
+    mark: Mark::Long,
+    takes: Takes::Nothing,
+    help: "Lets no viewer have the screen alone",
+};
+
+/// Whether there are no sentences.
+pub const QUIET: Word<'static> = Word {
+    name: "quiet",
+    mark: Mark::Long,
+    takes: Takes::Nothing,
+    help: "Writes no sentences to standard error",
+};

@@ -1,16 +1,21 @@
-//! What was given to the words of a command: whether one is there, a text, a format, a number.
+//! What was given to the words of a command: whether one is there, a text, a format, encodings, a
+//! number.
 
-ghost use Rattle.std.specs.Prelude.{◌≡◌, ◌≤◌, ◌<◌, false, true, None, IfSome, MatchResult};
+ghost use Rattle.std.specs.Prelude.{◌≡◌, ◌≤◌, ◌<◌, false, true, None, IfSome, List, MatchResult};
 ghost use Rattle.clap.specs.Words.{first_of, found_of, rows_of};
 ghost use Rattle.rfb_pixel.specs.Format.{PixelFormat};
+ghost use Rattle.rfb_wire.specs.declared.encoding.Encoding.{Encoding as AnEncoding};
+ghost use Rattle.rfb.specs.command.Values.{GivesEncodings, HasBadEncodings};
 ghost use Rattle.rfb.specs.command.Values.{GivesFormat, GivesNumber, GivesOr, HasBadFormat};
 ghost use Rattle.rfb.specs.command.Values.{IsAbsent, IsFlagged, IsThere, MayGiveNumber};
-ghost use Rattle.rfb_session.specs.language.Words.{IsFormatWord};
+ghost use Rattle.rfb_session.specs.language.Words.{AreEncodings, IsFormatWord, parts_of};
 
 use crate::options::BadValue;
+use arrayvec::ArrayVec;
 use clap::ArgMatches;
 use rfb_pixel::Format;
-use rfb_session::language::read_format;
+use rfb_session::language::{read_format, read_list};
+use rfb_wire::Encoding;
 
 /// Whether a word that may be given is.
 pub fn is_given(given: &ArgMatches<'_>, name: &str) -> bool
@@ -55,6 +60,34 @@ fn format_named<'a>(word: &'a str) -> Result<Format, BadValue<'a>>
     match read_format(word.as_bytes()) {
         Some(format) => Ok(format),
         None => Err(BadValue::Format(word)),
+    }
+}
+
+/// The encodings that are given, or else others.
+pub fn encodings_in<'a>(
+    given: &ArgMatches<'a>,
+    otherwise: ArrayVec<Encoding, 4>,
+) -> Result<ArrayVec<Encoding, 4>, BadValue<'a>>
+    ensures { MatchResult result
+        (λ encodings. GivesEncodings otherwise.items (rows_of (found_of given.now))
+        encodings.items)
+        (λ _. HasBadEncodings (rows_of (found_of given.now))) }
+{
+    match given.get_str("encodings") {
+        Some(list) => encodings_named(list),
+        None => Ok(otherwise),
+    }
+}
+
+// The encodings of a list of names.
+fn encodings_named<'a>(list: &'a str) -> Result<ArrayVec<Encoding, 4>, BadValue<'a>>
+    ensures { MatchResult result
+        (λ encodings. AreEncodings (parts_of list.now) encodings.items)
+        (λ _. (encodings : List AnEncoding) → ¬ (AreEncodings (parts_of list.now) encodings)) }
+{
+    match read_list(list.as_bytes()) {
+        Some(encodings) => Ok(encodings),
+        None => Err(BadValue::Encodings),
     }
 }
 

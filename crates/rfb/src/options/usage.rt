@@ -52,6 +52,8 @@ pub enum Takes<'a> {
     Text(&'a str),
     /// A text; without the word it is the second one here.
     TextOr(&'a str, &'a str),
+    /// The same. The word has to be there.
+    NeededText(&'a str),
     /// A number from 1 to this one.
     Number(&'a str, u32),
     /// The same; without the word it is the one that the text spells.
@@ -93,6 +95,7 @@ fn arg_of<'a>(alloc: Global, word: &Word<'a>) -> Arg<'a>
         Takes::Nothing => named(alloc, word).action(ArgAction::SetTrue),
         Takes::Text(value) => valued(alloc, word, value),
         Takes::TextOr(value, default) => valued(alloc, word, value).default_value(default),
+        Takes::NeededText(value) => valued(alloc, word, value).required(true),
         Takes::Number(value, most) => numbered(alloc, word, value, most),
         Takes::NumberOr(value, most, default) => {
             numbered(alloc, word, value, most).default_value(default)

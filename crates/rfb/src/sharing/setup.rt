@@ -1,13 +1,13 @@
 //! What a share's console is made with.
 
-ghost use Rattle.std.specs.Prelude.{◌≡◌, ◌≤◌, ◌*◌, length};
+ghost use Rattle.std.specs.Prelude.{◌≡◌, ◌≤◌, ◌*◌, length, option_map};
 
 use crate::defaults::TEXT_LIMIT;
 use crate::sharing::ShareOptions;
 use rfb_session::console::{ConsoleSetup, Rules};
 
-// How many bytes of a name a session takes.
-const NAME_MAX: usize = 255;
+/// How many bytes of a name a session takes.
+pub const NAME_MAX: usize = 255;
 
 /// The setup that options ask for. Their numbers are seconds, and its are milliseconds.
 pub fn setup_of<'a>(options: &ShareOptions<'a>) -> ConsoleSetup<'a>
@@ -28,15 +28,25 @@ pub fn setup_of<'a>(options: &ShareOptions<'a>) -> ConsoleSetup<'a>
             always_shared: options.is_always_shared,
             view_only: options.is_view_only,
             handshake: millis(options.handshake),
-            timeout: options.timeout.map(millis),
+            timeout: millis_of(options.timeout),
             hold: millis(options.hold),
         },
     }
 }
 
-// So many seconds.
-fn millis(seconds: u32) -> u64
+/// So many seconds, in milliseconds.
+pub fn millis(seconds: u32) -> u64
     ensures { result ≡ 1000 * seconds }
 {
     1000 * u64::from(seconds)
+}
+
+/// The same, where there is a number.
+pub fn millis_of(seconds: Option<u32>) -> Option<u64>
+    ensures { result ≡ option_map (λ count. 1000 * count) seconds }
+{
+    match seconds {
+        Some(seconds) => Some(millis(seconds)),
+        None => None,
+    }
 }

@@ -6,7 +6,10 @@ ghost use Rattle.rfb.specs.command.Values.{NamesWord};
 ghost use Rattle.rfb.specs.Options.{GivesShareOptions};
 
 use crate::help::Topic;
-use crate::options::common::{LISTEN, PORT};
+use crate::options::common::{
+    ALWAYS_SHARED, HANDSHAKE, HANDSHAKE_SECONDS, LISTEN, MOST_VIEWERS, PATIENCE, PORT, QUIET,
+    UNTIL_IDLE, VIEWERS,
+};
 use crate::options::given::{count_or, is_given, number_given, number_in};
 use crate::options::usage::{Mark, Takes, Usage, Word};
 use crate::serving::listen_in;
@@ -41,12 +44,7 @@ pub struct ShareOptions<'a> {
 
 const NAME: &str = "rfb";
 
-// How many viewers there are at once at most.
-const MOST_VIEWERS: u16 = 8;
-
-// The seconds that a handshake and a scene have where no number is given.
-const HANDSHAKE: u32 = 10;
-
+// The seconds that a scene has where no number is given.
 const HOLD: u32 = 1;
 
 /// What `share` is called with.
@@ -57,60 +55,30 @@ pub const SHARE: &Usage<'static> = &Usage {
     words: &[
         PORT,
         LISTEN,
-        Word {
-            name: "viewers",
-            mark: Mark::Long,
-            takes: Takes::NumberOr("N", MOST_VIEWERS as u32, "8"),
-            help: "How many viewers there may be at once, 1 to 8",
-        },
+        VIEWERS,
         Word {
             name: "name",
             mark: Mark::Long,
             takes: Takes::TextOr("TEXT", NAME),
             help: "The screen's name, of which viewers get 255 bytes at most",
         },
-        Word {
-            name: "until-idle",
-            mark: Mark::Long,
-            takes: Takes::Nothing,
-            help: "Ends once viewers came and the last of them has gone",
-        },
-        Word {
-            name: "handshake",
-            mark: Mark::Long,
-            takes: Takes::NumberOr("S", u32::MAX, "10"),
-            help: "The seconds that a viewer's handshake may take, 1 to 4294967295",
-        },
-        Word {
-            name: "timeout",
-            mark: Mark::Long,
-            takes: Takes::Number("S", u32::MAX),
-            help: "The seconds that bytes may wait for a viewer that takes none, 1 to 4294967295",
-        },
+        UNTIL_IDLE,
+        HANDSHAKE,
+        PATIENCE,
         Word {
             name: "hold",
             mark: Mark::Long,
             takes: Takes::NumberOr("S", u32::MAX, "1"),
             help: "The seconds that a scene may take, 1 to 4294967295",
         },
-        Word {
-            name: "always-shared",
-            mark: Mark::Long,
-            takes: Takes::Nothing,
-            help: "Lets no viewer have the screen alone",
-        },
+        ALWAYS_SHARED,
         Word {
             name: "view-only",
             mark: Mark::Long,
             takes: Takes::Nothing,
             help: "Reports no key, pointer or text of a viewer's",
         },
-        Word {
-            name: "quiet",
-            mark: Mark::Long,
-            takes: Takes::Nothing,
-            help: "Writes no sentences to standard error",
-        },
+        QUIET,
     ],
 };
 
@@ -124,7 +92,7 @@ pub fn share_options_in<'a>(given: &ArgMatches<'a>) -> ShareOptions<'a>
         viewers: number_in(given, "viewers", 1, MOST_VIEWERS),
         name: name_in(given),
         until_idle: is_given(given, "until-idle"),
-        handshake: count_or(given, "handshake", HANDSHAKE),
+        handshake: count_or(given, "handshake", HANDSHAKE_SECONDS),
         timeout: number_given(given, "timeout"),
         hold: count_or(given, "hold", HOLD),
         is_always_shared: is_given(given, "always-shared"),

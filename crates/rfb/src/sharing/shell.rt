@@ -1,4 +1,5 @@
-//! The system as the loop of a share knows it: which doors are ready, the time, and who comes.
+//! The system as the loop of a share or a relay knows it: which doors are ready, the time, and who
+//! comes.
 
 mod entry;
 mod pace;
@@ -32,6 +33,15 @@ enum Ear {
     Barred,
 }
 
+/// What stands at the first door.
+#[derive(Clone, Copy)]
+pub enum First {
+    /// Standard input, which blocks.
+    Input,
+    /// A connection with this descriptor, which does not.
+    Connection(RawFd),
+}
+
 /// A poll over the doors and a listener, and a clock.
 #[derive(Drop)]
 pub struct Shell<'a, L, C> {
@@ -44,7 +54,8 @@ pub struct Shell<'a, L, C> {
     // What is worth a read, and what a write.
     reads: Ready,
     writes: Ready,
-    input: Blocking,
+    // Standard input, where it stands at the first door.
+    input: Option<Blocking>,
     output: Blocking,
     errors: Blocking,
     listener: L,
@@ -56,22 +67,36 @@ pub struct Shell<'a, L, C> {
 }
 
 impl<'a, L: AsRawFd + Drop, C: Net + Clock> Shell<'a, L, C> {
-    /// Looks at the standard streams that there are, and at a listener that does not wait.
+    /// Looks at what stands at the first door, at the standard streams that there are beside it,
+    /// and at a listener that does not wait.
     pub fn new(
         rt: &'a C,
         alloc: Global,
         listener: L,
+        first: First,
         streams: Streams,
     ) -> io::Result<Shell<'a, L, C>> {
         let poll = Poll::new(rt)?;
         let registry = poll.registry();
         let (reads, writes) = (Interest::READABLE, Interest::WRITABLE);
-        let input = Blocking::at(OWNER, INPUT, reads, streams.input, registry);
+        let input = match first {
+            First::Input => Some(Blocking::at(OWNER, INPUT, reads, streams.input, registry)),
+            First::Connection(fd) => {
+                registry.register(&mut SourceFd(&fd), Token(OWNER), reads | writes)?;
+                None
+            }
+        };
         let output = Blocking::at(LINES, OUTPUT, writes, streams.output, registry);
         let errors = Blocking::at(NOTES, ERRORS, writes, streams.errors, registry);
         registry.register(&mut SourceFd(&listener.as_raw_fd()), LISTENER, reads)?;
         let (mut reads, mut writes) = (Ready::none(), Ready::none());
-        reads.note(OWNER, input.is_constant());
+        match &input {
+            Some(input) => reads.note(OWNER, input.is_constant()),
+            None => {
+                reads.note(OWNER, true);
+                writes.note(OWNER, true);
+            }
+        }
         writes.note(LINES, output.is_constant());
         writes.note(NOTES, errors.is_constant());
         Ok(Shell {

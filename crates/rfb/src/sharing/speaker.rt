@@ -1,16 +1,17 @@
-//! Sentences of a share, for a person who reads standard error.
+//! Sentences of a share and of a relay, for a person who reads standard error.
 
-use crate::explain::Flaw;
+use crate::explain::{Flaw, ServerFlaw};
 use crate::script::cause::NO_SCREEN;
 use crate::script::cause::reason::Reason;
 use crate::sharing::owner_cause::why_bad;
 use rfb_session::ShareFault;
 use rfb_session::console::{Note, Saying, Speaker, Why};
 use rfb_session::owner::Refusal;
+use rfb_session::relay::Gone;
 use std::fmt;
 use std::fmt::Write as _;
 
-/// Says why a line is bad and why a viewer leaves, if anybody wants to know.
+/// Says why a line is bad, and why a viewer or a server leaves, if anybody wants to know.
 #[derive(Clone, Copy, Drop)]
 pub struct Reporter {
     pub are_wanted: bool,
@@ -35,6 +36,7 @@ impl Speaker for Reporter {
             } => Ok(()),
             Saying::NoScreen { number } => say_of_line(*number, Reason::Said(NO_SCREEN), note),
             Saying::Left { seat, why } => say_left(*seat, *why, note),
+            Saying::ServerLeft { why } => say_gone(*why, note),
         };
     }
 }
@@ -66,5 +68,18 @@ fn say_left(seat: u8, why: Why, note: &mut Note) -> fmt::Result {
             )
         }
         Why::Newcomer => writeln!(note, "its handshake was not done, and another one came"),
+    }
+}
+
+// Says why the server that is relayed goes away, or is let go.
+fn say_gone(why: Gone, note: &mut Note) -> fmt::Result {
+    match why {
+        Gone::Closed => writeln!(note, "rfb: the server leaves: it closed its connection"),
+        Gone::Device => writeln!(note, "rfb: the server leaves: its connection broke"),
+        Gone::Failed(fault) => writeln!(note, "rfb: {}", ServerFlaw(fault)),
+        Gone::Size { width, height } => writeln!(
+            note,
+            "rfb: the server's screen is {width} by {height}, not of 1 to 4096 pixels a side"
+        ),
     }
 }

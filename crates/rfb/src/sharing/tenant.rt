@@ -1,10 +1,13 @@
-//! What stands at a door of a share.
+//! What stands at the doors of a share or a relay.
 
 ghost use Rattle.std.specs.Prelude.{◌≤◌, None, length};
 ghost use Rattle.std.specs.Io.{WritesAtMost};
 
-use crate::sharing::standard::{ERRORS, OUTPUT, takes_more};
-use rfb_session::doors::Duplex;
+use crate::sharing::standard::{ERRORS, OUTPUT, Streams, takes_more};
+use rfb_session::SLOTS;
+use rfb_session::console::DOORS;
+use rfb_session::doors::{Counted, Duplex, Place};
+use std::alloc::{AllocError, Global};
 use std::io;
 use std::io::{ErrorKind, Read, Write};
 use std::os::fd::RawFd;
@@ -27,7 +30,27 @@ pub enum Tenant<'a, R, W, E, S> {
     Missing,
 }
 
-/// A connection does not tell its bytes, and of the streams a share needs no more.
+impl<'a, R, W, E, S> Tenant<'a, R, W, E, S> {
+    /// Standard input, if the process has one.
+    pub fn input(input: &'a mut R, is_there: bool) -> Tenant<'a, R, W, E, S> {
+        if is_there {
+            Tenant::Input(input)
+        } else {
+            Tenant::Missing
+        }
+    }
+
+    // Standard error, likewise.
+    fn errors(errors: &'a mut E, is_there: bool) -> Tenant<'a, R, W, E, S> {
+        if is_there {
+            Tenant::Errors(errors)
+        } else {
+            Tenant::Missing
+        }
+    }
+}
+
+/// A connection does not tell its bytes, and of the streams no more is needed.
 impl<R: Read, W: Write, E: Write, S: Read + Write> Duplex for Tenant<'_, R, W, E, S> {
     ghost unread = { λ _. None };
 
@@ -78,4 +101,31 @@ fn length_at_once(buf: &[u8]) -> usize
         }
     }
     most
+}
+
+/// A device at a door, or nobody.
+pub type Door<'a, R, W, E, S> = Place<Counted<Tenant<'a, R, W, E, S>>>;
+
+/// The doors: what stands at the first, the streams of the process that lines and notes go to, and
+/// nobody at the others.
+pub fn doors_of<'a, R: Read, W: Write, E: Write, S: Read + Write + Drop>(
+    alloc: Global,
+    first: Tenant<'a, R, W, E, S>,
+    output: &'a mut W,
+    errors: &'a mut E,
+    streams: Streams,
+) -> Result<Vec<Door<'a, R, W, E, S>>, AllocError> {
+    let mut doors = Vec::with_capacity(alloc, DOORS)?;
+    doors.push(held(first))?;
+    for _seat in 0..SLOTS {
+        doors.push(Place::Empty)?;
+    }
+    doors.push(held(Tenant::Output(output)))?;
+    doors.push(held(Tenant::errors(errors, streams.errors)))?;
+    Ok(doors)
+}
+
+// A device at its door.
+fn held<'a, R, W, E, S>(tenant: Tenant<'a, R, W, E, S>) -> Door<'a, R, W, E, S> {
+    Place::Held(Counted::new(tenant))
 }

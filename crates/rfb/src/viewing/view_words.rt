@@ -1,26 +1,21 @@
 //! The words of `view`.
 
-ghost use Rattle.std.specs.Prelude.{◌≤◌, codes, List, MatchResult};
+ghost use Rattle.std.specs.Prelude.{◌≤◌, codes, MatchResult};
 ghost use Rattle.clap.specs.Words.{found_of, rows_of};
-ghost use Rattle.rfb_wire.specs.declared.encoding.Encoding.{Encoding};
 ghost use Rattle.rfb.specs.command.Values.{GivesNumber};
-ghost use Rattle.rfb.specs.command.Looking.{GivesEncodings, GivesViewOptions, GivesSight};
-ghost use Rattle.rfb.specs.command.Looking.{HasBadEncodings, HasBadView, HasBadSight};
-ghost use Rattle.rfb_session.specs.language.Words.{AreEncodings, parts_of};
+ghost use Rattle.rfb.specs.command.Looking.{GivesViewOptions, GivesSight};
+ghost use Rattle.rfb.specs.command.Looking.{HasBadView, HasBadSight};
 
 use crate::defaults::only_raw;
 use crate::help::Topic;
 use crate::options::BadValue;
 use crate::options::address::{ANY_PORT, HOST, SERVER, address_in};
 use crate::options::common::{FORMAT, OUTPUT, PARTIAL};
-use crate::options::given::{format_in, is_given, number_given};
+use crate::options::given::{encodings_in, format_in, is_given, number_given};
 use crate::options::usage::{Mark, Takes, Usage, Word};
 use crate::script::Wants;
 use crate::viewing::{Sight, ViewOptions};
-use arrayvec::ArrayVec;
 use clap::ArgMatches;
-use rfb_session::language::read_list;
-use rfb_wire::Encoding;
 
 /// What `view` is called with.
 pub const VIEW: &Usage<'static> = &Usage {
@@ -82,7 +77,7 @@ fn sight_in<'a>(given: &ArgMatches<'a>) -> Result<Sight, BadValue<'a>>
         (λ _. HasBadSight (rows_of (found_of given.now))) }
 {
     let format = format_in(given)?;
-    let encodings = encodings_in(given)?;
+    let encodings = encodings_in(given, only_raw())?;
     Ok(Sight {
         wants: Wants { format, encodings },
         updates: updates_in(given),
@@ -100,29 +95,5 @@ fn updates_in(given: &ArgMatches<'_>) -> u32
     match number_given(given, "updates") {
         Some(number) => number,
         None => 1,
-    }
-}
-
-// The encodings that are given, or else Raw.
-fn encodings_in<'a>(given: &ArgMatches<'a>) -> Result<ArrayVec<Encoding, 4>, BadValue<'a>>
-    ensures { MatchResult result
-        (λ encodings. GivesEncodings (rows_of (found_of given.now)) encodings.items)
-        (λ _. HasBadEncodings (rows_of (found_of given.now))) }
-{
-    match given.get_str("encodings") {
-        Some(list) => encodings_named(list),
-        None => Ok(only_raw()),
-    }
-}
-
-// The encodings of a list of names.
-fn encodings_named<'a>(list: &'a str) -> Result<ArrayVec<Encoding, 4>, BadValue<'a>>
-    ensures { MatchResult result
-        (λ encodings. AreEncodings (parts_of list.now) encodings.items)
-        (λ _. (encodings : List Encoding) → ¬ (AreEncodings (parts_of list.now) encodings)) }
-{
-    match read_list(list.as_bytes()) {
-        Some(encodings) => Ok(encodings),
-        None => Err(BadValue::Encodings),
     }
 }

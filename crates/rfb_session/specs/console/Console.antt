@@ -6,7 +6,7 @@ use Rattle.rfb_server.specs.Drawing.{Stroke, Bytes, Fill as OneFill, Copy as One
 use Rattle.rfb_server.specs.Drawing.{Scroll as OneScroll}
 use Rattle.rfb_session.specs.declared.console.Console.{Console}
 use Rattle.rfb_session.specs.declared.console.Outcome.{Outcome}
-use Rattle.rfb_session.specs.declared.console.Outcome.TheVariants.{Quit, Idle, BadLine, NoMemory, Device}
+use Rattle.rfb_session.specs.declared.console.Outcome.TheVariants.{Quit, Idle, BadLine, NoMemory, Device, ServerGone}
 use Rattle.rfb_session.specs.declared.console.desk.Desk.{Desk}
 use Rattle.rfb_session.specs.declared.console.desk.Hold.TheVariants.{Begins}
 use Rattle.rfb_session.specs.declared.console.plan.Rules.{Rules}
@@ -14,6 +14,7 @@ use Rattle.rfb_session.specs.declared.language.screen.Screen.{Screen as Size}
 use Rattle.rfb_session.specs.declared.owner.order.Order.{Order}
 use Rattle.rfb_session.specs.declared.owner.order.OwnerLine.{OwnerLine}
 use Rattle.rfb_session.specs.declared.owner.order.OwnerLine.TheVariants as Line
+use Rattle.rfb_session.specs.declared.share.event.SeatEvent.{SeatEvent}
 use Rattle.rfb_session.specs.doors.Events.{Event, Received, Ended, Failed, Wrote, Turned}
 use Rattle.rfb_session.specs.owner.Reader.{Feeds, ClosesFrom, IsFreshReader}
 use Rattle.rfb_session.specs.owner.Telling.{leave_line}
@@ -57,6 +58,7 @@ is_lost (Some Idle) = false
 is_lost (Some (BadLine line)) = false
 is_lost (Some NoMemory) = false
 is_lost (Some Device) = true
+is_lost (Some (ServerGone gone)) = false
 
 -- the desk has done so; or there is none; or all has ended before, and nothing was done; or memory for a line
 -- was wanting, with which all ends
@@ -204,13 +206,15 @@ module _ {S : Type 0} where
     pub owner : KeepsOwner old new
 
   -- bytes came at a seat, of which so many were taken
-  abbrev pub HearsBytes : Console S → ℕ → List ℕ → ℕ → Console S → Type 0
-  HearsBytes old k bytes used new = DoesOnDesk (λ a b. (ended : ℕ) × HearsAt a k bytes used ended b) old new
+  abbrev pub HearsBytes : Console S → ℕ → List ℕ → ℕ → Option SeatEvent → Console S → Type 0
+  HearsBytes old k bytes used event new =
+      DoesOnDesk (λ a b. (ended : ℕ) × HearsAt a k bytes used ended event b) old new
 
   -- these are they
   abbrev pub HearsSeat : Console S → ℕ → List ℕ → Console S → Type 0
   HearsSeat old k part new =
-      (bytes : List ℕ) × (used : ℕ) × (part ≡ take used bytes) × HearsBytes old k bytes used new
+      (bytes : List ℕ) × (used : ℕ) × (event : Option SeatEvent) × (part ≡ take used bytes)
+      × HearsBytes old k bytes used event new
 
   -- the viewer of a seat has left, and its connection has failed
   abbrev pub LeavesSeat : Console S → ℕ → Console S → Type 0

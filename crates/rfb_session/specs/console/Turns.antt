@@ -1,6 +1,6 @@
 -- What time does at a desk, what is shown and drawn there, and what is written of what waits.
 use Rattle.std.specs.Prelude.{◌≡◌, ◌≢◌, ◌<◌, ◌≤◌, ◌+◌, ◌-◌, ℕ, Bool, true, false, ◌&&◌, ◌||◌, not, nat_eq, nat_lt, cond}
-use Rattle.std.specs.Prelude.{List, [], ◌++◌, drop, length, Option, Some, None}
+use Rattle.std.specs.Prelude.{List, [], ◌∷◌, ◌++◌, drop, length, Option, Some, None}
 use Rattle.rfb_pixel.specs.declared.colour.Colour.{Colour}
 use Rattle.rfb_picture.specs.Grid.{Grid, uniform}
 use Rattle.rfb_picture.specs.Places.{has_bit}
@@ -15,7 +15,7 @@ use Rattle.rfb_session.specs.declared.language.screen.Screen.{Screen as Size}
 use Rattle.rfb_session.specs.declared.share.event.Composing.{Composing}
 use Rattle.rfb_session.specs.declared.share.seat.ShareSeat.{ShareSeat}
 use Rattle.rfb_session.specs.Rounds.{seats_before, first_after, is_left}
-use Rattle.rfb_session.specs.Share.{seat_in, screen_of, waits_at, waiting_for, IsEmptyShare}
+use Rattle.rfb_session.specs.Share.{canvas_of, seat_in, screen_of, waits_at, waiting_for, IsEmptyShare}
 use Rattle.rfb_session.specs.ShareSlots.{ComposesIn, WantsRoomIn}
 use Rattle.rfb_session.specs.ShareSteps.{KeepsScreen, WritesAs}
 use Rattle.rfb_session.specs.ShareWork.{RestsIn}
@@ -267,6 +267,7 @@ pub data IsLeftFor (k : ℕ) : ℕ → Desk → Type 0 where
 pub record IsFreshDesk (size : Size) (name : List ℕ) (rules : Rules) (desk : Desk) : Type 0 where
   pub empty : IsEmptyShare desk.share
   pub screen : screen_of desk.share ≡ uniform size.width size.height black
+  pub canvas : canvas_of desk.share ≡ Some (screen_of desk.share)
   pub guests : (k : ℕ) → guest_at desk k ≡ nobody
   pub lines : lines_of desk ≡ []
   pub rules_are : desk.rules ≡ rules
@@ -296,17 +297,34 @@ pub record ShowsAs (old new : Desk) : Type 0 where
 -- ---- bytes that are written
 
 -- no line waits that tells of a viewer
-pub record ForgetsTold (old new : Desk) : Type 0 where
+abbrev pub untold : Guest → Guest
+untold guest = record guest { told = 0 }
+
+pub record ForgetsTold (old : Desk) (k : ℕ) (new : Desk) : Type 0 where
   pub share : new.share ≡ old.share
   pub lines : lines_of new ≡ lines_of old
-  pub progress : (k : ℕ) → (guest_at new k).progress ≡ (guest_at old k).progress
+  pub guest : guest_at new k ≡ untold (guest_at old k)
+  pub others : OtherGuests old k new
   pub rules : KeepsRules old new
 
--- the first `count` bytes of the lines are gone
+-- the same of the first `places` seats, where so many bytes of the lines are gone
+pub record ForgetsUpTo (places count : ℕ) (old new : Desk) : Type 0 where
+  pub share : new.share ≡ old.share
+  pub lines : lines_of new ≡ drop count (lines_of old)
+  pub guests : (k : ℕ) → k < places → guest_at new k ≡ untold (guest_at old k)
+  pub later : (k : ℕ) → places ≤ k → guest_at new k ≡ guest_at old k
+  pub rules : KeepsRules old new
+
+-- what is known of a viewer once these lines wait
+abbrev pub told_of : List ℕ → Guest → Guest
+told_of [] guest = untold guest
+told_of (byte ∷ bytes) guest = guest
+
+-- the first `count` bytes of the lines are gone, and with the last of them what was counted of each viewer
 pub record WritesLines (old : Desk) (count : ℕ) (new : Desk) : Type 0 where
   pub share : new.share ≡ old.share
   pub lines : lines_of new ≡ drop count (lines_of old)
-  pub progress : (k : ℕ) → (guest_at new k).progress ≡ (guest_at old k).progress
+  pub guests : (k : ℕ) → k < 8 → guest_at new k ≡ told_of (lines_of new) (guest_at old k)
   pub rules : KeepsRules old new
 
 -- the first `count` that wait at a seat are gone, and its time begins anew

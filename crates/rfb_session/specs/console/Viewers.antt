@@ -1,5 +1,6 @@
 -- What becomes of the viewers of a desk: who is let go, what they send, and who comes.
-use Rattle.std.specs.Prelude.{◌≡◌, ◌<◌, ◌≤◌, ℕ, suc, Bool, true, false, ◌&&◌, not, nat_eq, nat_le, nat_lt, cond, length}
+use Rattle.std.specs.Prelude.{◌≡◌, ◌<◌, ◌≤◌, ◌-◌, ℕ, suc, Bool, true, false, ◌&&◌, not, nat_eq, nat_le, nat_lt}
+use Rattle.std.specs.Prelude.{cond, length}
 use Rattle.std.specs.Prelude.{List, [], ◌++◌, Option, Some, None, IfSome}
 use Rattle.rfb_picture.specs.Places.{has_bit}
 use Rattle.rfb_session.specs.declared.console.desk.Desk.{Desk}
@@ -10,6 +11,7 @@ use Rattle.rfb_session.specs.declared.share.event.SeatEvent.{SeatEvent}
 use Rattle.rfb_session.specs.declared.share.event.SeatEvent.TheVariants.{Key, Pointer, CutText}
 use Rattle.rfb_session.specs.declared.share.event.SeatEvent.TheVariants.{Ready as IsReady}
 use Rattle.rfb_session.specs.declared.share.event.ShareFault.{ShareFault}
+use Rattle.rfb_wire.specs.stream.Placing.{counted_on}
 use Rattle.rfb_session.specs.Share.{seat_in}
 use Rattle.rfb_session.specs.ShareSteps.{LeavesAs, JoinsAs, KeepsScreen, RefusesAs, HearsBy}
 use Rattle.rfb_session.specs.owner.Telling.{leave_line}
@@ -104,6 +106,7 @@ pub record Stirs (old : Desk) (k : ℕ) (new : Desk) : Type 0 where
   pub progress : (guest_at new k).progress ≡ (guest_at old k).progress
   pub since : (guest_at new k).since ≡ (guest_at old k).since
   pub idle : (guest_at new k).idle ≡ None
+  pub told : (guest_at new k).told ≡ (guest_at old k).told
   pub others : OtherGuests old k new
   pub lines : lines_of new ≡ lines_of old
   pub rules : KeepsRules old new
@@ -121,18 +124,24 @@ pub record TellsEvent (old : Desk) (k : ℕ) (event : Option SeatEvent) (new : D
   pub share : new.share ≡ old.share
   pub progress : (guest_at new k).progress ≡ progress_after event (guest_at old k).progress
   pub since : (guest_at new k).since ≡ (guest_at old k).since
+  pub told : (guest_at new k).told ≡ (guest_at old k).told
   pub others : OtherGuests old k new
   pub lines : lines_of new ≡ lines_of old ++ told_line old.rules.view_only k event
   pub rules : KeepsRules old new
 
--- how much of it is told is counted
-pub record CountsTold (old : Desk) (k : ℕ) (new : Desk) : Type 0 where
+-- the bytes that wait for the owner beyond so many tell of a viewer, and are counted
+pub record CountsTold (old : Desk) (k before : ℕ) (new : Desk) : Type 0 where
   pub share : new.share ≡ old.share
   pub progress : (guest_at new k).progress ≡ (guest_at old k).progress
   pub since : (guest_at new k).since ≡ (guest_at old k).since
+  pub told : (guest_at new k).told ≡ counted_on (guest_at old k).told (length (lines_of old) - before)
   pub others : OtherGuests old k new
   pub lines : lines_of new ≡ lines_of old
   pub rules : KeepsRules old new
+
+-- how many bytes of lines wait that tell of a viewer, after it has done something
+abbrev pub told_after : Bool → ℕ → Option SeatEvent → ℕ → ℕ
+told_after view_only k event told = counted_on told (length (told_line view_only k event))
 
 -- and before that who was let go for it, which it is not itself
 pub record TellsOf (old : Desk) (k : ℕ) (heard : Heard) (new : Desk) : Type 0 where
@@ -140,6 +149,8 @@ pub record TellsOf (old : Desk) (k : ℕ) (heard : Heard) (new : Desk) : Type 0 
   pub progress : has_bit heard.ended k ≡ false →
       (guest_at new k).progress ≡ progress_after heard.event (guest_at old k).progress
   pub since : has_bit heard.ended k ≡ false → (guest_at new k).since ≡ (guest_at old k).since
+  pub told : has_bit heard.ended k ≡ false →
+      (guest_at new k).told ≡ told_after old.rules.view_only k heard.event (guest_at old k).told
   pub others : (j : ℕ) → j < 8 → nat_eq j k ≡ false →
       guest_at new j ≡ cond (has_bit heard.ended j) nobody (guest_at old j)
   pub lines : lines_of new
@@ -166,22 +177,24 @@ pub record TellsFault (old : Desk) (k : ℕ) (new : Desk) : Type 0 where
 abbrev pub progress_failed : Progress → Progress
 progress_failed progress = cond (is_over progress) progress Failing
 
--- they were taken at the seat's session, and what its viewer did is told; or that session has ended, or
--- there is none, and it is told once that it failed
-pub data HearsAt (old : Desk) (k : ℕ) (bytes : List ℕ) (used ended : ℕ) (new : Desk) : Type 0 where
-  Took : (heard : Heard) → used ≡ heard.used → ended ≡ heard.ended →
-      HearsBy (not old.rules.always_shared) old.share k bytes heard new.share →
-      (guest_at new k).progress ≡ progress_after heard.event (guest_at old k).progress →
-      ((j : ℕ) → j < 8 → nat_eq j k ≡ false →
-      guest_at new j ≡ cond (has_bit heard.ended j) nobody (guest_at old j)) →
-      lines_of new ≡ lines_of old
-      ++ (leave_lines (tells_in old heard.ended) 8 ++ told_line old.rules.view_only k heard.event) →
-      KeepsRules old new → HearsAt old k bytes used ended new
-  Refused : (fault : ShareFault) → used ≡ length bytes → ((j : ℕ) → has_bit ended j ≡ false) →
-      RefusesAs old.share k bytes fault new.share → TellsFault old k new →
-      (guest_at new k).progress ≡ progress_failed (guest_at old k).progress →
-      OtherGuests old k new → KeepsRules old new →
-      HearsAt old k bytes used ended new
+-- they were taken at the seat's session, and what its viewer did is told, and is the event; or that session
+-- has ended, or there is none, and it is told once that it failed
+pub data HearsAt (old : Desk) (k : ℕ) (bytes : List ℕ) (used ended : ℕ) (event : Option SeatEvent) (new : Desk) : Type 0
+  where
+    Took : (heard : Heard) → used ≡ heard.used → ended ≡ heard.ended → event ≡ heard.event →
+        HearsBy (not old.rules.always_shared) old.share k bytes heard new.share →
+        (guest_at new k).progress ≡ progress_after heard.event (guest_at old k).progress →
+        (guest_at new k).told ≡ told_after old.rules.view_only k heard.event (guest_at old k).told →
+        ((j : ℕ) → j < 8 → nat_eq j k ≡ false →
+        guest_at new j ≡ cond (has_bit heard.ended j) nobody (guest_at old j)) →
+        lines_of new ≡ lines_of old
+        ++ (leave_lines (tells_in old heard.ended) 8 ++ told_line old.rules.view_only k heard.event) →
+        KeepsRules old new → HearsAt old k bytes used ended event new
+    Refused : (fault : ShareFault) → used ≡ length bytes → ((j : ℕ) → has_bit ended j ≡ false) → event ≡ None →
+        RefusesAs old.share k bytes fault new.share → TellsFault old k new →
+        (guest_at new k).progress ≡ progress_failed (guest_at old k).progress →
+        OtherGuests old k new → KeepsRules old new →
+        HearsAt old k bytes used ended event new
 
 -- ---- connections
 

@@ -6,6 +6,7 @@ mod admitting;
 mod composing;
 pub(crate) mod hearing;
 mod letting_go;
+mod relaying;
 pub(crate) mod turning;
 
 use crate::console::guest::{Guest, Progress, TOLD_MOST};
@@ -52,7 +53,7 @@ impl Desk {
     ghost use Rattle.rfb_picture.specs.Grid.{uniform};
     ghost use Rattle.rfb_server.specs.Server.{black};
     ghost use Rattle.rfb_server.specs.Drawing.{stroke};
-    ghost use Rattle.rfb_session.specs.Share.{waits_at};
+    ghost use Rattle.rfb_session.specs.Share.{waits_at, screen_of};
     ghost use Rattle.rfb_session.specs.console.Desk.{lines_of, guest_at, is_over, is_heard};
     ghost use Rattle.rfb_session.specs.console.Turns.{IsFreshDesk, DrawsAs, HoldsAs, ShowsAs};
     ghost use Rattle.rfb_session.specs.console.Turns.{WritesLines, WritesSeat, ForgetsTold};
@@ -86,7 +87,10 @@ impl Desk {
     }
 
     /// The screen's width and height.
-    pub(crate) fn size(&self) -> (u16, u16) {
+    pub(crate) fn size(&self) -> (u16, u16)
+        ensures width { result.0 ≡ (screen_of self.now.share).width }
+        ensures height { result.1 ≡ (screen_of self.now.share).height }
+    {
         let screen = self.share.picture();
         (screen.width(), screen.height())
     }
@@ -141,7 +145,7 @@ impl Desk {
     // No line waits that tells of a viewer.
     fn forget_told_at(&mut self, place: usize)
         requires { place < 8 }
-        ensures { ForgetsTold self.old self.new }
+        ensures { ForgetsTold self.old place self.new }
     {
         self.guests[place].told = 0;
     }
@@ -201,4 +205,4 @@ impl Desk {
 }
 
 // How many bytes of lines there is room for from the beginning. Where more wait, nobody comes.
-const LINES_ROOM: usize = 1 << 16;
+pub(crate) const LINES_ROOM: usize = 1 << 16;

@@ -27,7 +27,7 @@ pub(crate) struct Guest {
     // Since when bytes wait for it of which it took none while it sent none, once a turn has told.
     pub idle: Option<u64>,
     // How many bytes of lines that tell of it wait for the owner.
-    pub told: u32,
+    pub told: usize,
 }
 
 impl Guest {
@@ -166,4 +166,4 @@ pub(crate) fn sooner(one: Option<u64>, other: Option<u64>) -> Option<u64>
 }
 
 /// How many bytes of lines may wait of a viewer before no more of it is read.
-pub(crate) const TOLD_MOST: u32 = 4096;
+pub(crate) const TOLD_MOST: usize = 4096;

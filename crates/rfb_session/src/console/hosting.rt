@@ -19,6 +19,10 @@ impl<S: Speaker + Drop> Host for Console<S> {
         }
     }
 
+    fn calls(&self) -> bool {
+        false
+    }
+
     fn opened(&mut self, doors: usize, from: &str) -> Option<usize> {
         if doors < READ {
             return None;

@@ -35,8 +35,8 @@ pub(crate) fn tell_failed<F: Display>(lines: &mut Vec<u8>, seat: Seat, fault: &F
     writeln!(lines)
 }
 
-// The fault's name, in some bytes.
-fn tell_name<F: Display>(lines: &mut Vec<u8>, fault: &F) -> io::Result<()>
+/// The fault's name, in some bytes.
+pub(crate) fn tell_name<F: Display>(lines: &mut Vec<u8>, fault: &F) -> io::Result<()>
     ensures { OnOk result ((name : List ℕ) × (lines.new.items ≡ lines.old.items ++ name)) }
 {
     lines.extend_from_slice(name_of(fault).as_bytes())?;

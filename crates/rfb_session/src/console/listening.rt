@@ -14,6 +14,7 @@ use crate::console::{Console, OWNER, Outcome, READ};
 use crate::engine::Device;
 use crate::owner::{Order, Taken};
 use crate::seat::Seat;
+use crate::share::event::SeatEvent;
 
 /// How many bytes of the owner's are taken in one turn.
 pub(crate) const ROOM_OF_OWNER: usize = 1 << 16;
@@ -21,6 +22,28 @@ pub(crate) const ROOM_OF_OWNER: usize = 1 << 16;
 /// How many bytes of a viewer are taken in one turn at most: 170 pointers, of some 4,600 bytes of
 /// lines.
 pub(crate) const ROOM_OF_SEAT: usize = 1024;
+
+/// What the bytes of a viewer said.
+#[derive(Debug, Drop)]
+pub(crate) struct Said {
+    /// How many of them were taken.
+    pub used: usize,
+    /// What the viewer did, if it did something that is reported.
+    pub event: Option<SeatEvent>,
+}
+
+impl Said {
+    // All are taken, and they say nothing.
+    fn nothing(bytes: &[u8]) -> Said
+        ensures used { result.used ≡ length bytes.now }
+        ensures event { result.event ≡ None }
+    {
+        Said {
+            used: bytes.len(),
+            event: None,
+        }
+    }
+}
 
 impl<S: Speaker + Drop> Console<S> {
     /// Takes bytes of the owner's, up to the end of a line or fewer. After the end none is obeyed.
@@ -98,27 +121,32 @@ impl<S: Speaker + Drop> Console<S> {
         }
     }
 
-    /// Takes bytes of the viewer of a seat.
-    pub(crate) fn hear_seat(&mut self, seat: Seat, bytes: &[u8]) -> usize
+    /// Takes bytes of the viewer of a seat. What the viewer did is told, and is the caller's too.
+    pub(crate) fn hear_seat(&mut self, seat: Seat, bytes: &[u8]) -> Said
         requires some { 0 < length bytes.now }
-        ensures used { (0 < result) × (result ≤ length bytes.now) }
-        ensures hears { HearsBytes self.old seat bytes.now result self.new }
+        ensures used { (0 < result.used) × (result.used ≤ length bytes.now) }
+        ensures hears { HearsBytes self.old seat bytes.now result.used result.event self.new }
+        ensures ended { self.old.outcome ≢ None → result.event ≡ None }
+        ensures nobody { self.old.desk ≡ None → result.event ≡ None }
         ensures side { KeepsSide self.old self.new }
     {
         if self.outcome.is_some() {
-            return bytes.len();
+            return Said::nothing(bytes);
         }
         let Some(desk) = &mut self.desk else {
-            return bytes.len();
+            return Said::nothing(bytes);
         };
         match desk.hear(seat, bytes) {
             Ok(heard) => {
                 self.note_heard(seat, &heard);
-                heard.used
+                Said {
+                    used: heard.used,
+                    event: heard.event,
+                }
             }
             Err(_) => {
                 self.outcome = Some(Outcome::NoMemory);
-                bytes.len()
+                Said::nothing(bytes)
             }
         }
     }
@@ -165,7 +193,7 @@ impl<S: Speaker + Drop> Console<S> {
             return self.hear_owner(bytes);
         }
         match seat_at(door) {
-            Some(seat) => self.hear_seat(seat, bytes),
+            Some(seat) => self.hear_seat(seat, bytes).used,
             None => bytes.len(),
         }
     }
@@ -182,7 +210,10 @@ impl<S: Speaker + Drop> Console<S> {
 
     // No more of a door is taken.
     pub(crate) fn close_room(&mut self, door: usize)
-        ensures { KeepsButRooms self.old self.new }
+        ensures keeps { KeepsButRooms self.old self.new }
+        ensures room { door < 9 → space_at self.new door ≡ 0 }
+        ensures others { (d : ℕ) → nat_eq d door ≡ false →
+            space_at self.new d ≡ space_at self.old d }
     {
         self.open_room(door, 0);
     }

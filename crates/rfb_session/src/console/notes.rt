@@ -53,12 +53,18 @@ impl<S: Speaker + Drop> Console<S> {
             return;
         }
         self.parted = self.parted.with(seat);
-        let mut note = Note::new();
-        let saying = Saying::Left {
+        self.note(&Saying::Left {
             seat: seat.number(),
             why,
-        };
-        self.speaker.say(&saying, &mut note);
+        });
+    }
+
+    /// A sentence says this.
+    pub(crate) fn note(&mut self, saying: &Saying<'_>)
+        ensures { KeepsButNotes self.old self.new }
+    {
+        let mut note = Note::new();
+        self.speaker.say(saying, &mut note);
         self.add_note(&note);
     }
 
@@ -97,9 +103,7 @@ impl<S: Speaker + Drop> Console<S> {
     pub(crate) fn note_no_screen(&mut self, number: u64)
         ensures { KeepsButNotes self.old self.new }
     {
-        let mut note = Note::new();
-        self.speaker.say(&Saying::NoScreen { number }, &mut note);
-        self.add_note(&note);
+        self.note(&Saying::NoScreen { number });
     }
 
     fn add_note(&mut self, note: &Note)

@@ -1,6 +1,7 @@
 //! Sentences about what happens at a console, which others make.
 
 use crate::owner::{Beginning, Refusal};
+use crate::relay::Gone;
 use crate::share::event::ShareFault;
 use arrayvec::ArrayString;
 
@@ -52,6 +53,10 @@ pub enum Saying<'a> {
     Left {
         seat: u8,
         why: Why,
+    },
+    /// The server of a relay has gone away.
+    ServerLeft {
+        why: Gone,
     },
 }
 

@@ -17,6 +17,10 @@ pub trait Host: Core {
     /// Whether it would have a newcomer now. Nobody is asked for before it would.
     fn welcomes(&self) -> bool;
 
+    /// Whether it would have somebody called now. Then the next device that comes is the one that
+    /// was called.
+    fn calls(&self) -> bool;
+
     /// A device came from there, and there are so many doors. Tells which one it gets: what stands
     /// there is let go, so nothing that waited for that one may wait for the newcomer. Or it gets
     /// none.
@@ -44,6 +48,11 @@ pub trait Arrivals<D> {
     /// The next device, if one is there. It is asked once a turn, so a clock does not sleep while
     /// another may be there.
     fn next(&mut self) -> Option<Arrival<D>>
+        ensures { IfSome result (λ arrival. fresh arrival.device) };
+
+    /// Calls whom the core would have called. It does not wait for an answer: a device that gets
+    /// none fails later. There is none where nobody can be called.
+    fn call(&mut self) -> Option<Arrival<D>>
         ensures { IfSome result (λ arrival. fresh arrival.device) };
 
     /// The device that came last stands at this door now; or it got none, and was let go.

@@ -1,5 +1,6 @@
 //! A run whose doors open and close.
 
+ghost use Rattle.std.specs.Prelude.{IfSome};
 ghost use Rattle.rfb_session.specs.doors.Lives.{Closes, Lives, Opens, telling};
 ghost use Rattle.rfb_session.specs.doors.Tenants.{HasTenants};
 
@@ -40,8 +41,8 @@ pub fn live<C: Host, D: Device + Drop, S: Clock + Arrivals<D>>(
     }
 }
 
-/// Lets one device in, if the core would have one, one came, and the core has a door for it. What
-/// stood there is let go.
+/// Lets one device in, if the core would have one, one came or was called, and the core has a door
+/// for it. What stood there is let go.
 pub fn open<C: Host, D: Device + Drop, A: Arrivals<D>>(
     core: &mut C,
     doors: &mut [Place<D>],
@@ -49,10 +50,7 @@ pub fn open<C: Host, D: Device + Drop, A: Arrivals<D>>(
 )
     ensures { Opens C.opens C.declines A.fresh core.old core.new doors.old doors.new }
 {
-    if !core.welcomes() {
-        return;
-    }
-    let Some(Arrival { device, from }) = arrivals.next() else {
+    let Some(Arrival { device, from }) = next_of(core, arrivals) else {
         return;
     };
     match core.opened(doors.len(), from.as_str()) {
@@ -61,6 +59,20 @@ pub fn open<C: Host, D: Device + Drop, A: Arrivals<D>>(
             arrivals.seated(Some(door));
         }
         None => arrivals.seated(None),
+    }
+}
+
+// The device that is to be let in, if there is one.
+fn next_of<C: Host, D, A: Arrivals<D>>(core: &C, arrivals: &mut A) -> Option<Arrival<D>>
+    ensures { IfSome result (λ arrival. A.fresh arrival.device) }
+{
+    if core.calls() {
+        return arrivals.call();
+    }
+    if core.welcomes() {
+        arrivals.next()
+    } else {
+        None
     }
 }
 

@@ -72,9 +72,17 @@ fn tell_text<W: Write>(output: &mut W, seat: u8, text: &[u8]) -> io::Result<()>
         (Appends (W.contents output.old) (W.contents output.new) (text_line seat text.now)) }
 {
     write!(output, "text {seat} ")?;
-    tell_hex(output, beginning_of(text))?;
+    tell_text_hex(output, text)?;
     writeln!(output)?;
     Ok(())
+}
+
+/// The hexadecimal digits of a text, of which 1,024 bytes are printed at most.
+pub(crate) fn tell_text_hex<W: Write>(output: &mut W, text: &[u8]) -> io::Result<()>
+    ensures { OnOk result (Appends (W.contents output.old) (W.contents output.new)
+        (encode_lower (take 1024 text.now))) }
+{
+    tell_hex(output, beginning_of(text))
 }
 
 // As much of a text as is printed.

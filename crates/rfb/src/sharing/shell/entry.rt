@@ -1,7 +1,8 @@
-//! The connections that come to a share.
+//! The connections that come to a share or a relay.
 
 ghost use Rattle.std.specs.Prelude.{⊤};
 
+use crate::reaching::hurry;
 use crate::sharing::shell::{Ear, Shell};
 use crate::sharing::tenant::Tenant;
 use arrayvec::ArrayString;
@@ -44,6 +45,11 @@ where
         }
     }
 
+    /// Nobody can be called.
+    fn call(&mut self) -> Option<Arrival<Counted<Tenant<'t, R, W, E, L::Stream>>>> {
+        None
+    }
+
     /// It is among the sources from here on. One that cannot be is shut down, so it ends at once.
     fn seated(&mut self, door: Option<usize>) {
         let (Some(door), Some(fd)) = (door, self.newest.take()) else {
@@ -68,10 +74,9 @@ fn arrival<'t, R, W, E, S: OpenStream + Drop>(
     stream: S,
     address: SocketAddr,
 ) -> Option<Arrival<Counted<Tenant<'t, R, W, E, S>>>> {
-    if stream.set_nonblocking(true).is_err() {
+    if hurry(&stream).is_err() {
         return None;
     }
-    let _ = stream.set_nodelay(true);
     let mut from = ArrayString::new();
     let _ = write!(from, "{address}");
     Some(Arrival {

@@ -1,4 +1,4 @@
-//! When the loop of a share does its next turn, and which doors it tries in it.
+//! When the loop does its next turn, and which doors it tries in it.
 
 ghost use Rattle.rfb.specs.Ready.{is_ready};
 
@@ -101,7 +101,10 @@ impl<L: Drop, C: time::Clock> Shell<'_, L, C> {
 
     // Whether a door that was read can be read again without waiting.
     fn may_read_on(&self, door: usize) -> bool {
-        door != OWNER || self.input.is_ready_again(self.poll.registry())
+        match &self.input {
+            Some(input) if door == OWNER => input.is_ready_again(self.poll.registry()),
+            _ => true,
+        }
     }
 
     // Whether one that was written can be written again.

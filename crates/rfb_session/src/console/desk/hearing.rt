@@ -17,10 +17,12 @@ use crate::share::event::{Heard, SeatEvent, ShareFault};
 use std::io;
 
 /// What became of bytes that a viewer sent.
-#[derive(Clone, Copy, Debug)]
+#[derive(Debug, Drop)]
 pub(crate) struct Hearing {
     /// How many were taken.
     pub used: usize,
+    /// What the viewer did, if it did something that is reported.
+    pub event: Option<SeatEvent>,
     /// Who was let go, since this viewer asked for the screen alone.
     pub ended: Seats,
     /// Why its session has failed now, if it has.
@@ -36,7 +38,7 @@ impl Desk {
         requires some { 0 < length bytes.now }
         ensures used { IfOk result (λ heard. (0 < heard.used) × (heard.used ≤ length bytes.now)) }
         ensures hears { IfOk result (λ heard.
-            HearsAt self.old seat bytes.now heard.used heard.ended self.new) }
+            HearsAt self.old seat bytes.now heard.used heard.ended heard.event self.new) }
     {
         self.stir(seat);
         let heeds = !self.rules.always_shared;
@@ -45,6 +47,7 @@ impl Desk {
                 self.tell_of(seat, &heard)?;
                 Ok(Hearing {
                     used: heard.used,
+                    event: heard.event,
                     ended: heard.ended,
                     fault: None,
                 })
@@ -53,6 +56,7 @@ impl Desk {
                 let is_new = self.fail(seat, fault)?;
                 Ok(Hearing {
                     used: bytes.len(),
+                    event: None,
                     ended: Seats::none(),
                     fault: if is_new { Some(fault) } else { None },
                 })
@@ -72,7 +76,7 @@ impl Desk {
         ensures { OnOk result (TellsOf self.old seat heard.now self.new) }
     {
         self.part(heard.ended)?;
-        let before = self.lines.len();
+        let before = self.lines().len();
         self.tell_event(seat, &heard.event)?;
         self.count_told(seat, before);
         Ok(())
@@ -80,10 +84,9 @@ impl Desk {
 
     // What waits for the owner beyond so many bytes tells of the viewer of a seat.
     fn count_told(&mut self, seat: Seat, before: usize)
-        ensures { CountsTold self.old seat self.new }
+        ensures { CountsTold self.old seat before self.new }
     {
         let more = self.lines.len().saturating_sub(before);
-        let more = u32::try_from(more).unwrap_or(u32::MAX);
         let guest = &mut self.guests[seat.place()];
         guest.told = guest.told.saturating_add(more);
     }

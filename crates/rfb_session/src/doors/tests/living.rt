@@ -69,6 +69,10 @@ impl Host for House {
         self.given < 3
     }
 
+    fn calls(&self) -> bool {
+        self.given == 1
+    }
+
     fn opened(&mut self, doors: usize, _from: &str) -> Option<usize> {
         if self.given < doors {
             let door = self.given;
@@ -84,13 +88,13 @@ impl Host for House {
     }
 }
 
-// Two who come, and one for whom there is no door.
+// One who comes, one who is called, and another who comes, for whom there is no door.
 #[derive(Drop)]
 struct Street<'a> {
     ticks: Ticks,
     first: Option<Counted<Pipe<'a>>>,
-    second: Option<Counted<Pipe<'a>>>,
-    third: Option<Counted<Pipe<'a>>>,
+    called: Option<Counted<Pipe<'a>>>,
+    last: Option<Counted<Pipe<'a>>>,
     seated: usize,
     refused: usize,
 }
@@ -100,10 +104,15 @@ impl<'a> Street<'a> {
         if self.first.is_some() {
             return self.first.take();
         }
-        if self.second.is_some() {
-            return self.second.take();
-        }
-        self.third.take()
+        self.last.take()
+    }
+}
+
+// The device came, from nowhere that has a name.
+fn arrival<D>(device: D) -> Arrival<D> {
+    Arrival {
+        device,
+        from: ArrayString::new(),
     }
 }
 
@@ -111,11 +120,11 @@ impl<'a> Arrivals<Counted<Pipe<'a>>> for Street<'a> {
     ghost fresh = { λ d. ⊤ };
 
     fn next(&mut self) -> Option<Arrival<Counted<Pipe<'a>>>> {
-        let device = self.first_of_all()?;
-        Some(Arrival {
-            device,
-            from: ArrayString::new(),
-        })
+        Some(arrival(self.first_of_all()?))
+    }
+
+    fn call(&mut self) -> Option<Arrival<Counted<Pipe<'a>>>> {
+        Some(arrival(self.called.take()?))
     }
 
     fn seated(&mut self, door: Option<usize>) {
@@ -157,7 +166,9 @@ impl Clock for Street<'_> {
 }
 
 #[test]
-fn doors_open_in_turn_and_close_when_all_is_written(rt: HostRuntime) -> Result<(), AllocError> {
+fn doors_open_to_who_comes_and_who_is_called_and_close_when_all_is_written(
+    rt: HostRuntime,
+) -> Result<(), AllocError> {
     let comer = |unread| {
         Some(Counted::new(Pipe {
             unread,
@@ -168,8 +179,8 @@ fn doors_open_in_turn_and_close_when_all_is_written(rt: HostRuntime) -> Result<(
     let mut street = Street {
         ticks: Ticks::ready(20),
         first: comer(b"hello".as_slice()),
-        second: comer(b"you".as_slice()),
-        third: comer(b"late".as_slice()),
+        called: comer(b"you".as_slice()),
+        last: comer(b"late".as_slice()),
         seated: 0,
         refused: 0,
     };

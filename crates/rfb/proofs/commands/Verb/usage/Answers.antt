@@ -19,3 +19,6 @@ returns-in-View c = sym (ap shape_named c.in-View.is)
 
 pub returns-in-Share : goal.returns-in-Share
 returns-in-Share c = sym (ap shape_named c.in-Share.is)
+
+pub returns-in-Relay : goal.returns-in-Relay
+returns-in-Relay c = sym (ap shape_named c.in-Relay.is)

@@ -9,4 +9,4 @@ returns-then-door-eq-OWNER-clause-does g c =
 pub returns-in-Some-clause-does : goal.returns-in-Some-clause-does
 returns-in-Some-clause-does g c =
     by_seat c.args.door _ _ _ _ c.in-Some.seat c.in-Some.ensures.some.1 c.in-Some.ensures.some.0
-    (c.args.bytes.now, c.hear_seat.result, refl, c.hear_seat.ensures.hears)
+    (c.args.bytes.now, c.hear_seat.result.used, c.hear_seat.result.event, refl, c.hear_seat.ensures.hears)

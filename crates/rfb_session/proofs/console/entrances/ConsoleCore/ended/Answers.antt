@@ -13,7 +13,7 @@ returns g c =
     let after = λ (s : Console g.row.S.Denot). KeepsButRooms s new in
     elim c.if-door-eq-OWNER.branch [
       | then-door-eq-OWNER w ↦
-          let keeps = subst after w.self-is c.close_room.ensures in
+          let keeps = subst after w.self-is c.close_room.ensures.keeps in
           record {
             does = by_owner c.args.door _ _ _ _ w.if-door-eq-OWNER.true
                 (ends_then c.args.self.now w.end_owner.new.self new w.end_owner.ensures.ends keeps);
@@ -21,7 +21,7 @@ returns g c =
             stays = stays_then c.args.self.now w.end_owner.new.self new w.end_owner.ensures.stays keeps.stays;
           }
       | else-door-eq-OWNER+in-Some w ↦
-          let keeps = subst after w.self-is c.close_room.ensures in
+          let keeps = subst after w.self-is c.close_room.ensures.keeps in
           record {
             does = by_seat c.args.door _ _ _ _ w.in-Some.seat w.in-Some.ensures.some.1 w.in-Some.ensures.some.0
                 (does_then _ c.args.self.now w.let_seat_go.new.self new w.let_seat_go.ensures.leaves
@@ -31,7 +31,7 @@ returns g c =
                 keeps.stays;
           }
       | else-door-eq-OWNER+in_default w ↦
-          let keeps = subst after w.self-is c.close_room.ensures in
+          let keeps = subst after w.self-is c.close_room.ensures.keeps in
           record {
             does = by_none c.args.door _ _ _ _ (w.seat_at.ensures.none w.in_default.is)
                 (λ is. absurd (w.if-door-eq-OWNER.false is)) (λ is. kept_by _ _ keeps) (kept_by _ _ keeps);

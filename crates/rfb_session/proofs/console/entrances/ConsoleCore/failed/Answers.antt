@@ -27,7 +27,7 @@ returns g c =
     let after = λ (s : Console g.row.S.Denot). KeepsButRooms s new in
     elim c.if-door-eq-OWNER.branch [
       | then-door-eq-OWNER w ↦
-          let keeps = subst after w.self-is c.close_room.ensures in
+          let keeps = subst after w.self-is c.close_room.ensures.keeps in
           record {
             does = by_owner c.args.door _ _ _ _ w.if-door-eq-OWNER.true (record {
               desk = keeps.desk ∙ w.lose_owner.ensures.loses.desk;
@@ -38,7 +38,7 @@ returns g c =
             stays = stays_then old w.lose_owner.new.self new w.lose_owner.ensures.stays keeps.stays;
           }
       | else-door-eq-OWNER+then-door-eq-LINES w ↦
-          let keeps = subst after w.self-is c.close_room.ensures in
+          let keeps = subst after w.self-is c.close_room.ensures.keeps in
           record {
             does = by_lines c.args.door _ _ _ _ w.if-door-eq-LINES.true (
               record {
@@ -55,7 +55,7 @@ returns g c =
             };
           }
       | else-door-eq-OWNER+else-door-eq-LINES+then-door-eq-NOTES w ↦
-          let keeps = subst after w.self-is c.close_room.ensures in
+          let keeps = subst after w.self-is c.close_room.ensures.keeps in
           let loses = w.lose_notes.ensures in
           record {
             does = by_notes c.args.door _ _ _ _ w.if-door-eq-NOTES.true (record {
@@ -69,7 +69,7 @@ returns g c =
             stays = stays_then old w.lose_notes.new.self new loses.side.stays keeps.stays;
           }
       | else-door-eq-OWNER+else-door-eq-LINES+else-door-eq-NOTES+in-Some w ↦
-          let keeps = subst after w.self-is c.close_room.ensures in
+          let keeps = subst after w.self-is c.close_room.ensures.keeps in
           record {
             does = by_seat c.args.door _ _ _ _ w.in-Some.seat w.in-Some.ensures.some.1 w.in-Some.ensures.some.0
                 (does_then _ old w.lose_seat.new.self new w.lose_seat.ensures.loses keeps.desk keeps.outcome
@@ -78,7 +78,7 @@ returns g c =
             stays = stays_then old w.lose_seat.new.self new w.lose_seat.ensures.side.stays keeps.stays;
           }
       | else-door-eq-OWNER+else-door-eq-LINES+else-door-eq-NOTES+in_default w ↦
-          let keeps = subst after w.self-is c.close_room.ensures in
+          let keeps = subst after w.self-is c.close_room.ensures.keeps in
           record {
             does = by_none c.args.door _ _ _ _ (w.seat_at.ensures.none w.in_default.is)
                 (λ is. absurd (w.if-door-eq-OWNER.false is)) (λ is. absurd (w.if-door-eq-LINES.false is))

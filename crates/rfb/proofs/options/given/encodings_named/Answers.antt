@@ -1,4 +1,4 @@
-use Rattle.rfb.proofs.viewing.view_words.encodings_named.Goals as goal
+use Rattle.rfb.proofs.options.given.encodings_named.Goals as goal
 
 pub returns-in-Some : goal.returns-in-Some
 returns-in-Some c = rw c.as_bytes.ensures.value at c.in-Some.ensures

@@ -1,0 +1,62 @@
+-- What a relay does, as far as its core tells it: all that happens to it is what its doors bring, and
+-- what leaves there.
+use Rattle.std.specs.Prelude.{◌≡◌, ◌≤◌, ◌⊎◌, true, ℕ, ◌*◌, List, Option, option_map, take}
+use Rattle.rfb_hello.specs.declared.version.Version.TheVariants.{V38}
+use Rattle.rfb_session.specs.declared.console.Outcome.{Outcome}
+use Rattle.rfb_session.specs.declared.relay.Relay.{Relay}
+use Rattle.rfb_session.specs.doors.Tenants.{Happening, Goes}
+use Rattle.rfb_session.specs.declared.relay.setup.RelaySetup.{RelaySetup}
+use Rattle.rfb_session.specs.relay.Relay.{IsFreshRelay, RelaySteps, OpensRelay, DeclinesRelay}
+use Rattle.rfb.specs.Ending.{EndsWell, FailsFor, IsNoEnd}
+use Rattle.rfb.specs.declared.fault.Failure.{Failure}
+use Rattle.rfb.specs.declared.relaying.relay_words.RelayOptions.{RelayOptions}
+use Rattle.rfb.specs.declared.sharing.speaker.Reporter.{Reporter}
+
+-- what options ask for; their times are seconds, and those of a setup are milliseconds
+pub record IsSetupOf (options : RelayOptions) (setup : RelaySetup) : Type 0 where
+  pub name : option_map (λ name. name.now) setup.name
+      ≡ option_map (λ name. take 255 name.now) options.name
+  pub text_limit : setup.rules.text_limit ≡ 65536
+  pub viewers : options.viewers ≤ 8 → setup.rules.viewers ≡ options.viewers
+  pub until_idle : setup.rules.until_idle ≡ options.until_idle
+  pub always_shared : setup.rules.always_shared ≡ options.is_always_shared
+  pub view_only : setup.rules.view_only ≡ options.is_view_only
+  pub handshake : setup.rules.handshake ≡ 1000 * options.handshake
+  pub timeout : setup.rules.timeout ≡ option_map (λ seconds. 1000 * seconds) options.timeout
+  pub hold : setup.rules.hold ≡ 1000
+  pub format : setup.viewer.format ≡ options.wants.format
+  pub encodings : setup.viewer.encodings.items ≡ options.wants.encodings.items
+  pub limit : setup.viewer.limit ≡ V38
+  pub shared : setup.viewer.shared ≡ true
+  pub max_places : setup.viewer.max_places ≡ 16777216
+  pub viewer_text_limit : setup.viewer.text_limit ≡ 1024
+
+-- a relay that was told nothing, as options ask for it
+abbrev pub IsRelayOf : RelayOptions → Relay Reporter → Type 0
+IsRelayOf options relay = (setup : RelaySetup) × IsSetupOf options setup × IsFreshRelay setup relay
+
+-- these happened to a relay of the options, in this order, and nothing else did; so it has ended, or
+-- has not
+pub record RelaysUntil (options : RelayOptions) (outcome : Option Outcome) : Type 0 where
+  pub old : Relay Reporter
+  pub new : Relay Reporter
+  pub asked : IsRelayOf options old
+  pub happenings : List Happening
+  pub goes : Goes RelaySteps OpensRelay DeclinesRelay old happenings new
+  pub ends : new.console.outcome ≡ outcome
+
+-- a relay that ends well
+abbrev pub Relays : RelayOptions → Type 0
+Relays options = (outcome : Option Outcome) × RelaysUntil options outcome × EndsWell outcome
+
+-- one that fails: nothing was written before there was a relay, or it has not ended well
+abbrev pub LeavesRelay : RelayOptions → Option (List ℕ) → Option (List ℕ) → Type 0
+LeavesRelay options before after =
+    (after ≡ before)
+    ⊎ ((outcome : Option Outcome) × RelaysUntil options outcome × IsNoEnd outcome)
+
+-- and why: by how it has ended, if anything was written
+abbrev pub FailsToRelay : RelayOptions → Option (List ℕ) → Option (List ℕ) → Failure → Type 0
+FailsToRelay options before after failure =
+    (after ≡ before)
+    ⊎ ((outcome : Option Outcome) × RelaysUntil options outcome × FailsFor outcome failure)

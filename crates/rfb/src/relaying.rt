@@ -1,0 +1,101 @@
+//! A relay over sockets: a server's screen for up to eight viewers at once, whose keys, pointers
+//! and texts go to the server.
+//!
+//! The core of it is a `Relay`, which has no IO. It stands behind the doors of a share; at the
+//! first of them stands the connection to the server in place of standard input.
+
+ghost use Rattle.std.specs.Prelude.{OnOk, OnErr, IfErr};
+ghost use Rattle.rfb.specs.Context.{KeepsStreams};
+ghost use Rattle.rfb.specs.Relaying.{FailsToRelay, IsRelayOf, LeavesRelay, Relays};
+
+mod relay_words;
+mod setup;
+
+use crate::context::Context;
+use crate::explain::{Notes, tell_closed_output, tell_unreached};
+use crate::fault::{Failure, Fault};
+use crate::options::address::Address;
+use crate::reaching::connect_once;
+use crate::relaying::setup::setup_of;
+use crate::serving::listener_at;
+use crate::sharing::READ_AT_ONCE;
+use crate::sharing::ending::result_of;
+use crate::sharing::shell::{First, Shell};
+use crate::sharing::speaker::Reporter;
+use crate::sharing::standard::open_streams;
+use crate::sharing::tenant::{Tenant, doors_of};
+pub use relay_words::{RELAY, RelayOptions, relay_options_in};
+use rfb_session::doors::live;
+use rfb_session::relay::Relay;
+use std::alloc::Global;
+use std::io;
+use std::io::{Read, Write};
+use std::net::{Net, OpenListener};
+use std::os::fd::AsRawFd;
+use std::time::Clock;
+
+/// Relays a server until it goes away, or until the last viewer does if that is wanted. Standard
+/// input is not read. Sentences are said, unless the options are against them. It fails where
+/// standard output is closed, where the server cannot be reached, where nothing can listen, where
+/// there is no memory, where a line cannot be written, and where the server goes away: with the
+/// fault that a view of it would end with.
+pub fn relay_at<P: AllocGlobal + Clock + Net, R: Read, W: Write, E: Write>(
+    context: &mut Context<P, R, W, E>,
+    options: RelayOptions<'_>,
+) -> Result<(), Failure>
+    ensures done { OnOk result (Relays options.entry) }
+    ensures stopped { IfErr result (FailsToRelay options.entry
+        (W.contents context.old.output.now) (W.contents context.new.output.now)) }
+    ensures left { OnErr result (LeavesRelay options.entry
+        (W.contents context.old.output.now) (W.contents context.new.output.now)) }
+    ensures same { KeepsStreams context.old context.new }
+{
+    let streams = open_streams();
+    let says = streams.errors && !options.is_quiet;
+    let notes = &mut Notes::new(context.errors, says);
+    if !streams.output {
+        tell_closed_output(notes);
+        return Err(Failure::Fault(Fault::Device));
+    }
+    let server = server_at(context.rt, options.server, notes)?;
+    let listener = listener_at(context.rt, options.listen, options.port, notes)?;
+    listener.set_nonblocking(true)?;
+    let alloc = context.alloc();
+    let first = First::Connection(server.as_raw_fd());
+    let shell = &mut Shell::new(context.rt, alloc, listener, first, streams)?;
+    let relay = &mut relay_of(alloc, options, says);
+    let mut part = Vec::from_elem(alloc, 0, READ_AT_ONCE)?;
+    let server = Tenant::Connection(server);
+    let mut doors = doors_of::<R, W, E, P::Stream>(
+        alloc,
+        server,
+        context.output,
+        context.errors,
+        streams,
+    )?;
+    live(relay, &mut doors, shell, &mut part);
+    result_of(relay.outcome())
+}
+
+// A connection to the server that does not wait. `notes` say why there is none.
+fn server_at<N: Net, O: Write>(
+    net: &N,
+    server: Address<'_>,
+    notes: &mut O,
+) -> io::Result<N::Stream> {
+    match connect_once(net, server.host, server.port) {
+        Ok(stream) => Ok(stream),
+        Err(error) => {
+            tell_unreached(server.host, server.port, &error, notes);
+            Err(error)
+        }
+    }
+}
+
+// A relay that was told nothing, as the options ask for it. It says sentences, or none.
+fn relay_of(alloc: Global, options: RelayOptions<'_>, says: bool) -> Relay<Reporter>
+    ensures { IsRelayOf options.entry result }
+{
+    let reporter = Reporter { are_wanted: says };
+    Relay::new(alloc, setup_of(options), reporter)
+}

@@ -1,0 +1,31 @@
+use Rattle.std.proofs.Common.{refl}
+use Rattle.rfb_session.specs.relay.Relay.{Met, FailedAt}
+use Rattle.rfb_session.proofs.MirrorLemmas.{feed_stands, takes, fails_at}
+use Rattle.rfb_session.proofs.relay.Relay.hear_coming.Goals as goal
+
+pub meet-requires : goal.meet-requires
+meet-requires g c = record {
+  stands = feed_stands c.args.viewer c.feed.new.self c.args.bytes.now c.feed.result c.requires.stands
+      c.feed.ensures.failed c.feed.ensures.fed c.feed.ensures.fails;
+}
+
+pub returns-in-Ok-clause-hears : goal.returns-in-Ok-clause-hears
+returns-in-Ok-clause-hears g c =
+    let e = c.in-Ok.ensures in
+    Met c.feed.new.self c.in-Ok.field-0 (record {
+      used = e.used;
+      all = e.all;
+      some = e.some;
+      fed_by = e.fed;
+      damage = e.damage;
+      moved = e.moved;
+      made = e.made;
+      counted = e.taken;
+    }) refl c.meet.ensures.meets
+
+pub returns-in-Err-clause-hears : goal.returns-in-Err-clause-hears
+returns-in-Err-clause-hears g c =
+    let e = c.in-Err.ensures in
+    FailedAt c.feed.new.self c.in-Err.fault
+    (fails_at c.args.viewer c.feed.new.self c.args.bytes.now _ e.fails e.failed e.fault e.memory e.picture
+    e.damaged e.unmoved e.reason e.place e.made) refl c.lose_server.ensures.loses

@@ -1,0 +1,25 @@
+use Rattle.std.proofs.Common.{◌∙◌, refl, sym}
+use Rattle.rfb_session.specs.relay.Relay.{Comes, Shows}
+use Rattle.rfb_session.proofs.relay.Relay.hear_server.Goals as goal
+
+pub returns-in-Some-clause-hears : goal.returns-in-Some-clause-hears
+returns-in-Some-clause-hears g c =
+    Comes c.in-Some.viewer (sym c.take.ensures.value ∙ c.in-Some.is) _ (record {
+      taken = c.take.ensures.after;
+      console = refl;
+      waits = refl;
+      gone = refl;
+      name = refl;
+      given = (refl, refl);
+    }) c.hear_coming.ensures.hears
+
+pub returns-in-None-clause-hears : goal.returns-in-None-clause-hears
+returns-in-None-clause-hears g c =
+    Shows (sym c.take.ensures.value ∙ c.in-None.is) _ (record {
+      taken = c.take.ensures.after;
+      console = refl;
+      waits = refl;
+      gone = refl;
+      name = refl;
+      given = (refl, refl);
+    }) c.hear_shown.ensures.hears

@@ -1,0 +1,22 @@
+use Rattle.std.proofs.Common.{◌∙◌, refl, sym, subst, inl}
+use Rattle.rfb_session.specs.declared.console.desk.Desk.{Desk}
+use Rattle.rfb_session.specs.relay.Desk.{TellsSome, told_of_server}
+use Rattle.rfb_session.proofs.RelayStepLemmas.{same_value}
+use Rattle.rfb_session.proofs.relay.Relay.heed.Goals as goal
+
+pub returns-in-Ok : goal.returns-in-Ok
+returns-in-Ok g c = record {
+  told = λ a is. inl (
+    c.tell_of_server.new.self,
+    refl,
+    subst (λ (d : Desk). TellsSome d (told_of_server c.args.event) c.tell_of_server.new.self)
+        (sym (same_value c.in-Some.desk a (sym c.in-Some.is ∙ is))) c.in-Ok.ensures,
+    refl,
+  );
+  server = record { coming = refl; waits = refl; gone = refl; name = refl; passed = refl };
+  side = record {
+    owner = record { reader = refl; input = refl };
+    rooms = refl;
+    stays = record { rules = refl; name = refl; ended = λ was. was };
+  };
+}

@@ -1,0 +1,136 @@
+//! A desk whose screen is a server's.
+
+ghost use Rattle.std.specs.Prelude.{◌≡◌, ◌≤◌, ◌↔◌, length, IfOk, IfErr, IfSome, OnOk, None};
+ghost use Rattle.rfb_viewer.specs.Call.{text_in};
+ghost use Rattle.rfb_session.specs.Share.{viewer_of};
+ghost use Rattle.rfb_session.specs.relay.Desk.{IsOver, HoldsWithin, IsBetween, FeedsDesk};
+ghost use Rattle.rfb_session.specs.relay.Desk.{FailsDesk};
+ghost use Rattle.rfb_session.specs.relay.Desk.{TellsSome, told_of_server, LosesDesk};
+ghost use Rattle.rfb_session.specs.relay.Desk.{CallsDesk, whole_of};
+ghost use Rattle.rfb_session.specs.ShareAsking.{SomeAsked};
+
+use crate::channel::Channel;
+use crate::console::desk::{Desk, Hold, LINES_ROOM};
+use crate::console::guest::Guest;
+use crate::console::plan::Rules;
+use crate::relay::Gone;
+use crate::relay::lines::{tell_bell, tell_down, tell_server_text, tell_up};
+use crate::seat::Seat;
+use crate::share::Share;
+use crate::slots::SLOTS;
+use rfb_hello::Fed;
+use rfb_picture::Rect;
+use rfb_viewer::{AppendFault, Call, ViewerEvent, ViewerFault};
+use std::alloc::Global;
+use std::io;
+
+impl Desk {
+    /// A desk of a share over a server's picture, which no viewer has come to. A line tells that
+    /// the server is there, and its name.
+    pub(crate) fn over(alloc: Global, share: Share, rules: Rules, name: &[u8]) -> io::Result<Desk>
+        ensures { IfOk result (IsOver share rules name.now) }
+    {
+        let mut lines = Vec::with_capacity(alloc, LINES_ROOM)?;
+        let picture = share.picture();
+        tell_up(&mut lines, picture.width(), picture.height(), name)?;
+        Ok(Desk {
+            share,
+            guests: [Guest::none(); SLOTS],
+            lines,
+            rules,
+            hold: Hold::Shown,
+            came: false,
+            next: None,
+            first: Seat::at(0),
+        })
+    }
+
+    /// Takes bytes of the server's, as `Share::feed` does. Where they end inside of a message
+    /// updates are held back from then on.
+    pub(crate) fn hear_server(
+        &mut self,
+        bytes: &[u8],
+    ) -> Option<Result<Fed<ViewerEvent>, ViewerFault>>
+        ensures none { result ≡ None ↔ viewer_of self.old.share ≡ None }
+        ensures feeds { IfSome result (λ told. IfOk told (λ fed.
+            FeedsDesk self.old bytes.now fed self.new)) }
+        ensures fails { IfSome result (λ told. IfErr told (λ fault.
+            FailsDesk self.old bytes.now fault self.new)) }
+    {
+        let heard = self.share.feed(bytes);
+        self.hold_within();
+        heard
+    }
+
+    // Updates are held back while a message of the server's comes.
+    fn hold_within(&mut self)
+        ensures { HoldsWithin self.old self.new }
+    {
+        if self.is_between() {
+            self.hold(Hold::Shown);
+        } else if self.hold == Hold::Shown {
+            self.hold(Hold::Begins);
+        }
+    }
+
+    // Whether no message of the server's is on its way, for all that is known.
+    fn is_between(&self) -> bool
+        ensures { IsBetween self.now.share result }
+    {
+        match self.share.viewer() {
+            Some(viewer) => viewer.between(),
+            None => true,
+        }
+    }
+
+    /// The server has gone away, which a line tells. What has come of its picture is shown.
+    pub(crate) fn lose_server(&mut self, gone: Gone) -> io::Result<()>
+        ensures told { OnOk result (LosesDesk self.old gone self.new) }
+        ensures share { self.new.share ≡ self.old.share }
+    {
+        self.hold(Hold::Shown);
+        tell_down(&mut self.lines, gone)
+    }
+
+    /// What the server did is told, if it rang a bell or cut a text. Neither is passed on.
+    pub(crate) fn tell_of_server(&mut self, event: &Option<ViewerEvent>) -> io::Result<()>
+        ensures { OnOk result (TellsSome self.old (told_of_server event.now) self.new) }
+    {
+        match event {
+            Some(ViewerEvent::Bell) => tell_bell(&mut self.lines),
+            Some(ViewerEvent::CutText { kept, .. }) => tell_server_text(&mut self.lines, kept),
+            Some(
+                ViewerEvent::Reply(_)
+                | ViewerEvent::Ready { .. }
+                | ViewerEvent::UpdateDone
+                | ViewerEvent::ColourMapSkipped,
+            )
+            | None => Ok(()),
+        }
+    }
+
+    /// The message of a call waits for the server.
+    pub(crate) fn call_server(
+        &mut self,
+        call: &Call<'_>,
+        to_server: &mut Channel,
+    ) -> Result<(), AppendFault>
+        requires few { length (text_in call.now) ≤ 1048576 }
+        ensures { CallsDesk self.old call.now to_server.old result to_server.new self.new }
+    {
+        to_server.send_from(&mut self.share, call)
+    }
+
+    /// The whole screen, if some viewer waits for an update of it.
+    pub(crate) fn wanted(&self) -> Option<Rect>
+        ensures some { IfSome result (λ r.
+            SomeAsked self.now.share × (r ≡ whole_of self.now.share)) }
+        ensures none { result ≡ None → SomeAsked self.now.share → ⊥ }
+    {
+        if !self.share.is_asked() {
+            return None;
+        }
+        let (width, height) = self.size();
+        Some(Rect::whole(width, height))
+    }
+}

@@ -1,0 +1,221 @@
+//! Bytes of the server's.
+
+ghost use Rattle.std.specs.Prelude.{◌≡◌, ◌≤◌, ◌<◌, length, cond};
+ghost use Rattle.rfb_session.specs.Mirrors.{StandsOrFailed};
+ghost use Rattle.rfb_session.specs.console.Console.{KeepsSide};
+ghost use Rattle.rfb_session.specs.relay.Relay.{HearsServer, HearsComing, HearsShown, Meets};
+ghost use Rattle.rfb_session.specs.relay.Relay.{Begins, Opens, Heeds, Stands, Queues};
+ghost use Rattle.rfb_session.specs.relay.Relay.{KeepsServer, KeepsButName, KeepsButWaits};
+ghost use Rattle.rfb_session.specs.relay.Relay.{KeepsDeskBy, is_shown_size};
+
+use crate::console::desk::Desk;
+use crate::console::{Outcome, Speaker};
+use crate::relay::{Gone, Relay};
+use crate::share::Share;
+use crate::slots::seat_in;
+use rfb_hello::Fed;
+use rfb_picture::Rect;
+use rfb_viewer::{Call, Viewer, ViewerEvent};
+
+// How many columns and rows a screen of sessions has at most.
+const SIDE_MAX: u16 = 4096;
+
+impl<S: Speaker + Drop> Relay<S> {
+    /// Takes bytes of the server's, up to the last of its first item that is answered or reported,
+    /// or all. After the end, and once the server has gone, all are taken and nothing is done.
+    pub(crate) fn hear_server(&mut self, bytes: &[u8]) -> usize
+        requires some { 0 < length bytes.now }
+        ensures used { (0 < result) × (result ≤ length bytes.now) }
+        ensures hears { HearsServer self.old bytes.now result self.new }
+        ensures side { KeepsSide self.old.console self.new.console }
+    {
+        if self.console.outcome.is_some() || self.gone.is_some() {
+            return bytes.len();
+        }
+        match self.coming.take() {
+            Some(viewer) => self.hear_coming(viewer, bytes),
+            None => self.hear_shown(bytes),
+        }
+    }
+
+    // Takes bytes of a server whose picture is not shown yet.
+    fn hear_coming(&mut self, mut viewer: Viewer, bytes: &[u8]) -> usize
+        requires some { 0 < length bytes.now }
+        requires stands { ∥ StandsOrFailed viewer ∥₁ }
+        ensures used { (0 < result) × (result ≤ length bytes.now) }
+        ensures hears { HearsComing self.old viewer bytes.now result self.new }
+        ensures side { KeepsSide self.old.console self.new.console }
+    {
+        match viewer.feed(bytes) {
+            Ok(Fed { used, event }) => {
+                self.meet(viewer, event);
+                used
+            }
+            Err(fault) => {
+                self.lose_server(Gone::Failed(fault));
+                bytes.len()
+            }
+        }
+    }
+
+    // Does what is due after an event of a viewer whose picture is not shown yet.
+    fn meet(&mut self, viewer: Viewer, event: Option<ViewerEvent>)
+        requires stands { ∥ StandsOrFailed viewer ∥₁ }
+        ensures meets { Meets self.old viewer event self.new }
+        ensures side { KeepsSide self.old.console self.new.console }
+    {
+        match event {
+            Some(ViewerEvent::Reply(reply)) => self.stand(viewer, reply.as_slice()),
+            Some(
+                ViewerEvent::Ready {
+                    reply,
+                    width,
+                    height,
+                    name,
+                    ..
+                },
+            ) => {
+                self.take_name(&name);
+                self.begin(viewer, reply.as_slice(), width, height);
+            }
+            Some(ViewerEvent::UpdateDone) => self.open(viewer),
+            Some(ViewerEvent::Bell | ViewerEvent::CutText { .. } | ViewerEvent::ColourMapSkipped)
+            | None => self.stand(viewer, &[]),
+        }
+    }
+
+    // The viewer's picture is not shown yet, and these bytes wait for the server.
+    fn stand(&mut self, viewer: Viewer, bytes: &[u8])
+        requires stands { ∥ StandsOrFailed viewer ∥₁ }
+        ensures stands { Stands self.old viewer bytes.now self.new }
+        ensures side { KeepsSide self.old.console self.new.console }
+    {
+        self.send(bytes);
+        seat_in(&mut self.coming, viewer);
+    }
+
+    // Keeps the beginning of the server's name.
+    fn take_name(&mut self, name: &[u8])
+        ensures { KeepsButName self.old self.new }
+    {
+        self.server_name.clear();
+        let few = name.len().min(super::NAME_MAX);
+        let _ = self.server_name.try_extend_from_slice(&name[..few]);
+    }
+
+    // Answers, and asks for the first update, of the whole screen.
+    fn begin(&mut self, mut viewer: Viewer, reply: &[u8], width: u16, height: u16)
+        requires stands { ∥ StandsOrFailed viewer ∥₁ }
+        ensures begins { Begins self.old viewer reply.now width height self.new }
+        ensures side { KeepsSide self.old.console self.new.console }
+    {
+        self.send(reply);
+        if !is_shown_size(width, height) {
+            self.lose_server(Gone::Size { width, height });
+            return;
+        }
+        let call = Call::Request {
+            incremental: false,
+            rect: Rect::whole(width, height),
+        };
+        if self.to_server.send_call(&mut viewer, &call).is_err() {
+            self.console.outcome = Some(Outcome::NoMemory);
+            return;
+        }
+        seat_in(&mut self.coming, viewer);
+    }
+
+    // Shows the first picture: viewers may come.
+    fn open(&mut self, viewer: Viewer)
+        requires stands { ∥ StandsOrFailed viewer ∥₁ }
+        ensures opens { Opens self.old viewer self.new }
+        ensures side { KeepsSide self.old.console self.new.console }
+    {
+        let rules = self.console.rules;
+        let told = self.server_name.as_slice();
+        let name = name_of(self.is_named, self.name.as_slice(), told);
+        match Share::of_viewer(self.alloc, viewer, name, rules.text_limit) {
+            Ok(share) => match Desk::over(self.alloc, share, rules, told) {
+                Ok(desk) => seat_in(&mut self.console.desk, desk),
+                Err(_) => self.console.outcome = Some(Outcome::NoMemory),
+            },
+            Err(viewer) => self.lose_server(not_shown(&viewer)),
+        }
+    }
+
+    // Takes bytes of a server whose picture is shown.
+    fn hear_shown(&mut self, bytes: &[u8]) -> usize
+        requires some { 0 < length bytes.now }
+        ensures used { (0 < result) × (result ≤ length bytes.now) }
+        ensures hears { HearsShown self.old bytes.now result self.new }
+        ensures side { KeepsSide self.old.console self.new.console }
+    {
+        let Some(desk) = &mut self.console.desk else {
+            return bytes.len();
+        };
+        match desk.hear_server(bytes) {
+            Some(Ok(Fed { used, event })) => {
+                self.heed(event);
+                used
+            }
+            Some(Err(fault)) => {
+                self.lose_server(Gone::Failed(fault));
+                bytes.len()
+            }
+            None => bytes.len(),
+        }
+    }
+
+    // Tells a bell and a text, which are not passed on.
+    fn heed(&mut self, event: Option<ViewerEvent>)
+        ensures { Heeds self.old event self.new }
+    {
+        let Some(desk) = &mut self.console.desk else {
+            return;
+        };
+        match desk.tell_of_server(&event) {
+            Ok(()) => {}
+            Err(_) => self.console.outcome = Some(Outcome::NoMemory),
+        }
+    }
+
+    // These bytes wait for the server, after what waits.
+    fn send(&mut self, bytes: &[u8])
+        ensures waits { Queues self.old.to_server bytes.now self.new.to_server
+            self.new.console.outcome }
+        ensures keeps { KeepsDeskBy self.old self.new }
+        ensures server { KeepsButWaits self.old self.new }
+    {
+        if self.to_server.send(bytes).is_err() {
+            self.console.outcome = Some(Outcome::NoMemory);
+        }
+    }
+}
+
+// Whether sessions can be of a screen of this size.
+fn is_shown_size(width: u16, height: u16) -> bool
+    ensures { result ≡ is_shown_size width height }
+{
+    width > 0 && height > 0 && width <= SIDE_MAX && height <= SIDE_MAX
+}
+
+// The name that viewers get: what was given, or what the server told.
+fn name_of<'x>(is_named: bool, given: &'x [u8], told: &'x [u8]) -> &'x [u8]
+    requires given { length given.now ≤ 255 }
+    requires told { length told.now ≤ 255 }
+    ensures value { result.now ≡ cond is_named given.now told.now }
+    ensures few { length result.now ≤ 255 }
+{
+    if is_named { given } else { told }
+}
+
+// How a server whose picture is not shown goes.
+fn not_shown(viewer: &Viewer) -> Gone {
+    match viewer.picture() {
+        Some(picture) => Gone::Size {
+            width: picture.width(),
+            height: picture.height(),
+        },
+        None => Gone::Device,
+    }
+}

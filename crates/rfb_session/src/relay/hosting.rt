@@ -1,0 +1,43 @@
+//! Who comes to a relay.
+
+ghost use Rattle.rfb_session.specs.relay.Relay.{OpensRelay, DeclinesRelay};
+
+use crate::console::Speaker;
+use crate::doors::{Core, Host};
+use crate::relay::Relay;
+use crate::slots::SLOTS;
+
+impl<S: Speaker + Drop> Host for Relay<S> {
+    ghost opens = { OpensRelay };
+
+    ghost declines = { DeclinesRelay };
+
+    fn welcomes(&self) -> bool {
+        self.console.welcomes()
+    }
+
+    fn calls(&self) -> bool {
+        false
+    }
+
+    fn opened(&mut self, doors: usize, from: &str) -> Option<usize> {
+        self.console.opened(doors, from)
+    }
+
+    /// What waits for viewers is written yet, for as long as the console's patience lasts.
+    fn is_done(&self) -> bool {
+        self.console.is_done() && (self.console.is_over || !self.do_viewers_wait())
+    }
+}
+
+impl<S: Speaker + Drop> Relay<S> {
+    // Whether bytes wait for some viewer.
+    fn do_viewers_wait(&self) -> bool {
+        for place in 0..SLOTS {
+            if !self.console.to_write(place + 1).is_empty() {
+                return true;
+            }
+        }
+        false
+    }
+}
