@@ -43,11 +43,15 @@ def server_init(width=4, height=4):
     return handshake(width, height)[:-3]
 
 
+def framebuffer_head(count):
+    """The head of an update of so many rectangles."""
+    return struct.pack(">BxH", 0, count)
+
+
 def framebuffer_update(*rectangles):
     """It follows a handshake. Its first rectangle is Raw, of one pixel."""
     pixel = rectangle_head(0, (0, 0, 1, 1)) + bytes(4)
-    head = struct.pack(">BxH", 0, 1 + len(rectangles))
-    return handshake(4, 4) + head + pixel + b"".join(rectangles)
+    return handshake(4, 4) + framebuffer_head(1 + len(rectangles)) + pixel + b"".join(rectangles)
 
 
 def rectangle(encoding, data=b"", area=(0, 0, 4, 4)):
@@ -98,6 +102,14 @@ def request(incremental, *area):
 
 def key(number, down=1):
     return struct.pack(">BBxxI", 4, down, number)
+
+
+def pointer(buttons, x, y):
+    return struct.pack(">BBHH", 5, buttons, x, y)
+
+
+def cut_text(text):
+    return b"\6\0\0\0" + texted(text)
 
 
 # A client that asks for all of a screen of two places.

@@ -11,11 +11,11 @@ many viewers come one after another. The last line is 'N passed, M failed'.
 
 import os
 import socket
-import struct
+import tempfile
 import threading
 import time
 
-from messages import key, pixel_format, request, set_encodings
+from messages import cut_text, key, pixel_format, pointer, request, set_encodings
 from sharing import Share, Viewer, run_rows, viewers, wait_for
 
 MANY = int(os.environ.get("MANY", "400"))
@@ -52,7 +52,7 @@ def each_line_draws_and_each_event_is_reported():
     wanted = b"".join(b"line %d: bad line\n" % (first + k) for k in range(len(bad)))
     wait_for(lambda: share.errors == wanted, share.errors)
     viewer.send(key(0xFF0D) + key(97, 0))
-    viewer.send(struct.pack(">BBHH", 5, 1, 2, 1) + struct.pack(">BxxxI", 6, 5) + b"hi\0\xffz")
+    viewer.send(pointer(1, 2, 1) + cut_text(b"hi\0\xffz"))
     for line in (b"join 0", b"key 0 down 65293", b"key 0 up 97", b"pointer 0 1 2 1",
                  b"text 0 686900ff7a"):
         share.tells(line)
@@ -350,7 +350,7 @@ def what_is_long_or_wide_is_taken_whole():
     share.say(f"screen {width} {height}\n")
     viewer = Viewer(share).hello()
     for text in os.urandom(1024), os.urandom(100000):
-        viewer.send(struct.pack(">BxxxI", 6, len(text)) + text)
+        viewer.send(cut_text(text))
         share.tells(b"text 0 " + text[:1024].hex().encode())
     viewer.ask(0)
     viewer.update()
@@ -398,6 +398,19 @@ def an_update_that_was_written_is_kept_no_more():
     return f"KiB before and after whole updates: {'; '.join(told)}"
 
 
+def a_burst_is_told_whole_where_nothing_wakes(count=2000):
+    """A file that takes the lines never says that it is ready."""
+    with tempfile.TemporaryFile() as lines:
+        share = Share(output=lines, hears=("errors",))
+        share.say("screen 40 30\n")
+        (viewer,) = viewers(share, 1)
+        # The longest lines that few bytes make.
+        viewer.send(b"".join(pointer(255, 65535, 65535 - number) for number in range(count)))
+        told = b"".join(b"pointer 0 255 65535 %d\n" % (65535 - number) for number in range(count))
+        wait_for(lambda: os.pread(lines.fileno(), 1 << 20, 0).endswith(told), "not all are told")
+        share.quits()
+
+
 def idle():
     share = Share()
     share.say("screen 1920 1080\n")
@@ -438,7 +451,8 @@ ROWS = [each_line_draws_and_each_event_is_reported, a_scroll_is_sent_as_a_copy,
         a_stuck_viewer_holds_nobody_up, a_faulty_viewer_ends_alone,
         a_flood_of_requests_is_answered_by_few_updates, a_client_may_send_a_byte_at_a_time,
         clients_leave_in_the_middle_of_an_update, many_come_one_after_another,
-        what_is_long_or_wide_is_taken_whole, an_update_that_was_written_is_kept_no_more]
+        what_is_long_or_wide_is_taken_whole, an_update_that_was_written_is_kept_no_more,
+        a_burst_is_told_whole_where_nothing_wakes]
 
 
 if __name__ == "__main__":

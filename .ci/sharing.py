@@ -27,13 +27,17 @@ class Share:
 
     program = None
     runner = []
+    command = "share"
+    begun = []
 
-    def __init__(self, *words, owner=subprocess.PIPE, hears=("output", "errors")):
-        """Its owner's lines may be a file, and what it writes may be heard later on."""
+    def __init__(self, *words, owner=subprocess.PIPE, output=subprocess.PIPE,
+                 hears=("output", "errors")):
+        """Its owner's lines may be a file, so may its own, and what it writes may be heard later."""
         self.port = free_port()
         self.run = subprocess.Popen(
-            [*self.runner, self.program, "share", "--port", str(self.port), *words],
-            stdin=owner, stdout=subprocess.PIPE, stderr=subprocess.PIPE)
+            [*self.runner, self.program, self.command, "--port", str(self.port), *words],
+            stdin=owner, stdout=output, stderr=subprocess.PIPE)
+        self.begun.append(self)
         self.output = b""
         self.errors = b""
         self.threads = []
@@ -69,6 +73,11 @@ class Share:
     def quits(self):
         self.say("quit\n")
         self.ends()
+
+    def stops(self):
+        """Ends it if it still runs."""
+        self.run.kill()
+        self.run.wait()
 
     def ticks(self):
         """The processor time that it took, in hundredths of a second."""
@@ -203,6 +212,9 @@ def run_rows(rows, others=()):
             traceback.print_exc(file=sys.stdout)
             failed += 1
             continue
+        finally:
+            while Share.begun:
+                Share.begun.pop().stops()
         passed += 1
         if named or told:
             print(f"{row.__name__}: {told or 'ok'}, {time.time() - start:.1f} s")

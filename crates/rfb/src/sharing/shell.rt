@@ -64,6 +64,8 @@ pub struct Shell<'a, L, C> {
     newest: Option<RawFd>,
     // Whether anything happened since the last wait began.
     is_stirred: bool,
+    // Whether bytes have left that the core may have kept others' doors shut for.
+    makes_room: bool,
 }
 
 impl<'a, L: AsRawFd + Drop, C: Net + Clock> Shell<'a, L, C> {
@@ -114,6 +116,7 @@ impl<'a, L: AsRawFd + Drop, C: Net + Clock> Shell<'a, L, C> {
             ear: Ear::Quiet,
             newest: None,
             is_stirred: false,
+            makes_room: false,
         })
     }
 }

@@ -19,11 +19,13 @@ impl<L: Drop, C: time::Clock> Clock for Shell<'_, L, C> {
     }
 
     /// It does not sleep while somebody may wait at the listener whom the core was not asked about:
-    /// what happened in the last turn may have made it welcome newcomers. It ends the loop where
-    /// waiting fails.
+    /// what happened in the last turn may have made it welcome newcomers. Nor does it after lines
+    /// have left, or bytes for a server: which viewers are read again the core says in its next
+    /// turn, and nothing else may come that wakes it. It ends the loop where waiting fails.
     fn wait(&mut self, pause: Pause) -> bool {
         self.read_time();
         let limit = self.limit(pause);
+        self.makes_room = false;
         self.is_stirred = limit != Some(Duration::ZERO);
         if self.poll.poll(&mut self.events, limit).is_err() {
             return false;
@@ -62,7 +64,9 @@ impl<L: Drop, C: time::Clock> Clock for Shell<'_, L, C> {
     /// Where nothing was to be written it is asked to try again.
     fn told(&mut self, door: usize, answer: Answer) {
         if answer != Answer::Again {
-            let goes_on = self.stir(answer) && self.may_write_on(door);
+            let has_left = self.stir(answer);
+            self.makes_room |= has_left && !is_of_seat(door);
+            let goes_on = has_left && self.may_write_on(door);
             self.writes.note(door, goes_on);
         }
     }
@@ -74,7 +78,7 @@ impl<L: Drop, C: time::Clock> Shell<'_, L, C> {
         if self.is_stirred && self.ear == Ear::Barred {
             self.ear = Ear::Ringing;
         }
-        if self.is_stirred && self.ear == Ear::Ringing {
+        if self.is_stirred && self.ear == Ear::Ringing || self.makes_room {
             return Some(Duration::ZERO);
         }
         match pause {
@@ -115,4 +119,9 @@ impl<L: Drop, C: time::Clock> Shell<'_, L, C> {
             _ => true,
         }
     }
+}
+
+// Whether a door is a viewer's.
+fn is_of_seat(door: usize) -> bool {
+    OWNER < door && door < LINES
 }
