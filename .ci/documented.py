@@ -58,7 +58,8 @@ SPANS = {
 
 # What stands in for a program that is not installed.
 STAND_INS = {
-    "qemu-system-x86_64": "exec rfb serve --port 5905 --forever >/dev/null",
+    # `-display none -vnc 127.0.0.1:N` are its words.
+    "qemu-system-x86_64": "exec rfb serve --port $((5900 + ${4##*:})) --forever >/dev/null",
     "vncsnapshot": "exec rfb view --port 5950 --timeout 20 >/dev/null",
 }
 # The same of what needs a display or a browser, and goes on until somebody ends it.
@@ -75,17 +76,20 @@ PORT = 5901
 ROUNDS, QUICK, BUDGET = 10, 5, 60
 
 # What a shell reads before a block and after it: it notes what fails and, at the next line, what
-# was begun in the background, and waits for that. A machine goes on until it is ended; what was
-# ended by a signal to end has status 143. Where it comes to the end of this, and nothing failed, it
-# ends with 7.
+# was begun in the background, and waits for that. A machine, which is begun before all else, goes
+# on until it is ended, after all else; what was ended by a signal to end has status 143. Where it
+# comes to the end of this, and nothing failed, it ends with 7.
 BEFORE = """declare -A started
 trap 'echo "status $?: $BASH_COMMAND" >&2; failed=1' ERR
-trap '[ "$LINENO" = "$line" ] || { line=$LINENO; [ -z "$!" ] || started[$!]=1; }' DEBUG
+trap '[ "$LINENO" = "$line" ] || { line=$LINENO; [ -z "$!" ] || started[$!]=${first:=$!}; }' DEBUG
 """
 AFTER = """
 trap - DEBUG ERR
-[ -z "$MACHINE" ] || kill $!
-for job in "${!started[@]}"; do wait $job || [ $? = 143 ] || failed=1; done
+machine=${MACHINE:+$first}
+for job in "${!started[@]}"; do
+    [ $job = "$machine" ] || wait $job || [ $? = 143 ] || failed=1
+done
+[ -z "$machine" ] || { kill $machine; wait $machine; [ $? = 143 ] || failed=1; }
 exit $((failed ? 1 : 7))
 """
 
@@ -129,7 +133,7 @@ def waited_for(block):
     each waits, in order."""
     for line in block.splitlines():
         command = line.split("   #")[0].rstrip()
-        serves = re.search(r"rfb (?:serve|share) .*--port (\d+)", command)
+        serves = re.search(r"rfb (?:serve|share|relay) .*--port (\d+)", command)
         if serves and not command.endswith("&"):
             number = re.search(r"--connections (\d+)", command)
             yield int(serves.group(1)), int(number.group(1)) if number else 1

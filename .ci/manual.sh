@@ -49,7 +49,7 @@ items_of_page() {
 
 # The same of the help that is read, but for the option that every command has.
 items_of_help() {
-    sed -nE 's/^ +((-[a-zA-Z], )?--[a-z-]+( <[A-Z]+>)?|\[[A-Z]+\](\.\.\.)?)  +(.*)/\1\t\5/p' |
+    sed -nE 's/^ +((-[a-zA-Z], )?--[a-z-]+( <[A-Z]+>)?|[[<][A-Z]+[]>](\.\.\.)?)  +(.*)/\1\t\5/p' |
         awk -F '\t' '{ gsub(/[<>]/, "", $1); print $1 "\t" $2 }'
 }
 

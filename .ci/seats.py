@@ -10,12 +10,11 @@ is how many connections come one after another. The last line is 'N passed, M fa
 import fcntl
 import os
 import socket
-import struct
 import tempfile
 import threading
 import time
 
-from messages import VERSION, key, pixel_format, request
+from messages import VERSION, cut_text, key, pixel_format, pointer, request
 from peers import connected
 from sharing import Share, Viewer, run_rows, viewers, wait_for
 
@@ -186,7 +185,7 @@ def of_a_view_alone_nothing_is_told_but_who_comes_and_goes():
     share = Share("--view-only")
     share.say("screen 2 1\n")
     viewer = Viewer(share).hello()
-    viewer.send(key(65) + struct.pack(">BBHH", 5, 1, 1, 0) + struct.pack(">BxxxI", 6, 2) + b"hi")
+    viewer.send(key(65) + pointer(1, 1, 0) + cut_text(b"hi"))
     share.say("fill 0 0 2 1 010203\n")
     viewer.sees(1, 0, (1, 2, 3))
     viewer.close()

@@ -280,6 +280,21 @@ def watch(data, form):
 
 # ---- what a client sends ----
 
+def read_client_message(stream):
+    """Reads one message. Answers its type, and what it says: the bytes of a format or of a text,
+    or numbers."""
+    kind = stream.number('B')
+    if kind == 0:
+        return kind, stream.take(19)[3:]
+    if kind == 2:
+        return (kind, *stream.numbers('%di' % stream.number('xH')))
+    if kind in (3, 4, 5):
+        return (kind, *stream.numbers({3: 'B4H', 4: 'BxxI', 5: 'BHH'}[kind]))
+    if kind == 6:
+        return kind, stream.take(stream.number('3xI'))
+    raise Fault(7)
+
+
 class Session:
     """What a server of version 3.8 makes of a client's bytes, all read at once."""
 
@@ -313,22 +328,15 @@ class Session:
         self.sent += struct.pack('>I', 3) + b'rfb'
 
     def read_message(self, stream):
-        kind = stream.number('B')
+        kind, *said = read_client_message(stream)
         if kind == 0:
-            self.form = Format(stream.take(19)[3:])
+            self.form = Format(*said)
         elif kind == 2:
-            numbers = stream.numbers('%di' % stream.number('xH'))
-            self.listed = [it for it in numbers if it in (RAW, COPY_RECT, RRE, HEXTILE)]
+            self.listed = [it for it in said if it in (RAW, COPY_RECT, RRE, HEXTILE)]
         elif kind == 3:
-            _, x, y, w, h = stream.numbers('B4H')
+            _, x, y, w, h = said
             self.asked |= {(i, j) for i in range(x, min(x + w, self.width))
                            for j in range(y, min(y + h, self.height))}
-        elif kind in (4, 5):
-            stream.take(7 if kind == 4 else 5)
-        elif kind == 6:
-            stream.take(stream.number('3xI'))
-        else:
-            raise Fault(7)
 
     def line(self):
         return 'fault %d %s' % (self.fault, NAMES[self.fault]) if self.fault else 'ok %d' % self.updates

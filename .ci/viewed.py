@@ -159,14 +159,20 @@ VIEWS = [
          UPDATED + b"rfb: updates so far: 2\nrfb: updates so far: 3\n"),
 ]
 
+NOBODY = b"rfb: no connection to 127.0.0.1, port 1: Connection refused (os error 111)\n"
+
 # Port 1 is for a service that nobody runs. `.ci/memory.sh` takes these too.
 CALLS = [
     Call("view_where_nothing_listens", ["view", "--port", "1"], b"", 1, b"", DEVICE),
     Call("view_where_nothing_listens_for_a_second", ["view", "--port", "1", "--timeout", "1"], b"",
          1, b"", DEVICE, "/dev/null"),
     Call("explained_view_where_nothing_listens", ["view", "--port", "1", "--explain"], b"", 1, b"",
-         b"rfb: no connection to 127.0.0.1, port 1: Connection refused (os error 111)\n"
-         + DEVICE),
+         NOBODY + DEVICE),
+    Call("relay_where_nothing_listens", ["relay", "127.0.0.1::1", "--port", "9"], b"", 1, b"",
+         NOBODY + DEVICE),
+    Call("quiet_relay_where_nothing_listens",
+         ["relay", "--quiet", "--explain", "::1", "--port", "9", "--format", "rgb565"], b"", 1, b"",
+         DEVICE),
 ]
 
 # ---- servers that end, fail or are silent

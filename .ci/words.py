@@ -68,6 +68,18 @@ help faults 1
 play -i
 script -i a -i b
 serve --port 9 -o a
+relay
+relay a
+relay --port 9
+relay a --port 0
+relay a b --port 9
+relay a:65536 --port 9
+relay a --port 9 --host b
+relay a --port 9 --viewers 9
+relay a --port 9 --hold 1
+relay a --port 9 --format rgb
+relay a --port 9 --timeout 0
+relay a --port 9 -o b
 """
 
 # Lists of encodings, none of which is one.
@@ -85,6 +97,7 @@ loop -h
 help play
 serve --help
 help view
+help relay
 """
 
 
@@ -96,6 +109,8 @@ def words_that_there_are_not():
         assert run.told(2).startswith(b"error: "), (words, run.told(2))
     for word in BAD_ENCODINGS:
         ends(["view", "--port", "9", "--encodings", word], b"", 2, b"", b"bad encodings\n")
+        ends(["relay", "a", "--port", "9", "--quiet", "--encodings", word], b"", 2, b"",
+             b"bad encodings\n")
     ends(["view", "--port", "9", "--encodings", "zrle", "--explain"], b"", 2, b"",
          b"rfb: encodings are raw, copyrect, rre and hextile: one to four of them, with a comma"
          b" between two\nbad encodings\n")
@@ -112,6 +127,8 @@ HERE = os.path.dirname(os.path.abspath(__file__))
 SETTLED = b"screen 2 1\nsettle\n"
 MORE = b"\n\nFor more information, try '--help'.\n"
 OF_SERVE = b"\n\nUsage: rfb serve [OPTIONS] --port <P>" + MORE
+OF_ADDRESS = b"""error: invalid value 'example.org:65536' for '%s'
+  [HOST, HOST:DISPLAY with a display from 0 to 99, HOST:PORT from port 100 on, or HOST::PORT]""" + MORE
 OF_FORMAT = b"""error: invalid value 'rgb' for '--format <F>'
   [possible values: rgb888, rgb565, bgr233, rgb101010]""" + MORE
 
@@ -130,7 +147,7 @@ CALLS = [
     Call("help_on_faults", ["help", "faults"], output=faults()),
     Call("help_to_a_terminal", ["help", "faults"], device="/dev/ptmx"),
     bad_words("no_command", "", b"""error: 'rfb' requires a subcommand but one was not provided
-  [subcommands: script, loop, play, serve, view, share, help]
+  [subcommands: script, loop, play, serve, view, share, relay, help]
 
 Usage: rfb <COMMAND>""" + MORE),
     bad_words("word_of_no_meaning", "script picture.script",
@@ -155,6 +172,11 @@ Usage: rfb <COMMAND>""" + MORE),
               b"error: invalid value '0' for '--connections <K>': 0 is not in 1..=65535" + MORE),
     bad_words("share_of_nine_viewers", "share --port 5950 --viewers 9",
               b"error: invalid value '9' for '--viewers <N>': 9 is not in 1..=8" + MORE),
+    bad_words("relay_of_no_server", "relay --port 5950",
+              b"error: the following required arguments were not provided:\n  <SERVER>\n\n"
+              b"Usage: rfb relay --port <P> <SERVER>" + MORE),
+    bad_words("relay_of_a_server_with_no_display", "relay example.org:65536 --port 5950",
+              OF_ADDRESS % b"<SERVER>"),
     bad_words("view_without_a_port", "view",
               b"error: the following required arguments were not provided:\n  --port <P>\n\n"
               b"Usage: rfb view --port <P>" + MORE),
@@ -166,8 +188,7 @@ Usage: rfb <COMMAND>""" + MORE),
     bad_words("view_in_five_encodings",
               "view --port 1 --encodings raw,rre,hextile,copyrect,raw", b"bad encodings\n"),
     bad_words("view_of_a_server_with_no_display", "view example.org:65536",
-              b"""error: invalid value 'example.org:65536' for '[SERVER]'
-  [HOST, HOST:DISPLAY with a display from 0 to 99, HOST:PORT from port 100 on, or HOST::PORT]""" + MORE),
+              OF_ADDRESS % b"[SERVER]"),
 ]
 
 
