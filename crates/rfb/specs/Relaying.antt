@@ -6,7 +6,8 @@ use Rattle.rfb_session.specs.declared.console.Outcome.{Outcome}
 use Rattle.rfb_session.specs.declared.relay.Relay.{Relay}
 use Rattle.rfb_session.specs.doors.Tenants.{Happening, Goes}
 use Rattle.rfb_session.specs.declared.relay.setup.RelaySetup.{RelaySetup}
-use Rattle.rfb_session.specs.relay.Relay.{IsFreshRelay, RelaySteps, OpensRelay, DeclinesRelay}
+use Rattle.rfb_session.specs.relay.Server.{IsFreshRelay}
+use Rattle.rfb_session.specs.relay.Relay.{DeclinesRelay, OpensRelay, RelaySteps}
 use Rattle.rfb.specs.Ending.{EndsWell, FailsFor, IsNoEnd}
 use Rattle.rfb.specs.declared.fault.Failure.{Failure}
 use Rattle.rfb.specs.declared.relaying.relay_words.RelayOptions.{RelayOptions}
@@ -24,6 +25,7 @@ pub record IsSetupOf (options : RelayOptions) (setup : RelaySetup) : Type 0 wher
   pub handshake : setup.rules.handshake ≡ 1000 * options.handshake
   pub timeout : setup.rules.timeout ≡ option_map (λ seconds. 1000 * seconds) options.timeout
   pub hold : setup.rules.hold ≡ 1000
+  pub retry : setup.rules.retry ≡ option_map (λ seconds. 1000 * seconds) options.retry
   pub format : setup.viewer.format ≡ options.wants.format
   pub encodings : setup.viewer.encodings.items ≡ options.wants.encodings.items
   pub limit : setup.viewer.limit ≡ V38

@@ -161,7 +161,9 @@ A server's screen for up to eight viewers at once. The server has one viewer, wh
 must offer the security type None, and have a screen of at most 4096 pixels a side. Viewers wait
 until its first picture is there. Their keys, pointers and texts go to the server in the order in
 which they came. A text or a bell of the server's goes to none of them. Standard input is not read.
-It ends with the server, with status 1, or by --until-idle.
+It ends with the server, with status 1, or by --until-idle. With --retry S a server that went away is
+called again after S seconds, and so on until it comes. Until it has sent a whole picture viewers keep
+the last one, and what they do goes nowhere. Where it has another size they are let go.
 
 A line on standard output says what the server does:
   server up W H NAME          it is there, with a screen of this size; its name, by hexadecimal digits

@@ -20,6 +20,7 @@ use crate::relaying::setup::setup_of;
 use crate::serving::listener_at;
 use crate::sharing::READ_AT_ONCE;
 use crate::sharing::ending::result_of;
+use crate::sharing::shell::callee::Callee;
 use crate::sharing::shell::{First, Shell};
 use crate::sharing::speaker::Reporter;
 use crate::sharing::standard::open_streams;
@@ -37,8 +38,8 @@ use std::time::Clock;
 /// Relays a server until it goes away, or until the last viewer does if that is wanted. Standard
 /// input is not read. Sentences are said, unless the options are against them. It fails where
 /// standard output is closed, where the server cannot be reached, where nothing can listen, where
-/// there is no memory, where a line cannot be written, and where the server goes away: with the
-/// fault that a view of it would end with.
+/// there is no memory, where a line cannot be written, and where the server goes away and the
+/// options do not have it called again: with the fault that a view of it would end with.
 pub fn relay_at<P: AllocGlobal + Clock + Net, R: Read, W: Write, E: Write>(
     context: &mut Context<P, R, W, E>,
     options: RelayOptions<'_>,
@@ -61,7 +62,7 @@ pub fn relay_at<P: AllocGlobal + Clock + Net, R: Read, W: Write, E: Write>(
     let listener = listener_at(context.rt, options.listen, options.port, notes)?;
     listener.set_nonblocking(true)?;
     let alloc = context.alloc();
-    let first = First::Connection(server.as_raw_fd());
+    let first = First::Connection(server.as_raw_fd(), Callee::new(options.server));
     let shell = &mut Shell::new(context.rt, alloc, listener, first, streams)?;
     let relay = &mut relay_of(alloc, options, says);
     let mut part = Vec::from_elem(alloc, 0, READ_AT_ONCE)?;

@@ -46,6 +46,7 @@ pub mod ShareFeedLemmas
 pub mod ShareLawLemmas
 pub mod RelayLemmas
 pub mod RelayStepLemmas
+pub mod RelayShowLemmas
 pub mod ShareViewerLemmas
 pub mod ShareUpdateLemmas
 pub mod ShareCallLemmas

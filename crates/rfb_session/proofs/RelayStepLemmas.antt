@@ -1,7 +1,7 @@
 -- What a relay does, one call after the other.
 use Rattle.std.proofs.Common.{◌≡◌, ◌≢◌, ◌<◌, ◌+◌, ◌-◌, ◌++◌, ◌∙◌, ◌⊎◌, ℕ, List, Bool, true, false, Option, Some, None}
-use Rattle.std.proofs.Common.{Result, Ok, Err, OnOk, refl, sym, ap, subst, inl, inr, nat_lt, cond, is_some}
-use Rattle.std.proofs.Common.{length, append_assoc}
+use Rattle.std.proofs.Common.{Result, Ok, Err, OnOk, refl, sym, ap, subst, inl, inr, nat_lt, cond, is_some, not, ◌||◌}
+use Rattle.std.proofs.Common.{length, append_assoc, arith}
 use Rattle.std.specs.Result.{is_err}
 use Rattle.rfb_hello.specs.declared.fed.Fed.{Fed}
 use Rattle.rfb_picture.specs.Rect.{rect}
@@ -16,17 +16,24 @@ use Rattle.rfb_session.specs.declared.console.Outcome.{Outcome}
 use Rattle.rfb_session.specs.declared.console.Outcome.TheVariants.{NoMemory}
 use Rattle.rfb_session.specs.declared.console.desk.Desk.{Desk}
 use Rattle.rfb_session.specs.declared.relay.Relay.{Relay}
+use Rattle.rfb_session.specs.declared.relay.gone.Gone.{Gone}
 use Rattle.rfb_session.specs.console.Console.{KeepsSide, OpensRooms}
 use Rattle.rfb_session.specs.declared.console.plan.Rules.{Rules}
 use Rattle.rfb_session.specs.declared.share.event.SeatEvent.{SeatEvent}
 use Rattle.rfb_session.specs.LinkBytes.{IsCalled}
 use Rattle.rfb_session.specs.console.Console.{HearsBytes}
-use Rattle.rfb_session.specs.relay.Desk.{AsksFrom, FeedsDesk, TellsSome, told_of_server}
-use Rattle.rfb_session.specs.relay.Relay.{Asks, ended_by, passed_at, room_of_server, room_of_viewer, space_at_door}
-use Rattle.rfb_session.specs.relay.Relay.{KeepsAllButRooms, SparesUpTo, OpensDoors, KeepsButName, KeepsButWaits}
-use Rattle.rfb_session.specs.relay.Relay.{KeepsDeskBy, KeepsServer, Queues, Queued, NoRoom, Begins, Begun, BadSize}
-use Rattle.rfb_session.specs.relay.Relay.{NoRoomToAsk, Heeds, HearsShown, Fed_on, NoRoomToTell, HearsViewer}
-use Rattle.rfb_session.specs.relay.Relay.{CountsPassed, Passes, passed}
+use Rattle.rfb_session.specs.relay.Desk.{AsksFrom, FeedsDesk, LosesDesk, TellsSome, told_of_server}
+use Rattle.rfb_session.specs.relay.Calls.{Asks, ended_by, Queues, Queued, NoRoom, Passes, passed}
+use Rattle.rfb_session.specs.console.Time.{IsBy}
+use Rattle.rfb_session.specs.relay.Presence.{is_gone, is_shown, call_time, planned, WakesToCall}
+use Rattle.rfb_session.specs.declared.relay.presence.Presence.{Presence}
+use Rattle.rfb_session.specs.declared.relay.presence.Presence.TheVariants.{Coming, Shown, Gone as Lost}
+use Rattle.rfb_session.specs.relay.Doors.{CountsPassed, KeepsAllButRooms, KeepsButName, KeepsButWaits, KeepsDeskBy}
+use Rattle.rfb_session.specs.relay.Doors.{KeepsServer, OpensDoors, SparesUpTo, passed_at, room_of_server}
+use Rattle.rfb_session.specs.relay.Doors.{room_of_viewer, space_at_door}
+use Rattle.rfb_session.specs.relay.Server.{BadSize, Begins, Begun, EndsFor, Fed_on, HearsShown, Heeds, IsToldGone}
+use Rattle.rfb_session.specs.relay.Server.{NoRoomToAsk, NoRoomToTell, PlansCall, WakesFor, planned_for}
+use Rattle.rfb_session.specs.relay.Relay.{HearsViewer}
 
 pub none_of : {X : Type 0} (o : Option X) → is_some o ≡ false → o ≡ None
 none_of None is = refl
@@ -50,30 +57,98 @@ same_value x y same = cc
 
 -- ---- asking
 
-pub asks_kept : (o : Option Outcome) (a : Option Desk) (d e : Desk) (asked : Result (Unit {0}) AppendFault)
+kept : (o : Option Outcome) (a : Option Desk) (d e : Desk) (asked : Result (Unit {0}) AppendFault)
     (old new : List ℕ) → is_some o ≡ false → a ≡ Some d → AsksFrom d asked old new e → ended_by asked None ≡ None →
-    Asks o a (Some e) old new o
-asks_kept None a d e asked old new none is asks ends =
-    subst (λ (x : Option Desk). Asks None x (Some e) old new None) (sym is) (e, asked, refl, asks, sym ends)
-asks_kept (Some x) a d e asked old new none is asks ends = absurd (some_is_not x (none_of (Some x) none))
+    Asks true o a (Some e) old new o
+kept None a d e asked old new none is asks ends =
+    subst (λ (x : Option Desk). Asks true None x (Some e) old new None) (sym is) (e, asked, refl, asks, sym ends)
+kept (Some x) a d e asked old new none is asks ends = absurd (some_is_not x (none_of (Some x) none))
 
-pub asks_ended : (o : Option Outcome) (a : Option Desk) (d e : Desk) (asked : Result (Unit {0}) AppendFault)
+pub asks_kept : (shown : Bool) → true ≡ shown → (o : Option Outcome) (a : Option Desk) (d e : Desk)
+    (asked : Result (Unit {0}) AppendFault) (old new : List ℕ) → is_some o ≡ false → a ≡ Some d →
+    AsksFrom d asked old new e → ended_by asked None ≡ None → Asks shown o a (Some e) old new o
+asks_kept shown there o a d e asked old new none is asks ends =
+    subst (λ (s : Bool). Asks s o a (Some e) old new o) there (kept o a d e asked old new none is asks ends)
+
+ended : (o : Option Outcome) (a : Option Desk) (d e : Desk) (asked : Result (Unit {0}) AppendFault)
     (old new : List ℕ) → is_some o ≡ false → a ≡ Some d → AsksFrom d asked old new e →
-    ended_by asked None ≡ Some NoMemory → Asks o a (Some e) old new (Some NoMemory)
-asks_ended None a d e asked old new none is asks ends =
-    subst (λ (x : Option Desk). Asks None x (Some e) old new (Some NoMemory)) (sym is) (e, asked, refl, asks, sym ends)
-asks_ended (Some x) a d e asked old new none is asks ends = absurd (some_is_not x (none_of (Some x) none))
+    ended_by asked None ≡ Some NoMemory → Asks true o a (Some e) old new (Some NoMemory)
+ended None a d e asked old new none is asks ends =
+    subst (λ (x : Option Desk). Asks true None x (Some e) old new (Some NoMemory)) (sym is)
+    (e, asked, refl, asks, sym ends)
+ended (Some x) a d e asked old new none is asks ends = absurd (some_is_not x (none_of (Some x) none))
+
+pub asks_ended : (shown : Bool) → true ≡ shown → (o : Option Outcome) (a : Option Desk) (d e : Desk)
+    (asked : Result (Unit {0}) AppendFault) (old new : List ℕ) → is_some o ≡ false → a ≡ Some d →
+    AsksFrom d asked old new e → ended_by asked None ≡ Some NoMemory →
+    Asks shown o a (Some e) old new (Some NoMemory)
+asks_ended shown there o a d e asked old new none is asks ends =
+    subst (λ (s : Bool). Asks s o a (Some e) old new (Some NoMemory)) there
+    (ended o a d e asked old new none is asks ends)
 
 -- ---- a server that goes
 
--- the desk after it, whose share is as it was
-pub lost_desk : (was noted : Option Desk) (d e : Desk) (told : Desk → Desk → Type 0) → noted ≡ was → noted ≡ Some d →
-    e.share ≡ d.share → told d e → (a : Desk) → was ≡ Some a →
-    (b : Desk) × (Some e ≡ Some b) × (b.share ≡ a.share) × told a b
-lost_desk was noted d e told same is share tells a there =
-    let one : a ≡ d = same_value d a (sym is ∙ same ∙ there) in
-    subst (λ (x : Desk). (b : Desk) × (Some e ≡ Some b) × (b.share ≡ x.share) × told x b) (sym one)
-    (e, refl, share, tells)
+true_not : {X : Type 0} → true ≡ false → X
+true_not e = absurd (no e)
+  where
+    no : true ≡ false → ⊥
+    no e = cc e
+
+false_not : {X : Type 0} → false ≡ true → X
+false_not e = absurd (no e)
+  where
+    no : false ≡ true → ⊥
+    no e = cc e
+
+-- all had ended before
+pub over_ends : (retry : Option ℕ) (o n : Option Outcome) (how : Gone) → n ≡ o → is_some n ≡ true →
+    EndsFor retry o how n
+over_ends retry (Some ended) n how same is = same
+over_ends retry None n how same is =
+    false_not (sym (ap (λ (x : Option Outcome). is_some x) same) ∙ is)
+
+pub over_told : (shown : Bool) (o n : Option Outcome) (how : Gone) (a b : Option Desk) (ends : Option Outcome) →
+    n ≡ o → is_some n ≡ true → b ≡ a → IsToldGone shown o how a b ends
+over_told false o n how a b ends same is desk = desk
+over_told true (Some ended) n how a b ends same is desk = desk
+over_told true None n how a b ends same is desk =
+    false_not (sym (ap (λ (x : Option Outcome). is_some x) same) ∙ is)
+
+-- it ends now, unless it is called again
+pub ends_then : (retry : Option ℕ) (o n : Option Outcome) (how : Gone) (mid new : Option Outcome) → n ≡ o →
+    is_some n ≡ false → EndsFor retry None how mid → (new ≡ mid) ⊎ (new ≡ Some NoMemory) →
+    EndsFor retry o how new
+ends_then retry (Some ended) n how mid new same is was then =
+    true_not (sym (ap (λ (x : Option Outcome). is_some x) same) ∙ is)
+ends_then None None n how mid new same is was (inl stays) =
+    elim was [ inl e ↦ inl (stays ∙ e) | inr e ↦ inr (stays ∙ e) ]
+ends_then None None n how mid new same is was (inr ran) = inr ran
+ends_then (Some pause) None n how mid new same is was (inl stays) =
+    elim was [ inl e ↦ inl (stays ∙ e) | inr e ↦ inr (stays ∙ e) ]
+ends_then (Some pause) None n how mid new same is was (inr ran) = inr ran
+
+pub told_then : (shown : Bool) (o n : Option Outcome) (how : Gone) (was a b : Option Desk) (ends : Option Outcome) →
+    n ≡ o → is_some n ≡ false → a ≡ was → IsToldGone shown None how a b ends → IsToldGone shown o how was b ends
+told_then shown (Some ended) n how was a b ends same is desk told =
+    true_not (sym (ap (λ (x : Option Outcome). is_some x) same) ∙ is)
+told_then shown None n how was a b ends same is desk told =
+    subst (λ (x : Option Desk). IsToldGone shown None how x b ends) desk told
+
+pub shown_told : (b : Bool) (o : Option Outcome) (how : Gone) (was now : Option Desk) (ends : Option Outcome) →
+    b ≡ true → IsToldGone true o how was now ends → IsToldGone b o how was now ends
+shown_told true o how was now ends is told = told
+shown_told false o how was now ends is told = false_not is
+
+-- a line tells it at the desk that there is
+pub gone_told : (how : Gone) (a : Option Desk) (d e : Desk) (ends : Option Outcome) → a ≡ Some d →
+    e.share ≡ d.share → LosesDesk d how e ⊎ (ends ≡ Some NoMemory) → IsToldGone true None how a (Some e) ends
+gone_told how a d e ends there share told =
+    subst (λ (x : Option Desk). IsToldGone true None how x (Some e) ends) (sym there) (e, refl, share, told)
+
+pub gone_untold : (how : Gone) (a : Option Desk) (ends : Option Outcome) → a ≡ None →
+    IsToldGone true None how a a ends
+gone_untold how None ends none = refl
+gone_untold how (Some d) ends none = absurd (some_is_not d none)
 
 module _ {S : Type 0} where
   -- what stays beside the desk and the outcome
@@ -107,7 +182,7 @@ module _ {S : Type 0} where
       ((k : ℕ) → space_at_door opened (k + 1) ≡ space_at_door ended (k + 1)) → SparesUpTo 8 opened new →
       OpensDoors new
   rooms_so ended opened new rooms keeps server others spares =
-      let gone = spares.keeps.server.gone ∙ keeps.server.gone in
+      let gone = spares.keeps.server.presence ∙ keeps.server.presence in
       let outcome = spares.keeps.console.outcome ∙ keeps.console.outcome in
       let desk = spares.keeps.console.desk ∙ keeps.console.desk in
       record {
@@ -116,6 +191,44 @@ module _ {S : Type 0} where
             ∙ ap (λ (n : ℕ). cond (nat_lt (passed_at opened k) 4096) n 0) (others k ∙ rooms.seats k within)
             ∙ sym (rw (spares.keeps.server.passed, outcome, desk) refl);
       }
+
+  -- planning a call changes none of them
+  pub rooms_planned : (old : Relay S) (now : ℕ) (new : Relay S) → PlansCall old now new → OpensDoors old →
+      is_gone new.presence ≡ is_gone old.presence → OpensDoors new
+  rooms_planned old now new plans opens gone =
+      let rooms = plans.console.side.rooms in
+      let desk = plans.console.desk in
+      let outcome = plans.console.outcome in
+      record {
+        server = rw (rooms, gone, outcome) opens.server;
+        viewers = λ k within. rw (rooms, plans.beside.passed, desk, outcome) (opens.viewers k within);
+      }
+
+-- and whether it has gone stays so
+pub planned_gone : (retry : Option ℕ) (ended : Option Outcome) (now : ℕ) (p : Presence) →
+    is_gone (planned_for retry ended now p) ≡ is_gone p
+planned_gone None ended now p = refl
+planned_gone (Some pause) (Some o) now p = refl
+planned_gone (Some pause) None now Coming = refl
+planned_gone (Some pause) None now Shown = refl
+planned_gone (Some pause) None now (Lost how recall) = refl
+
+-- a call is planned
+pub plan_so : (retry : Option ℕ) (o : Option Outcome) (pause now : ℕ) (p q : Presence) → retry ≡ Some pause →
+    is_some o ≡ false → q ≡ planned now pause p → q ≡ planned_for retry o now p
+plan_so retry None pause now p q is none plan =
+    subst (λ (r : Option ℕ). q ≡ planned_for r None now p) (sym is) plan
+plan_so retry (Some ended) pause now p q is none plan = true_not none
+
+wakes : (t next : Option ℕ) → ((limit : ℕ) → IsBy limit t → IsBy limit next) → WakesToCall t next
+wakes None next by = tt
+wakes (Some time) next by = by time (omega arith)
+
+pub wakes_so : (retry : Option ℕ) (o : Option Outcome) (q : Presence) (t next : Option ℕ) → t ≡ call_time q →
+    ((limit : ℕ) → IsBy limit t → IsBy limit next) → WakesFor retry o q next
+wakes_so None o q t next is by = tt
+wakes_so (Some pause) (Some ended) q t next is by = tt
+wakes_so (Some pause) None q t next is by = subst (λ (x : Option ℕ). WakesToCall x next) is (wakes t next by)
 
 -- ---- a viewer that is ready
 
@@ -134,7 +247,7 @@ module _ {S : Type 0} where
         coming = stands.coming;
         waits = subst (λ (l : List ℕ). Queues l (reply ++ request_message false (rect 0 0 width height))
             new.to_server new.console.outcome) keeps.waits stands.waits;
-        gone = stands.gone ∙ keeps.gone;
+        presence = stands.presence ∙ keeps.presence;
         keeps = record {
           desk = stands.keeps.desk ∙ ap (λ (c : Console S). c.desk) keeps.console;
           goes_on = subst (λ (c : Console S). (new.console.outcome ≡ c.outcome)
@@ -151,7 +264,7 @@ module _ {S : Type 0} where
   pub begun_so : (old mid : Relay S) (now asked : Viewer) (reply : List ℕ) (width height : ℕ) (new : Relay S) →
       Queues old.to_server reply mid.to_server mid.console.outcome → KeepsDeskBy old mid → KeepsButWaits old mid →
       new.to_server ≡ mid.to_server ++ request_message false (rect 0 0 width height) → new.coming ≡ Some asked →
-      new.gone ≡ mid.gone → new.console ≡ mid.console → IsCalled (λ s. requested s) now asked →
+      new.presence ≡ mid.presence → new.console ≡ mid.console → IsCalled (λ s. requested s) now asked →
       Begins old now reply width height new
   begun_so old mid now asked reply width height new (NoRoom same ends) keeps waits sent coming gone console called =
       NoRoomToAsk (ap (λ (c : Console S). c.outcome) console ∙ ends)
@@ -160,7 +273,7 @@ module _ {S : Type 0} where
         coming = coming;
         waits = Queued (sent ∙ ap (λ (l : List ℕ). l ++ request_message false (rect 0 0 width height)) is
             ∙ append_assoc old.to_server reply (request_message false (rect 0 0 width height)));
-        gone = gone ∙ waits.gone;
+        presence = gone ∙ waits.presence;
         keeps = subst (λ (c : Console S). (c.desk ≡ old.console.desk)
             × ((c.outcome ≡ old.console.outcome) ⊎ (c.outcome ≡ Some NoMemory)) × KeepsSide old.console c
             → KeepsDeskBy old new) (sym console)
@@ -186,7 +299,7 @@ module _ {S : Type 0} where
       by (inl one) = Fed_on a m one.0 fed is refl feeds one.2 one.1 (one.3 ∙ outcome) (record {
         coming = heeds.server.coming ∙ keeps.coming;
         waits = heeds.server.waits ∙ keeps.waits;
-        gone = heeds.server.gone ∙ keeps.gone;
+        presence = heeds.server.presence ∙ keeps.presence;
         name = heeds.server.name ∙ keeps.name;
         passed = heeds.server.passed ∙ keeps.passed;
       })
@@ -198,8 +311,8 @@ module _ {S : Type 0} where
       (event : Option SeatEvent) → HearsBytes old.console k bytes used event heard →
       (old.console.outcome ≢ None → event ≡ None) → (old.console.desk ≡ None → event ≡ None) →
       KeepsSide old.console heard →
-      Passes (passed heard.rules.view_only event) heard.desk mid.console.desk old.to_server mid.to_server
-      heard.outcome mid.console.outcome → mid.passed ≡ old.passed → mid.coming ≡ old.coming → mid.gone ≡ old.gone →
+      Passes (passed (heard.rules.view_only || not (is_shown old.presence)) event) heard.desk mid.console.desk
+      old.to_server mid.to_server heard.outcome mid.console.outcome → mid.passed ≡ old.passed → mid.coming ≡ old.coming → mid.presence ≡ old.presence →
       before ≡ length old.to_server → CountsPassed mid k before new → HearsViewer old k bytes used new
   viewed_so old mid new k bytes used before heard event hears ended nobody side passes same coming gone was counts =
       record {
@@ -208,13 +321,13 @@ module _ {S : Type 0} where
         hears = hears;
         ended = λ one. elim one [ inl over ↦ ended over | inr none ↦ nobody none ];
         side = side;
-        passes = rw (counts.console, counts.waits) (subst (λ (r : Rules). Passes (passed r.view_only event) heard.desk
-            mid.console.desk old.to_server mid.to_server heard.outcome mid.console.outcome) side.stays.rules passes);
+        passes = rw (counts.console, counts.waits) (subst (λ (r : Rules). Passes
+            (passed (r.view_only || not (is_shown old.presence)) event) heard.desk mid.console.desk old.to_server mid.to_server heard.outcome mid.console.outcome) side.stays.rules passes);
         counted = counts.count
             ∙ ap (λ (n : ℕ). counted_on n (length mid.to_server - before)) (rw same refl)
             ∙ ap (λ (n : ℕ). counted_on (passed_at old k) (length mid.to_server - n)) was
             ∙ ap (λ (l : List ℕ). counted_on (passed_at old k) (length l - length old.to_server)) (sym counts.waits);
         others = λ j other. counts.others j other ∙ rw same refl;
         coming = counts.coming ∙ coming;
-        gone = counts.gone ∙ gone;
+        presence = counts.presence ∙ gone;
       }

@@ -18,8 +18,11 @@
 //! - While an update of the server's comes none is composed. One that takes longer than the rules
 //!   hold is shown as far as it has come.
 //! - A viewer is not read while much waits for the server of what it did. The others go on.
+//! - A server that goes away may be called again. Until its first update is whole viewers keep the
+//!   picture that they had; where its screen has another size then, they are let go.
 
 mod asking;
+mod calling;
 mod entrances;
 mod gone;
 mod hearing;
@@ -27,7 +30,9 @@ mod hosting;
 pub(crate) mod lines;
 mod losing;
 mod passing;
-mod setup;
+pub(crate) mod presence;
+pub(crate) mod setup;
+mod showing;
 
 ghost use Rattle.std.specs.Prelude.{◌≡◌, length};
 ghost use Rattle.std.specs.Option.{ForSome};
@@ -38,7 +43,9 @@ use crate::console::{Console, ConsoleSetup, Outcome, Speaker};
 use crate::slots::SLOTS;
 use arrayvec::ArrayVec;
 pub use gone::Gone;
+use presence::Presence;
 use rfb_viewer::Viewer;
+use setup::Given;
 pub use setup::RelaySetup;
 use std::alloc::Global;
 
@@ -54,33 +61,29 @@ pub struct Relay<S: Drop> {
     alloc: Global,
     // The seats, the lines and the notes. Its desk is there once there is a picture.
     console: Console<S>,
-    // The name that viewers get, unless they get the server's.
-    name: ArrayVec<u8, NAME_MAX>,
-    is_named: bool,
+    given: Given,
     // The name that the server gave.
     server_name: ArrayVec<u8, NAME_MAX>,
+    presence: Presence,
     // The server's viewer, as long as its picture is not shown.
     coming: Option<Viewer>,
     // What waits for the server.
     to_server: Channel,
     // How many bytes of it each viewer's doings are, counted until nothing waits.
     passed: [usize; SLOTS],
-    // How the server went away, once it has.
-    gone: Option<Gone>,
     ghost eight: { length passed ≡ 8 },
     ghost stands: { ForSome coming (λ viewer. ∥ StandsOrFailed viewer ∥₁) },
 }
 
 impl<S: Speaker + Drop> Relay<S> {
-    ghost use Rattle.rfb_session.specs.relay.Relay.{IsFreshRelay};
+    ghost use Rattle.rfb_session.specs.relay.Server.{IsFreshRelay};
 
     /// A relay whose server has said nothing yet.
     pub fn new(alloc: Global, setup: RelaySetup<'_>, speaker: S) -> Relay<S>
         ensures { IsFreshRelay setup.entry result }
     {
-        let mut name = ArrayVec::new();
-        let given = setup.name.unwrap_or(&[]);
-        let _ = name.try_extend_from_slice(&given[..given.len().min(NAME_MAX)]);
+        let given = Given::of(setup.name, setup.viewer);
+        let viewer = given.next_viewer(alloc);
         let console = ConsoleSetup {
             name: &[],
             rules: setup.rules,
@@ -88,13 +91,12 @@ impl<S: Speaker + Drop> Relay<S> {
         Relay {
             alloc,
             console: Console::new(alloc, &console, speaker),
-            name,
-            is_named: setup.name.is_some(),
+            given,
             server_name: ArrayVec::new(),
-            coming: Some(Viewer::of(alloc, setup.viewer)),
+            presence: Presence::Coming,
+            coming: Some(viewer),
             to_server: Channel::new(alloc),
             passed: [0; SLOTS],
-            gone: None,
         }
     }
 

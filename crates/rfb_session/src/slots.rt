@@ -123,3 +123,11 @@ pub(crate) fn empty<T: Drop>(slot: &mut Option<T>) -> bool
 {
     slot.take().is_some()
 }
+
+// Another takes its place. It is said of any type: what an assignment lets go is proved field by
+// field where the type is known.
+pub(crate) fn put<T: Drop>(place: &mut T, other: T)
+    ensures { place.new ≡ other }
+{
+    *place = other;
+}

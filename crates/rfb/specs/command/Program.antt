@@ -9,7 +9,7 @@ use Rattle.rfb.specs.command.Rules.{partial_rule, input_rule, output_rule, any_p
 use Rattle.rfb.specs.command.Rules.{connections_rule, forever_rule, picture_rule, viewers_rule, name_rule, idle_rule}
 use Rattle.rfb.specs.command.Rules.{first_updates_rule, timeout_rule, updates_rule}
 use Rattle.rfb.specs.command.Rules.{handshake_rule, hold_rule, shared_rule, view_only_rule, quiet_rule}
-use Rattle.rfb.specs.command.Rules.{needed_server_rule, other_name_rule, relay_encodings_rule}
+use Rattle.rfb.specs.command.Rules.{needed_server_rule, other_name_rule, relay_encodings_rule, retry_rule}
 
 -- a command of these words
 abbrev pub command : Text → List Rule → Shape
@@ -44,8 +44,8 @@ share_shape = command (codes "share")
 abbrev pub relay_shape : Shape
 relay_shape = command (codes "relay")
     (needed_server_rule ∷ port_rule ∷ listen_rule ∷ viewers_rule ∷ other_name_rule ∷ idle_rule
-    ∷ handshake_rule ∷ timeout_rule ∷ shared_rule ∷ view_only_rule ∷ quiet_rule ∷ format_rule
-    ∷ relay_encodings_rule ∷ [])
+    ∷ handshake_rule ∷ timeout_rule ∷ retry_rule ∷ shared_rule ∷ view_only_rule ∷ quiet_rule
+    ∷ format_rule ∷ relay_encodings_rule ∷ [])
 
 abbrev pub shape_named : Verb → Shape
 shape_named verbs.Script = script_shape

@@ -36,6 +36,7 @@ pub record GivesRelayOptions (rows : List Row) (options : RelayOptions) : Type 0
   pub until_idle : IsFlagged (codes "until-idle") rows options.until_idle
   pub handshake : GivesNumber (codes "handshake") 1 4294967295 rows options.handshake
   pub timeout : MayGiveNumber (codes "timeout") 1 4294967295 rows options.timeout
+  pub retry : MayGiveNumber (codes "retry") 1 4294967295 rows options.retry
   pub always_shared : IsFlagged (codes "always-shared") rows options.is_always_shared
   pub view_only : IsFlagged (codes "view-only") rows options.is_view_only
   pub quiet : IsFlagged (codes "quiet") rows options.is_quiet

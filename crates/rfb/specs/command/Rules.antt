@@ -147,6 +147,10 @@ first_updates_rule = number_rule (codes "updates") 1 4294967295
 abbrev pub timeout_rule : Rule
 timeout_rule = number_rule (codes "timeout") 1 4294967295
 
+-- after how many seconds a server that went away is called again, or else never
+abbrev pub retry_rule : Rule
+retry_rule = number_rule (codes "retry") 1 4294967295
+
 abbrev pub updates_rule : Rule
 updates_rule = record (number_rule (codes "updates") 1 4294967295) {
   defaults = codes "1" ∷ [];

@@ -40,6 +40,9 @@ pub struct RelayOptions<'a> {
     /// If there is a number, a viewer is let go for which bytes waited for so many seconds while it
     /// took none of them and sent none.
     pub timeout: Option<u32>,
+    /// If there is a number, a server that went away is called again after so many seconds, and
+    /// after as many once more, until somebody comes.
+    pub retry: Option<u32>,
     /// Whether a viewer that asks for the screen alone shares it all the same.
     pub is_always_shared: bool,
     /// Whether no key, pointer or text of a viewer's goes to the server.
@@ -69,6 +72,12 @@ pub const RELAY: &Usage<'static> = &Usage {
         UNTIL_IDLE,
         HANDSHAKE,
         PATIENCE,
+        Word {
+            name: "retry",
+            mark: Mark::Long,
+            takes: Takes::Number("S", u32::MAX),
+            help: "The seconds after which a server that went away is called again, 1 to 4294967295",
+        },
         ALWAYS_SHARED,
         Word {
             name: "view-only",
@@ -103,6 +112,7 @@ pub fn relay_options_in<'a>(given: &ArgMatches<'a>) -> Result<RelayOptions<'a>, 
         until_idle: is_given(given, "until-idle"),
         handshake: count_or(given, "handshake", HANDSHAKE_SECONDS),
         timeout: number_given(given, "timeout"),
+        retry: number_given(given, "retry"),
         is_always_shared: is_given(given, "always-shared"),
         is_view_only: is_given(given, "view-only"),
         is_quiet: is_given(given, "quiet"),

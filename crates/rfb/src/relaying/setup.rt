@@ -30,6 +30,7 @@ pub fn setup_of<'a>(options: RelayOptions<'a>) -> RelaySetup<'a>
             handshake: millis(options.handshake),
             timeout: millis_of(options.timeout),
             hold: millis(HOLD),
+            retry: millis_of(options.retry),
         },
         viewer: viewer_setup(options.wants.format, options.wants.encodings),
     }

@@ -30,6 +30,7 @@ pub fn setup_of<'a>(options: &ShareOptions<'a>) -> ConsoleSetup<'a>
             handshake: millis(options.handshake),
             timeout: millis_of(options.timeout),
             hold: millis(options.hold),
+            retry: None,
         },
     }
 }

@@ -1,10 +1,12 @@
 //! The system as the loop of a share or a relay knows it: which doors are ready, the time, and who
 //! comes.
 
+pub mod callee;
 mod entry;
 mod pace;
 
 use crate::sharing::ready::Ready;
+use crate::sharing::shell::callee::Callee;
 use crate::sharing::standard::{Blocking, ERRORS, INPUT, OUTPUT, Streams};
 use mio::unix::SourceFd;
 use mio::{Events, Interest, Poll, Token};
@@ -35,11 +37,11 @@ enum Ear {
 
 /// What stands at the first door.
 #[derive(Clone, Copy)]
-pub enum First {
+pub enum First<'a> {
     /// Standard input, which blocks.
     Input,
-    /// A connection with this descriptor, which does not.
-    Connection(RawFd),
+    /// A connection with this descriptor, which does not, and whom to call once it has ended.
+    Connection(RawFd, Callee<'a>),
 }
 
 /// A poll over the doors and a listener, and a clock.
@@ -56,11 +58,13 @@ pub struct Shell<'a, L, C> {
     writes: Ready,
     // Standard input, where it stands at the first door.
     input: Option<Blocking>,
+    // Whom to call, where anybody.
+    callee: Option<Callee<'a>>,
     output: Blocking,
     errors: Blocking,
     listener: L,
     ear: Ear,
-    // The connection that was accepted last.
+    // The connection that was accepted last, or begun.
     newest: Option<RawFd>,
     // Whether anything happened since the last wait began.
     is_stirred: bool,
@@ -75,17 +79,20 @@ impl<'a, L: AsRawFd + Drop, C: Net + Clock> Shell<'a, L, C> {
         rt: &'a C,
         alloc: Global,
         listener: L,
-        first: First,
+        first: First<'a>,
         streams: Streams,
     ) -> io::Result<Shell<'a, L, C>> {
         let poll = Poll::new(rt)?;
         let registry = poll.registry();
         let (reads, writes) = (Interest::READABLE, Interest::WRITABLE);
-        let input = match first {
-            First::Input => Some(Blocking::at(OWNER, INPUT, reads, streams.input, registry)),
-            First::Connection(fd) => {
+        let (input, callee) = match first {
+            First::Input => {
+                let input = Blocking::at(OWNER, INPUT, reads, streams.input, registry);
+                (Some(input), None)
+            }
+            First::Connection(fd, callee) => {
                 registry.register(&mut SourceFd(&fd), Token(OWNER), reads | writes)?;
-                None
+                (None, Some(callee))
             }
         };
         let output = Blocking::at(LINES, OUTPUT, writes, streams.output, registry);
@@ -110,6 +117,7 @@ impl<'a, L: AsRawFd + Drop, C: Net + Clock> Shell<'a, L, C> {
             reads,
             writes,
             input,
+            callee,
             output,
             errors,
             listener,

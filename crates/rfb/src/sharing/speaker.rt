@@ -36,7 +36,8 @@ impl Speaker for Reporter {
             } => Ok(()),
             Saying::NoScreen { number } => say_of_line(*number, Reason::Said(NO_SCREEN), note),
             Saying::Left { seat, why } => say_left(*seat, *why, note),
-            Saying::ServerLeft { why } => say_gone(*why, note),
+            Saying::ServerLeft { why, again } => say_gone(*why, *again, note),
+            Saying::ServerBack => writeln!(note, "rfb: the server is back"),
         };
     }
 }
@@ -68,11 +69,36 @@ fn say_left(seat: u8, why: Why, note: &mut Note) -> fmt::Result {
             )
         }
         Why::Newcomer => writeln!(note, "its handshake was not done, and another one came"),
+        Why::NewSize { width, height } => {
+            writeln!(
+                note,
+                "the server is back, and its screen is {width} by {height} now"
+            )
+        }
     }
 }
 
-// Says why the server that is relayed goes away, or is let go.
-fn say_gone(why: Gone, note: &mut Note) -> fmt::Result {
+// Says why the server that is relayed goes away, and when it is called again, if it is. The pause
+// before that is whole seconds, in milliseconds.
+fn say_gone(why: Gone, again: Option<u64>, note: &mut Note) -> fmt::Result {
+    let Some(pause) = again else {
+        return say_why_gone(why, note);
+    };
+    say_why_away(why, note)?;
+    let seconds = pause / 1000;
+    writeln!(note, "rfb: the server is called again in {seconds} s")
+}
+
+// Says why one is away that is called again. It may have been called before.
+fn say_why_away(why: Gone, note: &mut Note) -> fmt::Result {
+    match why {
+        Gone::Device => writeln!(note, "rfb: there is no connection to the server"),
+        other => say_why_gone(other, note),
+    }
+}
+
+// Says why it goes away, or is let go.
+fn say_why_gone(why: Gone, note: &mut Note) -> fmt::Result {
     match why {
         Gone::Closed => writeln!(note, "rfb: the server leaves: it closed its connection"),
         Gone::Device => writeln!(note, "rfb: the server leaves: its connection broke"),

@@ -4,6 +4,7 @@ ghost use Rattle.std.specs.Prelude.{◌≤◌, None, length};
 ghost use Rattle.std.specs.Io.{WritesAtMost};
 
 use crate::sharing::standard::{ERRORS, OUTPUT, Streams, takes_more};
+use mio::net::TcpStream;
 use rfb_session::SLOTS;
 use rfb_session::console::DOORS;
 use rfb_session::doors::{Counted, Duplex, Place};
@@ -26,6 +27,9 @@ pub enum Tenant<'a, R, W, E, S> {
     Errors(&'a mut E),
     /// A connection that does not wait.
     Connection(S),
+    /// One that was begun from here, and that may not be there yet: then a read or a write would
+    /// wait.
+    Called(TcpStream),
     /// A stream without which the process was started. It has ended, and what is written is lost.
     Missing,
 }
@@ -60,6 +64,7 @@ impl<R: Read, W: Write, E: Write, S: Read + Write> Duplex for Tenant<'_, R, W, E
         match self {
             Tenant::Input(input) => input.read(buf),
             Tenant::Connection(stream) => stream.read(buf),
+            Tenant::Called(stream) => stream.read(buf),
             Tenant::Output(_) | Tenant::Errors(_) => Err(io::Error::from(ErrorKind::WouldBlock)),
             Tenant::Missing => Ok(0),
         }
@@ -69,6 +74,7 @@ impl<R: Read, W: Write, E: Write, S: Read + Write> Duplex for Tenant<'_, R, W, E
         match self {
             Tenant::Input(_) => Err(io::Error::from(ErrorKind::WouldBlock)),
             Tenant::Connection(stream) => stream.write(buf),
+            Tenant::Called(stream) => stream.write(buf),
             Tenant::Output(output) => write_some(OUTPUT, output, buf),
             Tenant::Errors(errors) => write_some(ERRORS, errors, buf),
             Tenant::Missing => Ok(buf.len()),

@@ -186,6 +186,13 @@ module _ {S : Type 0} where
     pub next : new.next ≡ old.next
     pub stays : Stays old new
 
+  -- nothing but when the next turn is wanted
+  pub record KeepsButNext (old new : Console S) : Type 0 where
+    pub desk : new.desk ≡ old.desk
+    pub outcome : new.outcome ≡ old.outcome
+    pub notes : new.notes ≡ old.notes
+    pub side : KeepsSide old new
+
   -- nothing but notes has changed
   pub record KeepsButNotes (old new : Console S) : Type 0 where
     pub desk : new.desk ≡ old.desk

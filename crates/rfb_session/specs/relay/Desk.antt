@@ -1,8 +1,11 @@
 -- A desk whose share has the picture of a server's viewer: what is done there for the server.
-use Rattle.std.specs.Prelude.{◌≡◌, ◌≢◌, ℕ, Bool, true, false, List, ◌++◌, Option, Some, None, Result, Ok, Err}
+use Rattle.std.specs.Prelude.{◌≡◌, ◌≢◌, ◌<◌, ℕ, Bool, true, false, List, ◌++◌, Option, Some, None, Result, Ok, Err}
+use Rattle.rfb_picture.specs.Places.{has_bit}
 use Rattle.rfb_picture.specs.Rect.{rect}
 use Rattle.rfb_picture.specs.declared.rect.Rect.{Rect}
 use Rattle.rfb_hello.specs.declared.fed.Fed.{Fed}
+use Rattle.rfb_hello.specs.declared.version.Version.TheVariants.{V38}
+use Rattle.rfb_server.specs.Standing.{serving_with}
 use Rattle.rfb_viewer.specs.declared.event.ViewerEvent.{ViewerEvent}
 use Rattle.rfb_viewer.specs.declared.event.ViewerEvent.TheVariants.{Reply, Ready, UpdateDone, Bell, CutText}
 use Rattle.rfb_viewer.specs.declared.event.ViewerEvent.TheVariants.{ColourMapSkipped}
@@ -22,11 +25,19 @@ use Rattle.rfb_session.specs.declared.console.desk.Hold.TheVariants.{Shown, Begi
 use Rattle.rfb_session.specs.declared.console.plan.Rules.{Rules}
 use Rattle.rfb_session.specs.declared.relay.gone.Gone.{Gone}
 use Rattle.rfb_session.specs.declared.share.Share.{Share}
-use Rattle.rfb_session.specs.Share.{screen_of, viewer_of}
-use Rattle.rfb_session.specs.ShareMirrors.{FeedsOn, FailsOn, MakesOn}
+use Rattle.rfb_session.specs.Share.{IsEmptyShare, screen_of, serving_in, viewer_of}
+use Rattle.rfb_session.specs.ShareMirrors.{FeedsOn, FailsOn, MakesOn, ShowsOther}
 use Rattle.rfb_session.specs.ShareAsking.{SomeAsked}
 use Rattle.rfb_session.specs.console.Desk.{nobody, guest_at, lines_of}
+use Rattle.rfb_session.specs.console.Viewers.{LetsAllGo}
 use Rattle.rfb_session.specs.relay.Telling.{up_line, IsDownLine, bell_line, server_text_line}
+
+-- a share of the picture that a viewer has: nobody has come, and viewers get this name
+pub record IsShareOf (viewer : Viewer) (name : List ℕ) (text_limit : ℕ) (share : Share) : Type 0 where
+  pub viewer_is : viewer_of share ≡ Some viewer
+  pub empty : IsEmptyShare share
+  pub made : serving_in share
+      ≡ serving_with V38 (screen_of share).width (screen_of share).height name text_limit
 
 -- a desk of a share whose picture is a server's: nobody has come, and a line tells that the server is there
 pub record IsOver (share : Share) (rules : Rules) (name : List ℕ) (desk : Desk) : Type 0 where
@@ -36,6 +47,10 @@ pub record IsOver (share : Share) (rules : Rules) (name : List ℕ) (desk : Desk
   pub rules_are : desk.rules ≡ rules
   pub hold : desk.hold ≡ Shown
   pub first : desk.first ≡ 0
+
+-- a line tells that a share's picture is shown, and the server's name
+abbrev pub up_of : Share → List ℕ → List ℕ
+up_of share name = up_line (screen_of share).width (screen_of share).height name
 
 -- what is known of viewers is as it was, and so are the rules and the seat that is first
 pub record KeepsGuests (old new : Desk) : Type 0 where
@@ -147,3 +162,24 @@ pub record LosesDesk (old : Desk) (gone : Gone) (new : Desk) : Type 0 where
   pub line_is : IsDownLine gone line
   pub lines : lines_of new ≡ lines_of old ++ line
   pub keeps : KeepsGuests old new
+
+-- ---- a server that came back
+
+-- the picture of another viewer of the server's is shown in place of the one that was
+pub record ShowsAgain (old : Desk) (viewer : Viewer) (new : Desk) : Type 0 where
+  pub share : ShowsOther old.share viewer new.share
+  pub hold : new.hold ≡ Shown
+  pub lines : lines_of new ≡ lines_of old
+  pub keeps : KeepsGuests old new
+
+-- a share of another size is: all viewers are let go, and a line tells each
+pub record BeginsAnew (old : Desk) (share : Share) (new : Desk) : Type 0 where
+  pub set : ℕ
+  pub all : (k : ℕ) → k < 8 → has_bit set k ≡ true
+  pub left : Desk
+  pub leaves : LetsAllGo old set left
+  pub share_is : new.share ≡ share
+  pub came : new.came ≡ false
+  pub hold : new.hold ≡ Shown
+  pub lines : lines_of new ≡ lines_of left
+  pub keeps : KeepsGuests left new

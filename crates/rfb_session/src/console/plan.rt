@@ -29,4 +29,6 @@ pub struct Rules {
     pub timeout: Option<u64>,
     /// How long updates are held back at most.
     pub hold: u64,
+    /// The pause before a relay calls a server that went away, if it does. Else all ends.
+    pub retry: Option<u64>,
 }

@@ -30,6 +30,11 @@ pub enum Why {
     Stuck(u64),
     /// Another one came, and its own handshake was not done.
     Newcomer,
+    /// The screen of a server that came back has this size, which is another.
+    NewSize {
+        width: u16,
+        height: u16,
+    },
 }
 
 /// What there is to say.
@@ -57,7 +62,11 @@ pub enum Saying<'a> {
     /// The server of a relay has gone away.
     ServerLeft {
         why: Gone,
+        /// The pause before it is called again, in milliseconds, if it is.
+        again: Option<u64>,
     },
+    /// It came back, and its screen is shown.
+    ServerBack,
 }
 
 /// Who makes sentences.

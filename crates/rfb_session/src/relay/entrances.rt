@@ -1,10 +1,10 @@
 //! A relay as a core: what happens at its doors.
 
 ghost use Rattle.std.specs.Prelude.{◌≡◌, ◌≤◌, ◌<◌, ◌+◌, ℕ, length};
-ghost use Rattle.rfb_session.specs.relay.Relay.{RelaySteps, waits_at_door, space_at_door};
-ghost use Rattle.rfb_session.specs.relay.Relay.{closed_at_door, room_of_server, KeepsAllButRooms};
-ghost use Rattle.rfb_session.specs.relay.Relay.{SparesUpTo};
-ghost use Rattle.rfb_session.specs.relay.Relay.{SparesOne, Arrives, HearsAtDoor};
+ghost use Rattle.rfb_session.specs.relay.Doors.{Arrives, KeepsAllButRooms, SparesOne, SparesUpTo};
+ghost use Rattle.rfb_session.specs.relay.Doors.{closed_at_door, room_of_server, space_at_door};
+ghost use Rattle.rfb_session.specs.relay.Doors.{waits_at_door};
+ghost use Rattle.rfb_session.specs.relay.Relay.{HearsAtDoor, RelaySteps};
 ghost use Rattle.rfb_session.specs.console.Console.{KeepsSide};
 
 use crate::console::Speaker;
@@ -52,7 +52,6 @@ impl<S: Speaker + Drop> Core for Relay<S> {
     fn failed(&mut self, door: usize) {
         if door == SERVER {
             self.lose_server(Gone::Device);
-            self.forget_server();
             self.console.close_room(door);
         } else {
             self.console.failed(door);
@@ -77,7 +76,7 @@ impl<S: Speaker + Drop> Core for Relay<S> {
 
     fn is_closed(&self, door: usize) -> bool {
         if door == SERVER {
-            self.gone.is_some()
+            self.presence.is_gone()
         } else {
             self.console.is_closed(door)
         }
@@ -89,6 +88,7 @@ impl<S: Speaker + Drop> Core for Relay<S> {
         self.console.end_turn(now);
         self.open_server();
         self.spare_seats();
+        self.plan_call(now);
         self.console.next
     }
 }
@@ -100,6 +100,7 @@ impl<S: Speaker + Drop> Relay<S> {
         ensures used { (0 < result) × (result ≤ length bytes.now) }
         ensures hears { HearsAtDoor self.old door bytes.now result self.new }
         ensures side { KeepsSide self.old.console self.new.console }
+        ensures given { self.new.given ≡ self.old.given }
     {
         if door == SERVER {
             return self.hear_server(bytes);
@@ -111,19 +112,21 @@ impl<S: Speaker + Drop> Relay<S> {
     }
 
     // How much of the server is read before the next turn: nothing once it has gone.
-    fn open_server(&mut self)
+    pub(crate) fn open_server(&mut self)
         ensures keeps { KeepsAllButRooms self.old self.new }
         ensures room { space_at_door self.new 0 ≡ room_of_server self.old }
         ensures others { (k : ℕ) → space_at_door self.new (k + 1) ≡ space_at_door self.old (k + 1) }
+        ensures given { self.new.given ≡ self.old.given }
     {
-        let is_open = self.gone.is_none() && self.console.outcome.is_none();
+        let is_open = !self.presence.is_gone() && self.console.outcome.is_none();
         let room = if is_open { ROOM_OF_SERVER } else { 0 };
         self.console.open_room(SERVER, room);
     }
 
     // Where much waits for the server of what a viewer did, it is not read.
     fn spare_seats(&mut self)
-        ensures { SparesUpTo 8 self.old self.new }
+        ensures spares { SparesUpTo 8 self.old self.new }
+        ensures given { self.new.given ≡ self.old.given }
     {
         for place in 0..SLOTS {
             self.spare_seat(place);
@@ -132,7 +135,8 @@ impl<S: Speaker + Drop> Relay<S> {
 
     fn spare_seat(&mut self, place: usize)
         requires { place < 8 }
-        ensures { SparesOne self.old place self.new }
+        ensures spares { SparesOne self.old place self.new }
+        ensures given { self.new.given ≡ self.old.given }
     {
         if self.passed[place] >= PASSED_MOST {
             self.console.close_room(place + 1);
@@ -143,7 +147,8 @@ impl<S: Speaker + Drop> Relay<S> {
     // counted any more.
     fn arrive(&mut self, count: usize)
         requires { count ≤ length self.old.to_server }
-        ensures { Arrives self.old count self.new }
+        ensures arrives { Arrives self.old count self.new }
+        ensures given { self.new.given ≡ self.old.given }
     {
         self.to_server.arrive(count);
         if self.to_server.len() == 0 {

@@ -1,17 +1,15 @@
 //! Bytes of the server's.
 
-ghost use Rattle.std.specs.Prelude.{◌≡◌, ◌≤◌, ◌<◌, length, cond};
+ghost use Rattle.std.specs.Prelude.{◌≡◌, ◌≤◌, ◌<◌, length};
 ghost use Rattle.rfb_session.specs.Mirrors.{StandsOrFailed};
 ghost use Rattle.rfb_session.specs.console.Console.{KeepsSide};
-ghost use Rattle.rfb_session.specs.relay.Relay.{HearsServer, HearsComing, HearsShown, Meets};
-ghost use Rattle.rfb_session.specs.relay.Relay.{Begins, Opens, Heeds, Stands, Queues};
-ghost use Rattle.rfb_session.specs.relay.Relay.{KeepsServer, KeepsButName, KeepsButWaits};
-ghost use Rattle.rfb_session.specs.relay.Relay.{KeepsDeskBy, is_shown_size};
+ghost use Rattle.rfb_session.specs.relay.Calls.{Queues, is_shown_size};
+ghost use Rattle.rfb_session.specs.relay.Doors.{KeepsButName, KeepsButWaits, KeepsDeskBy};
+ghost use Rattle.rfb_session.specs.relay.Server.{Begins, HearsComing, HearsServer, HearsShown};
+ghost use Rattle.rfb_session.specs.relay.Server.{Heeds, Meets, Stands};
 
-use crate::console::desk::Desk;
 use crate::console::{Outcome, Speaker};
-use crate::relay::{Gone, Relay};
-use crate::share::Share;
+use crate::relay::{Gone, NAME_MAX, Relay};
 use crate::slots::seat_in;
 use rfb_hello::Fed;
 use rfb_picture::Rect;
@@ -28,8 +26,9 @@ impl<S: Speaker + Drop> Relay<S> {
         ensures used { (0 < result) × (result ≤ length bytes.now) }
         ensures hears { HearsServer self.old bytes.now result self.new }
         ensures side { KeepsSide self.old.console self.new.console }
+        ensures given { self.new.given ≡ self.old.given }
     {
-        if self.console.outcome.is_some() || self.gone.is_some() {
+        if self.console.outcome.is_some() || self.presence.is_gone() {
             return bytes.len();
         }
         match self.coming.take() {
@@ -45,6 +44,7 @@ impl<S: Speaker + Drop> Relay<S> {
         ensures used { (0 < result) × (result ≤ length bytes.now) }
         ensures hears { HearsComing self.old viewer bytes.now result self.new }
         ensures side { KeepsSide self.old.console self.new.console }
+        ensures given { self.new.given ≡ self.old.given }
     {
         match viewer.feed(bytes) {
             Ok(Fed { used, event }) => {
@@ -63,6 +63,7 @@ impl<S: Speaker + Drop> Relay<S> {
         requires stands { ∥ StandsOrFailed viewer ∥₁ }
         ensures meets { Meets self.old viewer event self.new }
         ensures side { KeepsSide self.old.console self.new.console }
+        ensures given { self.new.given ≡ self.old.given }
     {
         match event {
             Some(ViewerEvent::Reply(reply)) => self.stand(viewer, reply.as_slice()),
@@ -89,6 +90,7 @@ impl<S: Speaker + Drop> Relay<S> {
         requires stands { ∥ StandsOrFailed viewer ∥₁ }
         ensures stands { Stands self.old viewer bytes.now self.new }
         ensures side { KeepsSide self.old.console self.new.console }
+        ensures given { self.new.given ≡ self.old.given }
     {
         self.send(bytes);
         seat_in(&mut self.coming, viewer);
@@ -96,10 +98,11 @@ impl<S: Speaker + Drop> Relay<S> {
 
     // Keeps the beginning of the server's name.
     fn take_name(&mut self, name: &[u8])
-        ensures { KeepsButName self.old self.new }
+        ensures keeps { KeepsButName self.old self.new }
+        ensures given { self.new.given ≡ self.old.given }
     {
         self.server_name.clear();
-        let few = name.len().min(super::NAME_MAX);
+        let few = name.len().min(NAME_MAX);
         let _ = self.server_name.try_extend_from_slice(&name[..few]);
     }
 
@@ -108,6 +111,7 @@ impl<S: Speaker + Drop> Relay<S> {
         requires stands { ∥ StandsOrFailed viewer ∥₁ }
         ensures begins { Begins self.old viewer reply.now width height self.new }
         ensures side { KeepsSide self.old.console self.new.console }
+        ensures given { self.new.given ≡ self.old.given }
     {
         self.send(reply);
         if !is_shown_size(width, height) {
@@ -125,30 +129,13 @@ impl<S: Speaker + Drop> Relay<S> {
         seat_in(&mut self.coming, viewer);
     }
 
-    // Shows the first picture: viewers may come.
-    fn open(&mut self, viewer: Viewer)
-        requires stands { ∥ StandsOrFailed viewer ∥₁ }
-        ensures opens { Opens self.old viewer self.new }
-        ensures side { KeepsSide self.old.console self.new.console }
-    {
-        let rules = self.console.rules;
-        let told = self.server_name.as_slice();
-        let name = name_of(self.is_named, self.name.as_slice(), told);
-        match Share::of_viewer(self.alloc, viewer, name, rules.text_limit) {
-            Ok(share) => match Desk::over(self.alloc, share, rules, told) {
-                Ok(desk) => seat_in(&mut self.console.desk, desk),
-                Err(_) => self.console.outcome = Some(Outcome::NoMemory),
-            },
-            Err(viewer) => self.lose_server(not_shown(&viewer)),
-        }
-    }
-
     // Takes bytes of a server whose picture is shown.
     fn hear_shown(&mut self, bytes: &[u8]) -> usize
         requires some { 0 < length bytes.now }
         ensures used { (0 < result) × (result ≤ length bytes.now) }
         ensures hears { HearsShown self.old bytes.now result self.new }
         ensures side { KeepsSide self.old.console self.new.console }
+        ensures given { self.new.given ≡ self.old.given }
     {
         let Some(desk) = &mut self.console.desk else {
             return bytes.len();
@@ -168,7 +155,8 @@ impl<S: Speaker + Drop> Relay<S> {
 
     // Tells a bell and a text, which are not passed on.
     fn heed(&mut self, event: Option<ViewerEvent>)
-        ensures { Heeds self.old event self.new }
+        ensures heeds { Heeds self.old event self.new }
+        ensures given { self.new.given ≡ self.old.given }
     {
         let Some(desk) = &mut self.console.desk else {
             return;
@@ -185,6 +173,7 @@ impl<S: Speaker + Drop> Relay<S> {
             self.new.console.outcome }
         ensures keeps { KeepsDeskBy self.old self.new }
         ensures server { KeepsButWaits self.old self.new }
+        ensures given { self.new.given ≡ self.old.given }
     {
         if self.to_server.send(bytes).is_err() {
             self.console.outcome = Some(Outcome::NoMemory);
@@ -197,25 +186,4 @@ fn is_shown_size(width: u16, height: u16) -> bool
     ensures { result ≡ is_shown_size width height }
 {
     width > 0 && height > 0 && width <= SIDE_MAX && height <= SIDE_MAX
-}
-
-// The name that viewers get: what was given, or what the server told.
-fn name_of<'x>(is_named: bool, given: &'x [u8], told: &'x [u8]) -> &'x [u8]
-    requires given { length given.now ≤ 255 }
-    requires told { length told.now ≤ 255 }
-    ensures value { result.now ≡ cond is_named given.now told.now }
-    ensures few { length result.now ≤ 255 }
-{
-    if is_named { given } else { told }
-}
-
-// How a server whose picture is not shown goes.
-fn not_shown(viewer: &Viewer) -> Gone {
-    match viewer.picture() {
-        Some(picture) => Gone::Size {
-            width: picture.width(),
-            height: picture.height(),
-        },
-        None => Gone::Device,
-    }
 }

@@ -1,10 +1,10 @@
 //! Who comes to a relay.
 
-ghost use Rattle.rfb_session.specs.relay.Relay.{OpensRelay, DeclinesRelay};
+ghost use Rattle.rfb_session.specs.relay.Relay.{DeclinesRelay, OpensRelay};
 
 use crate::console::Speaker;
 use crate::doors::{Core, Host};
-use crate::relay::Relay;
+use crate::relay::{Relay, SERVER};
 use crate::slots::SLOTS;
 
 impl<S: Speaker + Drop> Host for Relay<S> {
@@ -17,11 +17,18 @@ impl<S: Speaker + Drop> Host for Relay<S> {
     }
 
     fn calls(&self) -> bool {
-        false
+        self.is_due()
     }
 
     fn opened(&mut self, doors: usize, from: &str) -> Option<usize> {
-        self.console.opened(doors, from)
+        if !self.is_due() {
+            return self.console.opened(doors, from);
+        }
+        if doors == 0 {
+            return None;
+        }
+        self.begin_again();
+        Some(SERVER)
     }
 
     /// What waits for viewers is written yet, for as long as the console's patience lasts.

@@ -1,7 +1,15 @@
 //! What a relay is asked for.
 
+ghost use Rattle.std.specs.Prelude.{◌≡◌, ◌≤◌, [], ℕ, length, cond, is_some, option_copied};
+ghost use Rattle.rfb_viewer.specs.Standing.{StandsFor};
+ghost use Rattle.rfb_viewer.specs.Viewer.{first_viewer};
+
 use crate::console::Rules;
-use rfb_viewer::ViewerSetup;
+use crate::relay::NAME_MAX;
+use arrayvec::ArrayVec;
+use rfb_viewer::{Viewer, ViewerSetup};
+use rfb_wire::Encoding;
+use std::alloc::Global;
 
 /// What a relay is made with.
 #[derive(Drop)]
@@ -10,8 +18,71 @@ pub struct RelaySetup<'a> {
     /// the server's.
     pub name: Option<&'a [u8]>,
     /// The rules that it goes by. `hold` is how long an update of the server's may take before
-    /// what has come of it is shown.
+    /// what has come of it is shown, and `retry` the pause before a server that went away is
+    /// called again.
     pub rules: Rules,
-    /// What the server's viewer is made with.
+    /// What the server's viewers are made with.
     pub viewer: ViewerSetup,
+}
+
+// What it keeps of that.
+#[derive(Debug, Drop)]
+pub(crate) struct Given {
+    // The name that viewers get, unless they get the server's.
+    name: ArrayVec<u8, NAME_MAX>,
+    is_named: bool,
+    pub viewer: ViewerSetup,
+}
+
+impl Given {
+    ghost use Rattle.rfb_session.specs.relay.Setup.{name_by, viewing_by};
+
+    /// A name of which 255 bytes are kept, and what viewers are made with.
+    pub(crate) fn of(name: Option<&[u8]>, viewer: ViewerSetup) -> Given
+        ensures { result.viewer ≡ viewer }
+    {
+        let given = name.unwrap_or(&[]);
+        let mut kept = ArrayVec::new();
+        let _ = kept.try_extend_from_slice(&given[..given.len().min(NAME_MAX)]);
+        Given {
+            name: kept,
+            is_named: name.is_some(),
+            viewer,
+        }
+    }
+
+    /// The name that viewers get: what was given, or what the server told.
+    pub(crate) fn name<'x>(&'x self, told: &'x [u8]) -> &'x [u8]
+        requires told { length told.now ≤ 255 }
+        ensures value { result.now ≡ name_by self.now told.now }
+        ensures few { length result.now ≤ 255 }
+    {
+        if self.is_named { self.name.as_slice() } else { told }
+    }
+
+    /// A viewer that was told nothing.
+    pub(crate) fn next_viewer(&self, alloc: Global) -> Viewer
+        ensures { StandsFor (viewing_by self.now.viewer) result first_viewer [] }
+    {
+        let setup = &self.viewer;
+        Viewer::new(
+            alloc,
+            setup.format,
+            copy_of(&setup.encodings),
+            setup.limit,
+            setup.shared,
+            setup.max_places,
+            setup.text_limit,
+        )
+    }
+}
+
+fn copy_of(encodings: &ArrayVec<Encoding, 4>) -> ArrayVec<Encoding, 4>
+    ensures { result.items ≡ encodings.now.items }
+{
+    let mut copy = ArrayVec::new();
+    match copy.try_extend_from_slice(encodings.as_slice()) {
+        Ok(()) => copy,
+        Err(_) => unreachable!(),
+    }
 }

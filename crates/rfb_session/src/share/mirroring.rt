@@ -27,7 +27,7 @@ use crate::share::Share;
 use crate::share::mirror::Mirror;
 use crate::share::screen::Screen;
 use crate::share::seat::ShareSeat;
-use crate::slots::SLOTS;
+use crate::slots::{SLOTS, put};
 use rfb_hello::{Fed, Version};
 use rfb_picture::Picture;
 use rfb_pixel::Colour;
@@ -176,14 +176,6 @@ fn stirred_by(is_told: bool, stirred: Seats) -> Seats
     ensures same { is_told ≡ false → result ≡ stirred }
 {
     if is_told { Seats::all() } else { stirred }
-}
-
-// Another takes its place. It is said of any type: what an assignment lets go is proved field by
-// field where the type is known.
-fn put<T: Drop>(place: &mut T, other: T)
-    ensures { place.new ≡ other }
-{
-    *place = other;
 }
 
 // Each session is told of what changed of the picture since the viewer was asked last. It tells

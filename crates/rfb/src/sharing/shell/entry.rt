@@ -1,4 +1,4 @@
-//! The connections that come to a share or a relay.
+//! The connections that come to a share or a relay, and those that a relay begins.
 
 ghost use Rattle.std.specs.Prelude.{⊤};
 
@@ -12,13 +12,14 @@ use mio::{Interest, Token};
 use rfb_session::doors::{Arrival, Arrivals, Counted};
 use std::fmt::Write as _;
 use std::io::ErrorKind;
-use std::net::{OpenListener, OpenStream, SocketAddr};
+use std::net::{Net, OpenListener, OpenStream, SocketAddr};
 use std::os::fd::AsRawFd;
 
 impl<'t, R, W, E, L, C> Arrivals<Counted<Tenant<'t, R, W, E, L::Stream>>> for Shell<'_, L, C>
 where
     L: OpenListener + Drop,
     L::Stream: OpenStream + AsRawFd + Drop,
+    C: Net,
 {
     ghost fresh = { λ _. ⊤ };
 
@@ -45,9 +46,18 @@ where
         }
     }
 
-    /// Nobody can be called.
+    /// Begins a connection to the server of a relay. All that it waits for is the look-up of a name.
     fn call(&mut self) -> Option<Arrival<Counted<Tenant<'t, R, W, E, L::Stream>>>> {
-        None
+        // Of those at the listener the core was not asked in this turn.
+        self.is_stirred = true;
+        let Some(callee) = &mut self.callee else {
+            return None;
+        };
+        let Ok((stream, address)) = callee.call(self.clock) else {
+            return None;
+        };
+        self.newest = Some(stream.as_raw_fd());
+        Some(arrival_from(Tenant::Called(stream), address))
     }
 
     /// It is among the sources from here on. One that cannot be is shut down, so it ends at once.
@@ -77,10 +87,18 @@ fn arrival<'t, R, W, E, S: OpenStream + Drop>(
     if hurry(&stream).is_err() {
         return None;
     }
+    Some(arrival_from(Tenant::Connection(stream), address))
+}
+
+// The same of what may stand at a door.
+fn arrival_from<'t, R, W, E, S>(
+    tenant: Tenant<'t, R, W, E, S>,
+    address: SocketAddr,
+) -> Arrival<Counted<Tenant<'t, R, W, E, S>>> {
     let mut from = ArrayString::new();
     let _ = write!(from, "{address}");
-    Some(Arrival {
-        device: Counted::new(Tenant::Connection(stream)),
+    Arrival {
+        device: Counted::new(tenant),
         from,
-    })
+    }
 }

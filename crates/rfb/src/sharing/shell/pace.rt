@@ -55,7 +55,9 @@ impl<L: Drop, C: time::Clock> Clock for Shell<'_, L, C> {
     /// Of standard input one read waits for nothing, and a second one may.
     fn heard(&mut self, door: usize, answer: Answer) {
         if answer != Answer::Again {
-            let goes_on = self.stir(answer) && self.may_read_on(door);
+            let has_come = self.stir(answer);
+            self.note_answered(door, has_come);
+            let goes_on = has_come && self.may_read_on(door);
             self.reads.note(door, goes_on);
         }
     }
@@ -101,6 +103,16 @@ impl<L: Drop, C: time::Clock> Shell<'_, L, C> {
     fn stir(&mut self, answer: Answer) -> bool {
         self.is_stirred |= answer != Answer::Waits;
         matches!(answer, Answer::Moved(_))
+    }
+
+    // Whoever was called has answered, where bytes have come at the first door.
+    fn note_answered(&mut self, door: usize, has_come: bool) {
+        if !has_come || door != OWNER {
+            return;
+        }
+        if let Some(callee) = &mut self.callee {
+            callee.note_answered();
+        }
     }
 
     // Whether a door that was read can be read again without waiting.

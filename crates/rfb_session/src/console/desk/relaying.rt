@@ -6,7 +6,9 @@ ghost use Rattle.rfb_session.specs.Share.{viewer_of};
 ghost use Rattle.rfb_session.specs.relay.Desk.{IsOver, HoldsWithin, IsBetween, FeedsDesk};
 ghost use Rattle.rfb_session.specs.relay.Desk.{FailsDesk};
 ghost use Rattle.rfb_session.specs.relay.Desk.{TellsSome, told_of_server, LosesDesk};
-ghost use Rattle.rfb_session.specs.relay.Desk.{CallsDesk, whole_of};
+ghost use Rattle.rfb_session.specs.relay.Desk.{CallsDesk, whole_of, ShowsAgain, BeginsAnew};
+ghost use Rattle.rfb_session.specs.relay.Desk.{TellsServer, up_of};
+ghost use Rattle.rfb_session.specs.Mirrors.{StandsOrFailed};
 ghost use Rattle.rfb_session.specs.ShareAsking.{SomeAsked};
 
 use crate::channel::Channel;
@@ -16,11 +18,12 @@ use crate::console::plan::Rules;
 use crate::relay::Gone;
 use crate::relay::lines::{tell_bell, tell_down, tell_server_text, tell_up};
 use crate::seat::Seat;
+use crate::seats::Seats;
 use crate::share::Share;
-use crate::slots::SLOTS;
+use crate::slots::{SLOTS, put};
 use rfb_hello::Fed;
 use rfb_picture::Rect;
-use rfb_viewer::{AppendFault, Call, ViewerEvent, ViewerFault};
+use rfb_viewer::{AppendFault, Call, Viewer, ViewerEvent, ViewerFault};
 use std::alloc::Global;
 use std::io;
 
@@ -52,6 +55,7 @@ impl Desk {
         bytes: &[u8],
     ) -> Option<Result<Fed<ViewerEvent>, ViewerFault>>
         ensures none { result ≡ None ↔ viewer_of self.old.share ≡ None }
+        ensures kept { result ≡ None → HoldsWithin self.old self.new }
         ensures feeds { IfSome result (λ told. IfOk told (λ fed.
             FeedsDesk self.old bytes.now fed self.new)) }
         ensures fails { IfSome result (λ told. IfErr told (λ fault.
@@ -90,6 +94,49 @@ impl Desk {
     {
         self.hold(Hold::Shown);
         tell_down(&mut self.lines, gone)
+    }
+
+    /// The picture of another viewer of the server's is shown in place of the one that was, which
+    /// has the same size. Else the viewer is given back, and nothing changes.
+    pub(crate) fn show_again(&mut self, viewer: Viewer) -> Result<(), Viewer>
+        requires stands { ∥ StandsOrFailed viewer ∥₁ }
+        ensures shown { OnOk result (ShowsAgain self.old viewer self.new) }
+        ensures refused { IfErr result (λ same. (same ≡ viewer) × (self.new ≡ self.old)) }
+    {
+        self.share.show(viewer)?;
+        self.hold(Hold::Shown);
+        Ok(())
+    }
+
+    /// Another share is shown in place of the one that was: the viewers of that one are let go, and
+    /// a line tells each. Nobody has come to it. An error is want of memory for a line.
+    pub(crate) fn begin_anew(&mut self, share: Share) -> io::Result<()>
+        ensures { OnOk result (BeginsAnew self.old share self.new) }
+    {
+        self.let_all_go(Seats::all())?;
+        self.hold(Hold::Shown);
+        put(&mut self.share, share);
+        self.came = false;
+        Ok(())
+    }
+
+    /// The seats that are taken.
+    pub(crate) fn here(&self) -> Seats {
+        let mut seats = Seats::none();
+        for place in 0..SLOTS {
+            if self.guests[place].is_here() {
+                seats = seats.with(Seat::at(place));
+            }
+        }
+        seats
+    }
+
+    /// A line tells that the server shows its screen, and its name.
+    pub(crate) fn tell_up(&mut self, name: &[u8]) -> io::Result<()>
+        ensures { OnOk result (TellsServer self.old (up_of self.old.share name.now) self.new) }
+    {
+        let (width, height) = self.size();
+        tell_up(&mut self.lines, width, height, name)
     }
 
     /// What the server did is told, if it rang a bell or cut a text. Neither is passed on.

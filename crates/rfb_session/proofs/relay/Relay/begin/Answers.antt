@@ -3,7 +3,7 @@ use Rattle.rfb_picture.specs.declared.rect.Rect.{Rect}
 use Rattle.rfb_viewer.specs.declared.viewer.Viewer.{Viewer}
 use Rattle.rfb_viewer.specs.Messages.{request_message}
 use Rattle.rfb_session.specs.Mirrors.{StandsOrFailed}
-use Rattle.rfb_session.specs.relay.Relay.{BadSize}
+use Rattle.rfb_session.specs.relay.Server.{BadSize}
 use Rattle.rfb_session.proofs.RelayLemmas.{called_stands}
 use Rattle.rfb_session.proofs.RelayStepLemmas.{ok_of, same_value, begun_so}
 use Rattle.rfb_session.proofs.relay.Relay.begin.Goals as goal

@@ -1,5 +1,5 @@
 use Rattle.std.proofs.Common.{refl}
-use Rattle.rfb_session.specs.relay.Relay.{Met, FailedAt}
+use Rattle.rfb_session.specs.relay.Server.{FailedAt, Met}
 use Rattle.rfb_session.proofs.MirrorLemmas.{feed_stands, takes, fails_at}
 use Rattle.rfb_session.proofs.relay.Relay.hear_coming.Goals as goal
 

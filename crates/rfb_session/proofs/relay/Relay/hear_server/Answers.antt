@@ -1,5 +1,5 @@
 use Rattle.std.proofs.Common.{◌∙◌, refl, sym}
-use Rattle.rfb_session.specs.relay.Relay.{Comes, Shows}
+use Rattle.rfb_session.specs.relay.Server.{Comes, Shows}
 use Rattle.rfb_session.proofs.relay.Relay.hear_server.Goals as goal
 
 pub returns-in-Some-clause-hears : goal.returns-in-Some-clause-hears
@@ -8,9 +8,8 @@ returns-in-Some-clause-hears g c =
       taken = c.take.ensures.after;
       console = refl;
       waits = refl;
-      gone = refl;
+      presence = refl;
       name = refl;
-      given = (refl, refl);
     }) c.hear_coming.ensures.hears
 
 pub returns-in-None-clause-hears : goal.returns-in-None-clause-hears
@@ -19,7 +18,6 @@ returns-in-None-clause-hears g c =
       taken = c.take.ensures.after;
       console = refl;
       waits = refl;
-      gone = refl;
+      presence = refl;
       name = refl;
-      given = (refl, refl);
     }) c.hear_shown.ensures.hears

@@ -4,8 +4,8 @@ use Rattle.rfb_session.specs.relay.Desk.{TellsSome, told_of_server}
 use Rattle.rfb_session.proofs.RelayStepLemmas.{same_value}
 use Rattle.rfb_session.proofs.relay.Relay.heed.Goals as goal
 
-pub returns-in-Ok : goal.returns-in-Ok
-returns-in-Ok g c = record {
+pub returns-in-Ok-clause-heeds : goal.returns-in-Ok-clause-heeds
+returns-in-Ok-clause-heeds g c = record {
   told = λ a is. inl (
     c.tell_of_server.new.self,
     refl,
@@ -13,7 +13,7 @@ returns-in-Ok g c = record {
         (sym (same_value c.in-Some.desk a (sym c.in-Some.is ∙ is))) c.in-Ok.ensures,
     refl,
   );
-  server = record { coming = refl; waits = refl; gone = refl; name = refl; passed = refl };
+  server = record { coming = refl; waits = refl; presence = refl; name = refl; passed = refl };
   side = record {
     owner = record { reader = refl; input = refl };
     rooms = refl;

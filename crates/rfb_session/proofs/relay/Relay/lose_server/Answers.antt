@@ -1,35 +1,56 @@
-use Rattle.std.proofs.Common.{◌≡◌, ◌≢◌, ◌⊎◌, ◌∙◌, Some, None, refl, sym, inl, inr}
-use Rattle.rfb_session.specs.declared.console.Outcome.TheVariants.{NoMemory}
-use Rattle.rfb_session.specs.declared.console.desk.Desk.{Desk}
-use Rattle.rfb_session.specs.relay.Desk.{LosesDesk}
-use Rattle.rfb_session.specs.relay.Relay.{GoesNow}
-use Rattle.rfb_session.proofs.RelayStepLemmas.{none_of, some_not, some_is_not, lost_desk, side_so}
+use Rattle.std.proofs.Common.{◌∙◌, Bool, sym, ap, subst}
+use Rattle.rfb_session.specs.console.Console.{KeepsSide}
+use Rattle.rfb_session.specs.declared.console.Console.{Console}
+use Rattle.rfb_session.specs.declared.console.plan.Rules.{Rules}
+use Rattle.rfb_session.specs.relay.Server.{EndsFor, GoneNow, IsToldGone}
+use Rattle.rfb_session.proofs.RelayStepLemmas.{none_of, over_ends, over_told, ends_then, told_then, side_then}
 use Rattle.rfb_session.proofs.relay.Relay.lose_server.Goals as goal
 
-pub returns-then-is_some-2-clause-loses : goal.returns-then-is_some-2-clause-loses
-returns-then-is_some-2-clause-loses g c =
-    let over = some_not c.note.new.self.outcome (sym c.if-is_some-2.ensures) in
-    GoesNow (none_of c.args.self.now.gone (sym c.if-is_some.ensures)) refl c.empty.ensures.empty refl over
-    (λ a is. (a, c.note.ensures.desk ∙ is, refl, inl (λ none. over (c.note.ensures.outcome ∙ none))))
-    (λ is. c.note.ensures.desk ∙ is)
-    (side_so _ c.note.new.self _ c.note.ensures.side refl refl refl refl refl (λ was. over))
+pub end_unless_called-requires : goal.end_unless_called-requires
+end_unless_called-requires g c = none_of c.note.new.self.outcome (sym c.if-is_some.ensures)
 
-pub returns-in-Ok-clause-loses : goal.returns-in-Ok-clause-loses
-returns-in-Ok-clause-loses g c =
+pub returns-then-is_some-clause-loses : goal.returns-then-is_some-clause-loses
+returns-then-is_some-clause-loses g c =
     let kept = c.note.ensures in
-    GoesNow (none_of c.args.self.now.gone (sym c.if-is_some.ensures)) refl c.empty.ensures.empty refl (some_is_not _)
-    (lost_desk _ _ c.in-Some.desk c.lose_server.new.self
-    (λ (a b : Desk). (c.args.self.now.console.outcome ≢ None) ⊎ LosesDesk a c.args.gone b ⊎ _) kept.desk c.in-Some.is
-    c.in-Ok.ensures.share (inr (inl c.in-Ok.ensures.told)))
-    (λ is. absurd (some_is_not _ (sym c.in-Some.is ∙ kept.desk ∙ is)))
-    (side_so _ c.note.new.self _ kept.side refl refl refl refl refl (λ was. some_is_not _))
+    let forgets = c.forget_server.ensures.forgets in
+    let outcome = kept.outcome ∙ ap (λ (k : Console g.row.S.Denot). k.outcome) forgets.console in
+    let desk = kept.desk ∙ ap (λ (k : Console g.row.S.Denot). k.desk) forgets.console in
+    let side = subst (λ (k : Console g.row.S.Denot). KeepsSide k c.note.new.self) forgets.console kept.side in
+    let over = sym c.if-is_some.ensures in
+    GoneNow (sym c.if-is_gone.ensures) (record {
+      presence = forgets.presence;
+      coming = forgets.coming ∙ c.empty.ensures.empty;
+      waits = forgets.waits;
+      passed = forgets.passed;
+      name = forgets.name;
+      ends = over_ends c.args.self.now.console.rules.retry _ c.note.new.self.outcome c.args.gone outcome over;
+      desk = over_told _ _ c.note.new.self.outcome c.args.gone _ _ _ outcome over desk;
+      side = side;
+    })
 
-pub returns-in-Err-clause-loses : goal.returns-in-Err-clause-loses
-returns-in-Err-clause-loses g c =
+pub returns-clause-loses : goal.returns-clause-loses
+returns-clause-loses g c =
     let kept = c.note.ensures in
-    GoesNow (none_of c.args.self.now.gone (sym c.if-is_some.ensures)) refl c.empty.ensures.empty refl (some_is_not _)
-    (lost_desk _ _ c.in-Some.desk c.lose_server.new.self
-    (λ (a b : Desk). (c.args.self.now.console.outcome ≢ None) ⊎ LosesDesk a c.args.gone b
-    ⊎ (Some NoMemory ≡ Some NoMemory)) kept.desk c.in-Some.is c.in-Err.ensures.share (inr (inr refl)))
-    (λ is. absurd (some_is_not _ (sym c.in-Some.is ∙ kept.desk ∙ is)))
-    (side_so _ c.note.new.self _ kept.side refl refl refl refl refl (λ was. some_is_not _))
+    let forgets = c.forget_server.ensures.forgets in
+    let outcome = kept.outcome ∙ ap (λ (k : Console g.row.S.Denot). k.outcome) forgets.console in
+    let desk = kept.desk ∙ ap (λ (k : Console g.row.S.Denot). k.desk) forgets.console in
+    let side = subst (λ (k : Console g.row.S.Denot). KeepsSide k c.note.new.self) forgets.console kept.side in
+    let going = sym c.if-is_some.ensures in
+    let ends = c.end_unless_called.ensures.ends in
+    let tells = c.tell_gone.ensures.tells in
+    GoneNow (sym c.if-is_gone.ensures) (record {
+      presence = tells.server.presence ∙ ends.server.presence ∙ forgets.presence;
+      coming = tells.server.coming ∙ ends.server.coming ∙ forgets.coming ∙ c.empty.ensures.empty;
+      waits = tells.server.waits ∙ ends.server.waits ∙ forgets.waits;
+      passed = λ k within. rw (tells.server.passed ∙ ends.server.passed) (forgets.passed k within);
+      name = tells.server.name ∙ ends.server.name ∙ forgets.name;
+      ends = subst (λ (r : Rules). EndsFor r.retry c.args.self.now.console.outcome c.args.gone
+          c.tell_gone.new.self.console.outcome) side.stays.rules (ends_then _ _ c.note.new.self.outcome c.args.gone
+          c.end_unless_called.new.self.console.outcome _ outcome going ends.ends tells.goes_on);
+      desk = subst (λ (b : Bool). IsToldGone b c.args.self.now.console.outcome c.args.gone c.args.self.now.console.desk
+          c.tell_gone.new.self.console.desk c.tell_gone.new.self.console.outcome) c.is_shown-was_shown.ensures
+          (told_then _ _ c.note.new.self.outcome c.args.gone _ c.end_unless_called.new.self.console.desk _ _
+          outcome going (ends.desk ∙ desk) tells.told);
+      side = side_then _ c.note.new.self _ side
+          (side_then _ c.end_unless_called.new.self.console _ ends.side tells.side);
+    })

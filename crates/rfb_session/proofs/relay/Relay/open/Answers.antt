@@ -1,20 +1,47 @@
-use Rattle.std.proofs.Common.{◌∙◌, List, ℕ, refl, sym, ap, subst}
-use Rattle.rfb_session.specs.declared.share.Share.{Share}
-use Rattle.rfb_session.specs.Share.{IsEmptyShare, viewer_of}
-use Rattle.rfb_session.specs.relay.Desk.{IsOver}
-use Rattle.rfb_session.specs.relay.Relay.{NoPicture, Opened}
+use Rattle.std.proofs.Common.{◌∙◌, Some, refl, sym, ap, subst}
+use Rattle.rfb_viewer.specs.declared.viewer.Viewer.{Viewer}
+use Rattle.rfb_session.specs.Mirrors.{StandsOrFailed}
+use Rattle.rfb_session.specs.declared.console.desk.Desk.{Desk}
+use Rattle.rfb_session.specs.relay.Server.{Opens}
+use Rattle.rfb_session.proofs.RelayShowLemmas.{again_so, opens_kept}
 use Rattle.rfb_session.proofs.relay.Relay.open.Goals as goal
+
+pub open_anew-requires-clause-stands : goal.open_anew-requires-clause-stands
+open_anew-requires-clause-stands g c =
+    subst (λ (v : Viewer). ∥ StandsOrFailed v ∥₁) (sym c.in-Err.ensures.refused.0) c.requires.stands
+
+pub returns-in-None-clause-opens : goal.returns-in-None-clause-opens
+returns-in-None-clause-opens g c =
+    opens_kept c.args.self.now _ c.args.viewer c.open_first.new.self
+    (record {
+      desk = refl;
+      outcome = refl;
+      side = record {
+        owner = record { reader = refl; input = refl };
+        rooms = refl;
+        stays = record { rules = refl; name = refl; ended = λ was. was };
+      };
+      server = record { coming = refl; waits = refl; presence = refl; name = refl; passed = refl };
+    }) refl
+    c.open_first.ensures.opens
+
+pub returns-in-Ok-clause-opens : goal.returns-in-Ok-clause-opens
+returns-in-Ok-clause-opens g c =
+    again_so c.args.self.now _ c.in-Some.desk c.show_again.new.self c.args.viewer c.tell_up.new.self c.in-Some.is
+    c.in-Ok.ensures.shown refl refl (record { coming = refl; waits = refl; name = refl; passed = refl })
+    c.tell_up.ensures.tells
 
 pub returns-in-Err-clause-opens : goal.returns-in-Err-clause-opens
 returns-in-Err-clause-opens g c =
-    NoPicture _ _ (record { console = refl; coming = refl; waits = refl; gone = refl }) c.lose_server.ensures.loses
-
-pub returns-in-Ok-over-clause-opens : goal.returns-in-Ok-over-clause-opens
-returns-in-Ok-over-clause-opens g c =
-    let over = c.in-Ok-over.ensures in
-    let desk = c.in-Ok-over.desk in
-    let rules = c.args.self.now.console.rules in
-    Opened desk c.seat_in.ensures (ap (λ (s : Share). viewer_of s) over.share_is ∙ c.in-Ok.ensures.viewer)
-    (subst (λ (s : Share). IsEmptyShare s) (sym over.share_is) c.in-Ok.ensures.empty)
-    (subst (λ (s : Share). IsOver s rules c.args.self.now.server_name.items desk) (sym over.share_is)
-    (subst (λ (l : List ℕ). IsOver c.in-Ok.share rules l desk) c.as_slice-told.ensures.value over)) refl refl refl
+    let refused = c.in-Err.ensures.refused in
+    subst (λ (v : Viewer). Opens c.args.self.now v c.open_anew.new.self) refused.0
+    (opens_kept c.args.self.now _ c.in-Err.viewer c.open_anew.new.self (record {
+      desk = ap (λ (d : Desk). Some d) refused.1 ∙ sym c.in-Some.is;
+      outcome = refl;
+      side = record {
+        owner = record { reader = refl; input = refl };
+        rooms = refl;
+        stays = record { rules = refl; name = refl; ended = λ was. was };
+      };
+      server = record { coming = refl; waits = refl; presence = refl; name = refl; passed = refl };
+    }) refl c.open_anew.ensures.opens)

@@ -1,6 +1,6 @@
 use Rattle.std.proofs.Common.{Result, Ok, Err, refl, sym, ap}
 use Rattle.rfb_viewer.specs.declared.fault.AppendFault.{AppendFault}
-use Rattle.rfb_session.specs.relay.Relay.{Made, ended_by}
+use Rattle.rfb_session.specs.relay.Calls.{Made, ended_by}
 use Rattle.rfb_session.proofs.relay.Relay.pass_call.Goals as goal
 
 pub returns-in-Ok-clause-passes : goal.returns-in-Ok-clause-passes

@@ -12,7 +12,7 @@ returns-then-door-eq-SERVER g c =
           mid = c.lose_server.new.self;
           done = loses.loses;
           keeps = record {
-            server = record { coming = refl; waits = refl; gone = refl; name = refl; passed = refl };
+            server = record { coming = refl; waits = refl; presence = refl; name = refl; passed = refl };
             console = keeps;
           };
         };
@@ -21,4 +21,5 @@ returns-then-door-eq-SERVER g c =
       };
       stays = stays_then c.args.self.now.console c.lose_server.new.self.console c.close_room.new.self loses.side.stays
           keeps.stays;
+      given = loses.given;
     }

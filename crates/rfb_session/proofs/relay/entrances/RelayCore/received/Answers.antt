@@ -11,10 +11,11 @@ returns-clause-steps g c =
         mid = c.hear_at-used.new.self;
         done = (c.args.bytes.now, c.hear_at-used.result, refl, hears.hears);
         keeps = record {
-          server = record { coming = refl; waits = refl; gone = refl; name = refl; passed = refl };
+          server = record { coming = refl; waits = refl; presence = refl; name = refl; passed = refl };
           console = keeps;
         };
       };
       stays = stays_then c.args.self.now.console c.hear_at-used.new.self.console c.spend.new.self hears.side.stays
           keeps.stays;
+      given = hears.given;
     }

@@ -1,6 +1,6 @@
 use Rattle.std.proofs.Common.{◌∙◌}
 use Rattle.rfb_session.proofs.ConsoleLemmas.{stays_then}
-use Rattle.rfb_session.proofs.RelayStepLemmas.{rooms_so}
+use Rattle.rfb_session.proofs.RelayStepLemmas.{planned_gone, rooms_planned, rooms_so}
 use Rattle.rfb_session.proofs.relay.entrances.RelayCore.turned.Goals as goal
 
 pub returns-clause-steps : goal.returns-clause-steps
@@ -9,24 +9,32 @@ returns-clause-steps g c =
     let asks = c.ask.ensures in
     let ends = c.end_turn.ensures in
     let opens = c.open_server.ensures in
-    let spares = c.spare_seats.ensures in
+    let spares = c.spare_seats.ensures.spares in
+    let plans = c.plan_call.ensures.plans in
+    let presence = spares.keeps.server.presence ∙ opens.keeps.server.presence ∙ asks.keeps.server.presence in
     record {
       does = record {
         mid = c.turn_desk.new.self;
         turns = turns.turns;
         asks = rw (
-          spares.keeps.console.desk ∙ opens.keeps.console.desk ∙ ends.desk,
-          spares.keeps.server.waits ∙ opens.keeps.server.waits,
-          spares.keeps.console.outcome ∙ opens.keeps.console.outcome ∙ ends.outcome,
+          plans.console.desk ∙ spares.keeps.console.desk ∙ opens.keeps.console.desk ∙ ends.desk,
+          plans.beside.waits ∙ spares.keeps.server.waits ∙ opens.keeps.server.waits,
+          plans.console.outcome ∙ spares.keeps.console.outcome ∙ opens.keeps.console.outcome ∙ ends.outcome,
         ) asks.asks;
-        coming = spares.keeps.server.coming ∙ opens.keeps.server.coming ∙ asks.keeps.server.coming;
-        gone = spares.keeps.server.gone ∙ opens.keeps.server.gone ∙ asks.keeps.server.gone;
-        rooms = rooms_so _ c.open_server.new.self c.spare_seats.new.self ends.rooms opens.keeps opens.room opens.others
-            spares;
+        coming = plans.beside.coming ∙ spares.keeps.server.coming ∙ opens.keeps.server.coming
+            ∙ asks.keeps.server.coming;
+        presence = rw (plans.console.side.stays.rules, plans.console.outcome, ← presence) plans.presence;
+        wakes = rw (plans.console.side.stays.rules, plans.console.outcome) plans.wakes;
+        rooms = rooms_planned c.spare_seats.new.self c.args.now c.plan_call.new.self plans
+            (rooms_so _ c.open_server.new.self c.spare_seats.new.self ends.rooms opens.keeps opens.room opens.others
+            spares) (rw plans.presence (planned_gone _ _ _ _));
       };
-      stays = stays_then c.args.self.now.console c.turn_desk.new.self c.spare_seats.new.self.console turns.side.stays
-          (stays_then c.turn_desk.new.self c.ask.new.self.console c.spare_seats.new.self.console asks.keeps.side.stays
-          (stays_then c.ask.new.self.console c.end_turn.new.self c.spare_seats.new.self.console ends.stays
-          (stays_then c.end_turn.new.self c.open_server.new.self.console c.spare_seats.new.self.console
-          opens.keeps.console.stays spares.keeps.console.stays)));
+      stays = stays_then c.args.self.now.console c.turn_desk.new.self c.plan_call.new.self.console turns.side.stays
+          (stays_then c.turn_desk.new.self c.ask.new.self.console c.plan_call.new.self.console asks.keeps.side.stays
+          (stays_then c.ask.new.self.console c.end_turn.new.self c.plan_call.new.self.console ends.stays
+          (stays_then c.end_turn.new.self c.open_server.new.self.console c.plan_call.new.self.console
+          opens.keeps.console.stays
+          (stays_then c.open_server.new.self.console c.spare_seats.new.self.console c.plan_call.new.self.console
+          spares.keeps.console.stays plans.console.side.stays))));
+      given = c.plan_call.ensures.given ∙ c.spare_seats.ensures.given ∙ opens.given ∙ asks.given;
     }
