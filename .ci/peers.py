@@ -3,9 +3,11 @@
 import contextlib
 import os
 import random
+import shutil
 import signal
 import socket
 import struct
+import subprocess
 import tempfile
 import threading
 import time
@@ -127,6 +129,38 @@ def viewing(*words, output=None):
                   output=output)
         with listener.accept()[0] as line:
             yield run, line
+
+
+# A host with two addresses, of which nothing listens at the first.
+TWO_ADDRESSES = r"""
+#define _GNU_SOURCE
+#include <dlfcn.h>
+#include <netdb.h>
+typedef int look(const char *, const char *, const struct addrinfo *, struct addrinfo **);
+int getaddrinfo(const char *name, const char *port, const struct addrinfo *wanted,
+                struct addrinfo **found) {
+    look *next = (look *)dlsym(RTLD_NEXT, "getaddrinfo");
+    struct addrinfo *last;
+    int failed = next("FIRST", port, wanted, found);
+    if (failed) return failed;
+    for (last = *found; last->ai_next; last = last->ai_next);
+    return next("127.0.0.1", port, wanted, &last->ai_next);
+}
+"""
+
+
+@contextlib.contextmanager
+def two_addresses():
+    """A library with which each host has two addresses, or None where there is no C compiler."""
+    if not shutil.which("cc"):
+        yield None
+        return
+    with tempfile.TemporaryDirectory() as room:
+        source, made = os.path.join(room, "two.c"), os.path.join(room, "two.so")
+        with open(source, "w") as file:
+            file.write(TWO_ADDRESSES.replace("FIRST", OTHER))
+        subprocess.run(["cc", "-shared", "-fPIC", "-o", made, source, "-ldl"], check=True)
+        yield made
 
 
 def halts(run):

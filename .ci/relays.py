@@ -21,7 +21,7 @@ import time
 
 from messages import (VERSION, client_init, cut_text, framebuffer_head, handshake, key,
                       pixel_format, pointer, rectangle_head, request, set_encodings, texted)
-from peers import OTHER, Server, connected, free_port
+from peers import OTHER, Server, connected, free_port, two_addresses
 from relaying import (KEY, LISTED, POINTER, TEXT, Fed, Relay, Screen, Seer, copied, hextile, let_go,
                       noise, raw, relayed, shown_at, spelled, whole)
 from sharing import run_rows, wait_for
@@ -752,49 +752,254 @@ def no_sentence_is_said_where_none_is_wanted():
 
 # ---- a server that is called again
 
+AGAIN = ("--retry", "1")
+
+
+def relayed_again(count=1, words=(), **more):
+    """The same as `relayed`, of a server that is called again."""
+    return relayed(count, (*AGAIN, *words), port=free_port(), **more)
+
+
+def seen_so_far(screen):
+    """Its picture, as it is now."""
+    picture = Picture(screen.picture.width, screen.picture.height)
+    picture.places[:] = screen.picture.places
+    return picture
+
+
+def goes_away(screen, relay, times=1, reset=False):
+    """The server ends, and a line tells it."""
+    screen.closes(reset)
+    assert screen.has_ended.wait(5)
+    wait_for(lambda: relay.output.count(b"\nserver down ") == times, relay.output[-300:])
+
+
+def comes_back(screen, relay, times=2):
+    """A line tells its screen."""
+    size = screen.picture.width, screen.picture.height
+    relay.tells(b"server up %d %d 77616c6c" % size, times)
+
+
+def only_waits(viewers, picture):
+    """Viewers that asked for what changes get nothing, and one that asks for all sees that."""
+    assert all(viewer.hears_nothing(0.3) is True for viewer in viewers)
+    viewers[0].begins()
+    assert viewers[0].shows(picture)
+    viewers[0].ask()
+
+
 def a_server_that_comes_back_is_relayed_again():
     """Viewers keep the last picture until the first update of the new one is whole."""
-    screen, relay, two = relayed(2, words=("--retry", "1"), width=33, height=21)
+    screen, relay, two = relayed_again(2, width=33, height=21)
     for round in range(2):
-        last = Picture(33, 21)
-        last.places[:] = screen.picture.places
-        screen.closes(reset=round == 1)
-        assert screen.has_ended.wait(5)
-        two[1].ask(0)
-        two[1].update()
-        assert two[1].shows(last)
-        screen = Screen(33, 21, port=screen.port, is_held=True, seed=40 + round)
-        wait_for(lambda: screen.open, relay.output[-300:])
+        last = seen_so_far(screen)
+        goes_away(screen, relay, round + 1, reset=round == 1)
         for viewer in two:
             viewer.ask()
-        data = whole(screen.picture, screen.form)
-        screen.sends(framebuffer_head(1) + data[:100])
-        assert two[0].hears_nothing(0.3) is True
-        screen.sends(data[100:])
+            viewer.send(key(0x500 + round) + pointer(1, 3, 4) + cut_text(b"hi"))
+        only_waits(two, last)
+        screen = Screen(33, 21, port=screen.port, is_held=True, seed=40 + round)
+        wait_for(lambda: screen.open, relay.output[-300:])
+        data = framebuffer_head(2) + whole(screen.picture, screen.form)
+        place = raw(screen.chance, screen.form, (5, 6, 7, 8))
+        for part in data[:100], data[100:], place[:-1]:
+            only_waits(two, last)
+            two[1].send(key(0x510 + round))
+            screen.sends(part)
+        only_waits(two, last)
+        late = Seer(relay).hello().begins()
+        assert late.shows(last)
         screen.open.clear()
-        screen.is_held = False
+        screen.paints(place)
+        screen.sends(place[-1:])
+        late.follows(screen.picture)
+        late.close()
+        let_go(relay, 2, round + 1)
         for viewer in two:
             viewer.update()
-            viewer.follows(screen.picture)
+            assert viewer.shows(screen.picture)
+        comes_back(screen, relay, round + 2)
+        relay.says(b"the server is back")
+        screen.is_held = False
+        screen.draws(*screen.scene())
+        for viewer in two:
             viewer.send(key(0x600 + round))
-        wait_for(lambda: len(screen.events()) == 2, screen.events())
+            viewer.follows(screen.picture)
+        wait_for(lambda: len(screen.events()) >= 2, screen.events())
+        assert screen.events() == [(KEY, 1, 0x600 + round)] * 2, screen.events()
         screen.is_right()
-    assert not relay.lines(b"leave"), relay.output
+    assert relay.lines(b"server")[1::2] == [b"server down closed", b"server down failed"]
+    assert {it[:8] for it in relay.lines(b"leave")} == {b"leave 2 "}, relay.output
 
 
 def one_of_another_size_has_viewers_of_its_own():
-    screen, relay, two = relayed(2, words=("--retry", "1"))
+    for width, height in (41, 30), (40, 31), (7, 300):
+        screen, relay, two = relayed_again(2)
+        two[0].ask()
+        goes_away(screen, relay)
+        screen = Screen(width, height, port=screen.port, seed=50)
+        for viewer in two:
+            viewer.ends_well()
+        comes_back(screen, relay, 1)
+        assert relay.lines(b"server")[1] == b"server down closed"
+        told = [it for it in relay.output.split(b"\n") if it][-3:]
+        assert told[:2] == [b"leave 0 ok", b"leave 1 ok"] and told[2] in relay.lines(b"server")
+        for seat in range(2):
+            relay.says(b"the viewer at seat %d leaves: the server is back, and its screen is"
+                       b" %d by %d now" % (seat, width, height))
+        viewer = Seer(relay).hello().begins()
+        assert (viewer.width, viewer.height) == (width, height) and viewer.shows(screen.picture)
+        viewer.send(key(77))
+        wait_for(lambda: screen.events() == [(KEY, 1, 77)], screen.events())
+        screen.draws(*screen.scene())
+        viewer.follows(screen.picture)
+        screen.is_right()
+
+
+def one_that_stays_away_is_called_every_time():
+    """And nothing is done in between."""
+    screen, relay, (viewer,) = relayed_again()
+    viewer.ask()
+    usual = relay.descriptors() - 1
+    goes_away(screen, relay)
+    before, begun = relay.ticks(), time.time()
+    time.sleep(4.5)
+    took = relay.ticks() - before
+    calls = relay.errors.count(b"rfb: the server is called again in 1 s\n") - 1
+    assert 3 <= calls <= 5, relay.errors
+    assert relay.errors.count(b"rfb: there is no connection to the server\n") == calls
+    relay.says(b"the server leaves: it closed its connection")
+    assert took <= 3 and relay.descriptors() == usual, (took, relay.descriptors(), usual)
+    assert viewer.hears_nothing(0.1) is True
+    screen = Screen(port=screen.port, seed=51)
+    viewer.update()
+    lasts = time.time() - begun
+    assert viewer.shows(screen.picture)
+    comes_back(screen, relay)
+    assert relay.lines(b"server") == [b"server up 40 30 77616c6c", b"server down closed",
+                                      b"server up 40 30 77616c6c"]
+    screen.is_right()
+    return f"{calls} calls in {lasts:.1f} s, {took} hundredths of a second of the processor"
+
+
+def a_call_that_nobody_answers_holds_up_nobody():
+    """No connection is made, and none is refused: the listener is full."""
+    screen, relay, (viewer, other) = relayed_again(2)
+    last = seen_so_far(screen)
+    goes_away(screen, relay)
+    full = socket.socket()
+    full.setsockopt(socket.SOL_SOCKET, socket.SO_REUSEADDR, 1)
+    full.bind(("127.0.0.1", screen.port))
+    full.listen(0)
+    with full, connected(screen.port):
+        time.sleep(1.5)
+        before, longest, count = relay.ticks(), 0, 0
+        begun = time.time()
+        while time.time() < begun + 2:
+            asked = time.time()
+            viewer.begins()
+            other.send(key(0x700 + count))
+            longest, count = max(longest, time.time() - asked), count + 1
+            time.sleep(0.02)
+        assert viewer.shows(last) and longest < 0.3, longest
+        relay.tells(b"key 1 down %d" % (0x700 + count - 1))
+        # It serves some hundred updates in that time.
+        before = relay.ticks()
+        time.sleep(1)
+        assert relay.ticks() - before <= 2, relay.ticks() - before
+        assert relay.errors.count(b" is called again ") <= 2, relay.errors
+    screen = Screen(port=screen.port, seed=52)
+    viewer.follows(screen.picture)
+    screen.is_right()
+    assert not screen.events(), screen.events()
+    return f"{count} updates meanwhile, the longest after {longest:.3f} s"
+
+
+def one_that_comes_back_wrong_is_called_again():
+    """Until one is right; viewers keep the last picture."""
+    screen, relay, two = relayed_again(2)
+    last, usual = seen_so_far(screen), relay.descriptors()
+    for viewer in two:
+        viewer.ask()
+    goes_away(screen, relay)
+    hello = handshake(40, 30)
+    first = hello + framebuffer_head(1) + whole(Picture(40, 30), screen.form)
+    for sent, is_silent, sentence in (
+            (b"", False, None), (b"220 hi\r\n.....", True, b"the other end sent no version"),
+            (b"RFB 00", False, None), (b"RFB 003.008\n\1\2", True, b"no security type 1 (None)"),
+            (hello[:30], False, None), (hello, False, None), (first[:-1], False, None),
+            (hello + b"\x63", True, b"a message has type 99"),
+            (hello + framebuffer_head(1) + rectangle_head(RAW, (39, 0, 2, 1)), True,
+             b"a rectangle leaves the screen"),
+            (handshake(5000, 3), True, b"the server's screen is 5000 by 3")):
+        server = Server(sent, port=screen.port, is_silent=is_silent)
+        server.thread.join(10)
+        assert not server.thread.is_alive(), sent[:40]
+        if sentence:
+            wait_for(lambda: sentence in relay.errors, (sentence, relay.errors[-300:]))
+        only_waits(two, last)
+    assert relay.lines(b"server") == [b"server up 40 30 77616c6c", b"server down closed"]
+    assert b"the server is back" not in relay.errors and not relay.lines(b"leave")
+    screen = Screen(port=screen.port, seed=54)
+    for viewer in two:
+        viewer.update()
+        assert viewer.shows(screen.picture)
+    comes_back(screen, relay)
+    assert relay.descriptors() == usual, (relay.descriptors(), usual)
+    screen.is_right()
+
+
+def one_that_goes_before_its_first_picture_is_called_again():
+    screen = Screen(23, 17, is_held=True, port=free_port())
+    relay = Relay(screen.port, *AGAIN)
+    wait_for(lambda: screen.open, screen.heard)
+    waiting = Seer(relay)
+    screen.sends((framebuffer_head(1) + whole(screen.picture, screen.form))[:-1])
     screen.closes()
     assert screen.has_ended.wait(5)
-    screen = Screen(41, 30, port=screen.port, seed=50)
-    for viewer in two:
-        viewer.ends_well()
-    for seat in range(2):
-        let_go(relay, seat)
-    wait_for(lambda: relay.errors.count(b" leaves: ") == 2, relay.errors)
-    relay.tells(b"server up 41 30 77616c6c")
-    assert Seer(relay).hello().begins().shows(screen.picture)
+    assert waiting.hears_nothing(0.3) is True and not relay.output, relay.output
+    screen = Screen(31, 22, port=screen.port, seed=55)
+    assert waiting.hello().begins().shows(screen.picture)
+    assert relay.lines(b"server") == [b"server up 31 22 77616c6c"], relay.output
     screen.is_right()
+    # One that is not there at first is called no more.
+    relay = Relay(free_port(), *AGAIN)
+    relay.ends()
+    assert relay.errors.endswith(b"fault 29 Device\n") and relay.output == b"", relay.errors
+
+
+def each_address_of_a_host_is_called():
+    """And first the one at which the server was."""
+    with two_addresses() as made:
+        if not made:
+            return "no C compiler: no host has two addresses"
+
+        class Preloaded(Relay):
+            runner = ["env", "LD_PRELOAD=" + made]
+
+        screen = Screen(port=free_port())
+        relay = Preloaded(screen.port, *AGAIN, host="two.invalid")
+        viewer = Seer(relay).hello().begins()
+        for times, calls in (1, 2), (2, 3):
+            goes_away(screen, relay, times)
+            screen = Screen(port=screen.port, seed=60 + times)
+            viewer.follows(screen.picture)
+            comes_back(screen, relay, times + 1)
+            count = relay.errors.count(b" is called again ")
+            assert count == calls, relay.errors
+            screen.is_right()
+
+
+def the_last_viewer_ends_a_relay_whose_server_is_away():
+    screen, relay, two = relayed_again(2, ("--until-idle", "--quiet"))
+    goes_away(screen, relay)
+    time.sleep(1.2)
+    for viewer in two:
+        viewer.begins().close()
+    relay.ends(0)
+    assert relay.output.endswith(b"leave 0 ok\nleave 1 ok\n") or relay.output.endswith(
+        b"leave 1 ok\nleave 0 ok\n"), relay.output
+    assert relay.errors == b"", relay.errors
 
 
 ROWS = [what_the_server_draws_is_what_each_viewer_sees,
@@ -818,7 +1023,11 @@ ROWS = [what_the_server_draws_is_what_each_viewer_sees,
         it_ends_with_the_last_viewer_where_that_is_said, no_sentence_is_said_where_none_is_wanted]
 
 # Rows of `--retry`.
-RETRY = [a_server_that_comes_back_is_relayed_again, one_of_another_size_has_viewers_of_its_own]
+RETRY = [a_server_that_comes_back_is_relayed_again, one_of_another_size_has_viewers_of_its_own,
+         one_that_stays_away_is_called_every_time, a_call_that_nobody_answers_holds_up_nobody,
+         one_that_comes_back_wrong_is_called_again,
+         one_that_goes_before_its_first_picture_is_called_again, each_address_of_a_host_is_called,
+         the_last_viewer_ends_a_relay_whose_server_is_away]
 
 
 def has_retry(program):

@@ -11,18 +11,15 @@ is 'N passed, M failed'.
 import contextlib
 import os
 import resource
-import shutil
 import signal
-import subprocess
 import sys
-import tempfile
 import time
 from concurrent.futures import ThreadPoolExecutor
 
 from calls import (DEVICE, NO_VERSION, TRUNCATED, UNWRITTEN, WRITTEN, Call, Run, closed_after, ends,
                    judged)
 from messages import CLIENT, HELLO, MORE, SERVER
-from peers import OTHER, Server, View, breaks, free_port, halts, viewing
+from peers import OTHER, Server, View, breaks, free_port, halts, two_addresses, viewing
 from pictures import BLACK, SHOWN, scene
 
 # ---- servers that are viewed
@@ -96,33 +93,11 @@ def a_refused_connection_rests_before_it_is_tried_again():
     assert taken() - before < 0.3, taken() - before
 
 
-# A host with two addresses, of which nothing listens at the first.
-TWO_ADDRESSES = r"""
-#define _GNU_SOURCE
-#include <dlfcn.h>
-#include <netdb.h>
-typedef int look(const char *, const char *, const struct addrinfo *, struct addrinfo **);
-int getaddrinfo(const char *name, const char *port, const struct addrinfo *wanted,
-                struct addrinfo **found) {
-    look *next = (look *)dlsym(RTLD_NEXT, "getaddrinfo");
-    struct addrinfo *last;
-    int failed = next("FIRST", port, wanted, found);
-    if (failed) return failed;
-    for (last = *found; last->ai_next; last = last->ai_next);
-    return next("127.0.0.1", port, wanted, &last->ai_next);
-}
-"""
-
-
 def each_address_of_a_host_is_tried():
-    if not shutil.which("cc"):
-        print("no C compiler: no host has two addresses")
-        return
-    with tempfile.TemporaryDirectory() as room:
-        source, made = os.path.join(room, "two.c"), os.path.join(room, "two.so")
-        with open(source, "w") as file:
-            file.write(TWO_ADDRESSES.replace("FIRST", OTHER))
-        subprocess.run(["cc", "-shared", "-fPIC", "-o", made, source, "-ldl"], check=True)
+    with two_addresses() as made:
+        if not made:
+            print("no C compiler: no host has two addresses")
+            return
         for late, *more in (0,), (0, "--timeout=5"), (0.3, "--timeout=5"):
             server = Server(late=late)
             words = ["view", "--host=two.invalid", f"--port={server.port}", *more]

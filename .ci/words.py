@@ -79,6 +79,13 @@ relay a --port 9 --viewers 9
 relay a --port 9 --hold 1
 relay a --port 9 --format rgb
 relay a --port 9 --timeout 0
+relay a --port 9 --retry
+relay a --port 9 --retry 0
+relay a --port 9 --retry 0.5
+relay a --port 9 --retry one
+relay a --port 9 --retry 4294967296
+relay a --port 9 --retry 1 --retry 2
+share --port 9 --retry 1
 relay a --port 9 -o b
 """
 
