@@ -12,6 +12,7 @@ names all rows are run; those of `--retry` where the program has that word. The 
 import os
 import random
 import re
+import signal
 import socket
 import struct
 import subprocess
@@ -21,7 +22,7 @@ import time
 
 from messages import (VERSION, client_init, cut_text, framebuffer_head, handshake, key,
                       pixel_format, pointer, rectangle_head, request, set_encodings, texted)
-from peers import OTHER, Server, connected, free_port, two_addresses
+from peers import OTHER, Server, breaks, connected, free_port, halts, two_addresses
 from relaying import (KEY, LISTED, POINTER, TEXT, Fed, Relay, Screen, Seer, copied, hextile, let_go,
                       noise, raw, relayed, shown_at, spelled, whole)
 from sharing import run_rows, wait_for
@@ -968,6 +969,30 @@ def one_that_goes_before_its_first_picture_is_called_again():
     assert relay.errors.endswith(b"fault 29 Device\n") and relay.output == b"", relay.errors
 
 
+def one_that_breaks_in_its_handshake_is_called_again():
+    """Where that is known by a write alone, and nothing is to be said that would be written."""
+    screen, relay, (viewer,) = relayed_again(words=("--quiet",))
+    viewer.ask()
+    goes_away(screen, relay)
+    with socket.create_server(("127.0.0.1", screen.port)) as listener:
+        listener.settimeout(10)
+        for _ in range(3):
+            line = listener.accept()[0]
+            # What was sent is read all the same.
+            halts(relay)
+            line.sendall(VERSION)
+            breaks(line)
+            time.sleep(0.05)
+            relay.run.send_signal(signal.SIGCONT)
+        listener.accept()[0].close()
+    screen = Screen(port=screen.port, seed=56)
+    viewer.update()
+    assert viewer.shows(screen.picture)
+    comes_back(screen, relay)
+    assert relay.errors == b"", relay.errors
+    screen.is_right()
+
+
 def each_address_of_a_host_is_called():
     """And first the one at which the server was."""
     with two_addresses() as made:
@@ -1026,7 +1051,8 @@ ROWS = [what_the_server_draws_is_what_each_viewer_sees,
 RETRY = [a_server_that_comes_back_is_relayed_again, one_of_another_size_has_viewers_of_its_own,
          one_that_stays_away_is_called_every_time, a_call_that_nobody_answers_holds_up_nobody,
          one_that_comes_back_wrong_is_called_again,
-         one_that_goes_before_its_first_picture_is_called_again, each_address_of_a_host_is_called,
+         one_that_goes_before_its_first_picture_is_called_again,
+         one_that_breaks_in_its_handshake_is_called_again, each_address_of_a_host_is_called,
          the_last_viewer_ends_a_relay_whose_server_is_away]
 
 

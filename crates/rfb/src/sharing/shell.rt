@@ -68,8 +68,9 @@ pub struct Shell<'a, L, C> {
     newest: Option<RawFd>,
     // Whether anything happened since the last wait began.
     is_stirred: bool,
-    // Whether bytes have left that the core may have kept others' doors shut for.
-    makes_room: bool,
+    // Whether the core is to do a turn at once: bytes have left that it may have kept others' doors
+    // shut for, or a write has failed.
+    wants_turn: bool,
 }
 
 impl<'a, L: AsRawFd + Drop, C: Net + Clock> Shell<'a, L, C> {
@@ -124,7 +125,7 @@ impl<'a, L: AsRawFd + Drop, C: Net + Clock> Shell<'a, L, C> {
             ear: Ear::Quiet,
             newest: None,
             is_stirred: false,
-            makes_room: false,
+            wants_turn: false,
         })
     }
 }

@@ -21,11 +21,12 @@ impl<L: Drop, C: time::Clock> Clock for Shell<'_, L, C> {
     /// It does not sleep while somebody may wait at the listener whom the core was not asked about:
     /// what happened in the last turn may have made it welcome newcomers. Nor does it after lines
     /// have left, or bytes for a server: which viewers are read again the core says in its next
-    /// turn, and nothing else may come that wakes it. It ends the loop where waiting fails.
+    /// turn, and nothing else may come that wakes it. The same goes for a write that has failed:
+    /// when a server is called again the core says then. It ends the loop where waiting fails.
     fn wait(&mut self, pause: Pause) -> bool {
         self.read_time();
         let limit = self.limit(pause);
-        self.makes_room = false;
+        self.wants_turn = false;
         self.is_stirred = limit != Some(Duration::ZERO);
         if self.poll.poll(&mut self.events, limit).is_err() {
             return false;
@@ -67,7 +68,7 @@ impl<L: Drop, C: time::Clock> Clock for Shell<'_, L, C> {
     fn told(&mut self, door: usize, answer: Answer) {
         if answer != Answer::Again {
             let has_left = self.stir(answer);
-            self.makes_room |= has_left && !is_of_seat(door);
+            self.wants_turn |= has_left && !is_of_seat(door) || answer == Answer::Failed;
             let goes_on = has_left && self.may_write_on(door);
             self.writes.note(door, goes_on);
         }
@@ -80,7 +81,7 @@ impl<L: Drop, C: time::Clock> Shell<'_, L, C> {
         if self.is_stirred && self.ear == Ear::Barred {
             self.ear = Ear::Ringing;
         }
-        if self.is_stirred && self.ear == Ear::Ringing || self.makes_room {
+        if self.is_stirred && self.ear == Ear::Ringing || self.wants_turn {
             return Some(Duration::ZERO);
         }
         match pause {
