@@ -22,7 +22,7 @@ use Rattle.rfb_session.specs.Link.{Ends, LinkState, first_link}
 use Rattle.rfb_session.specs.LinkSteps.{MovesToViewer, MovesToServer, flight_to_viewer, flight_to_server}
 use Rattle.rfb_session.specs.InFlight.{viewer_reply, server_reply}
 use Rattle.rfb_session.specs.Carrying.{Carries}
-use Rattle.rfb_session.specs.Network.{Network, IsReached}
+use Rattle.rfb_session.specs.Network.{Network, Steps, IsReached}
 use Rattle.rfb_session.specs.LinkStanding.{LinkStandsFor, ServesOver, AreNew, LinkDoes}
 use Rattle.rfb_session.specs.inside.Delivering.{DeliversToViewer, DeliversToServer}
 use Rattle.rfb_session.proofs.NetworkLemmas.{reached_holds}
@@ -42,21 +42,32 @@ pub to_server_length : (e : Ends) (w : Link) (n : Network) → LinkStandsFor e n
     length w.to_server ≡ flight_to_server e n.link
 to_server_length e w n stands = server_flight e n.link _ stands.carries.flies
 
+-- bytes that reach an end are an event
+pub viewer_steps : (e : Ends) (n : Network) (l : LinkState) (count : ℕ) →
+    count ≤ flight_to_viewer e n.link → MovesToViewer e n.link count l →
+    Steps e n (ToViewer count) (record n { link = l })
+viewer_steps e n l count few moves =
+    let all : min count (flight_to_viewer e n.link) ≡ count = omega arith in
+    (refl, subst (λ (k : ℕ). MovesToViewer e n.link k l) (sym all) moves)
+
+pub server_steps : (e : Ends) (n : Network) (l : LinkState) (count : ℕ) →
+    count ≤ flight_to_server e n.link → MovesToServer e n.screen n.link count l →
+    Steps e n (ToServer count) (record n { link = l })
+server_steps e n l count few moves =
+    let all : min count (flight_to_server e n.link) ≡ count = omega arith in
+    (refl, subst (λ (k : ℕ). MovesToServer e n.screen n.link k l) (sym all) moves)
+
 pub viewer_reached : (e : Ends) (n : Network) (l : LinkState) (count : ℕ) → IsReached e n →
     count ≤ flight_to_viewer e n.link → MovesToViewer e n.link count l →
     IsReached e (record n { link = l })
 viewer_reached e n l count r few moves =
-    let all : min count (flight_to_viewer e n.link) ≡ count = omega arith in
-    reached_step e n (record n { link = l }) (ToViewer count) r
-    (refl, subst (λ (k : ℕ). MovesToViewer e n.link k l) (sym all) moves)
+    reached_step e n (record n { link = l }) (ToViewer count) r (viewer_steps e n l count few moves)
 
 pub server_reached : (e : Ends) (n : Network) (l : LinkState) (count : ℕ) → IsReached e n →
     count ≤ flight_to_server e n.link → MovesToServer e n.screen n.link count l →
     IsReached e (record n { link = l })
 server_reached e n l count r few moves =
-    let all : min count (flight_to_server e n.link) ≡ count = omega arith in
-    reached_step e n (record n { link = l }) (ToServer count) r
-    (refl, subst (λ (k : ℕ). MovesToServer e n.screen n.link k l) (sym all) moves)
+    reached_step e n (record n { link = l }) (ToServer count) r (server_steps e n l count few moves)
 
 -- ---- the viewer
 

@@ -23,34 +23,28 @@ use Rattle.rfb_session.proofs.ShareViewerLemmas.{to_viewer_same}
 
 pub watched_alone : (old new : Share) (k : ℕ) → KeepsScreen old new →
     seat_in new k ≡ seat_in old k → StaysWatched old k new
-watched_alone old new k keeps same = λ e viewer to_server on_way (n, w). (
-  n,
-  record {
-    seat = w.seat;
-    there = same ∙ w.there;
-    screen_is = w.screen_is ∙ sym keeps.screen;
-    reached = w.reached;
-    carries = w.carries;
-  },
-)
+watched_alone old new k keeps same = λ e viewer to_server on_way n w. record {
+  seat = w.seat;
+  there = same ∙ w.there;
+  screen_is = w.screen_is ∙ sym keeps.screen;
+  reached = w.reached;
+  carries = w.carries;
+}
 
 -- a seat that a viewer joins was empty, so it is another
 pub beside_joined : (old new : Share) (joined : Option ℕ) (k : ℕ) → JoinsAs old joined new →
     StaysWatched old k new
-beside_joined old new joined k (Full taken none same) = λ e viewer to_server on_way (n, w). (
-  n,
-  record {
-    seat = w.seat;
-    there = ap (λ (s : Share). seat_in s k) same ∙ w.there;
-    screen_is = w.screen_is ∙ sym (ap (λ (s : Share). screen_of s) same);
-    reached = w.reached;
-    carries = w.carries;
-  },
-)
+beside_joined old new joined k (Full taken none same) = λ e viewer to_server on_way n w. record {
+  seat = w.seat;
+  there = ap (λ (s : Share). seat_in s k) same ∙ w.there;
+  screen_is = w.screen_is ∙ sym (ap (λ (s : Share). screen_of s) same);
+  reached = w.reached;
+  carries = w.carries;
+}
 beside_joined old new joined k (Joined j told within free first seat there begins keeps others) =
-    λ e viewer to_server on_way (n, w).
+    λ e viewer to_server on_way n w.
     watched_alone old new k keeps (others k (other k j (λ is. not_both (seat_in old k) w.seat
-    w.there (ap (λ (i : ℕ). seat_in old i) is ∙ free)))) e viewer to_server on_way (n, w)
+    w.there (ap (λ (i : ℕ). seat_in old i) is ∙ free)))) e viewer to_server on_way n w
 
 pub beside_left : (old new : Share) (j k : ℕ) (taken : Bool) → nat_eq k j ≡ false →
     LeavesAs old j taken new → StaysWatched old k new
@@ -102,24 +96,22 @@ wanting screen (Some a) (Some b) seat wants there =
     one e = cc
 
 pub watched_wanted : (old new : Share) (k : ℕ) → WantsRoomAs old k new → StaysWatched old k new
-watched_wanted old new k wants = λ e viewer to_server on_way (n, w).
+watched_wanted old new k wants = λ e viewer to_server on_way n w.
     let one = wanting (screen_of old) (seat_in old k) (seat_in new k) w.seat wants.seat w.there in
-    let c = w.carries in (
-      n,
-      record {
-        seat = one.0;
-        there = one.1;
-        screen_is = w.screen_is ∙ sym wants.keeps.screen;
-        reached = w.reached;
-        carries = to_viewer_same e n one.0.session viewer to_server (on_way ++ waiting_in w.seat)
-            (on_way ++ waiting_in one.0)
-            (ap (λ (q : List ℕ). on_way ++ q) (one.2.waits ∙ sym one.2.written))
-            (record {
-              server_has = c.server_has;
-              viewer_has = c.viewer_has;
-              server_is = one.2.kept.stands e.serving n.screen _ _ c.server_is;
-              viewer_is = c.viewer_is;
-              flies = c.flies;
-            });
-      },
-    )
+    let c = w.carries in
+    record {
+      seat = one.0;
+      there = one.1;
+      screen_is = w.screen_is ∙ sym wants.keeps.screen;
+      reached = w.reached;
+      carries = to_viewer_same e n one.0.session viewer to_server (on_way ++ waiting_in w.seat)
+          (on_way ++ waiting_in one.0)
+          (ap (λ (q : List ℕ). on_way ++ q) (one.2.waits ∙ sym one.2.written))
+          (record {
+            server_has = c.server_has;
+            viewer_has = c.viewer_has;
+            server_is = one.2.kept.stands e.serving n.screen _ _ c.server_is;
+            viewer_is = c.viewer_is;
+            flies = c.flies;
+          });
+    }

@@ -2,7 +2,7 @@
 use Rattle.std.proofs.Common.{◌-◌, ◌∷◌, map}
 use Rattle.std.proofs.Common.{◌≡◌, ℕ, Bool, List, [], ◌++◌, length}
 use Rattle.std.proofs.Common.{Option, Some}
-use Rattle.std.proofs.Common.{None, refl, sym, ap, ◌∙◌, subst, arith}
+use Rattle.std.proofs.Common.{None, inl, inr, refl, sym, ap, ◌∙◌, subst, arith}
 use Rattle.rfb_pixel.specs.declared.colour.Colour.{Colour}
 use Rattle.rfb_pixel.specs.Format.{PixelFormat}
 use Rattle.rfb_picture.specs.declared.rect.Rect.{Rect}
@@ -43,7 +43,7 @@ use Rattle.rfb_session.specs.Network.{Network, Steps}
 use Rattle.rfb_session.specs.Share.{waits_at, waiting_for, fault_in}
 use Rattle.rfb_session.specs.Share.{fault_for}
 use Rattle.rfb_session.specs.ShareSeats.{waiting_in}
-use Rattle.rfb_session.specs.ShareViewers.{IsWatchedBy, Watches, Requests, AsksFormat, MaySend}
+use Rattle.rfb_session.specs.ShareViewers.{IsWatchedBy, GoesOn, Requests, AsksFormat, MaySend}
 use Rattle.rfb_session.specs.ShareViewers.{plain_message}
 use Rattle.rfb_session.proofs.MoveLemmas.{viewer_flight, format_flies}
 use Rattle.rfb_session.proofs.NetworkLemmas.{reached_holds}
@@ -65,9 +65,10 @@ called_watched : (e : Ends) (share : Share) (k : ℕ) (old new : Viewer) (to_ser
       viewer_gets = on_way ++ waiting_in w.seat;
       server_has = w.carries.server_has;
       server_gets = to_server ++ bytes;
-    }) → Watches e share k new (to_server ++ bytes) on_way
+    }) → GoesOn e n share k new (to_server ++ bytes) on_way
 called_watched e share k old new to_server on_way bytes message v n w event step stands flies = (
   record n { link = calls None n.link v message },
+  inr (inl (event, step)),
   record {
     seat = w.seat;
     there = w.there;
@@ -85,11 +86,11 @@ called_watched e share k old new to_server on_way bytes message v n w event step
 )
 
 pub watched_requested : (e : Ends) (share : Share) (k : ℕ) (old new : Viewer)
-    (incremental : Bool) (rect : Rect) (bytes to_server on_way : List ℕ) →
+    (incremental : Bool) (rect : Rect) (bytes to_server on_way : List ℕ) (n : Network) →
     Requests e rect old new →
     SpellsClientMessage (FramebufferUpdateRequest incremental rect) bytes →
-    Watches e share k old to_server on_way → Watches e share k new (to_server ++ bytes) on_way
-watched_requested e share k old new incremental rect bytes to_server on_way asks spelled (n, w) =
+    IsWatchedBy e share k old to_server on_way n → GoesOn e n share k new (to_server ++ bytes) on_way
+watched_requested e share k old new incremental rect bytes to_server on_way n asks spelled w =
     let c = w.carries in
     let none = asks.taken n.link.viewer c.viewer_has c.viewer_is in
     let ready = request_ready n.link.viewer.point n.link.viewer.outstanding rect none in
@@ -106,10 +107,10 @@ watched_requested e share k old new incremental rect bytes to_server on_way asks
     c.flies c.flies.to_viewer spelled)
 
 pub watched_formatted : (e : Ends) (share : Share) (k : ℕ) (old new : Viewer)
-    (form : PixelFormat) (bytes to_server on_way : List ℕ) → AsksFormat e form old new →
+    (form : PixelFormat) (bytes to_server on_way : List ℕ) (n : Network) → AsksFormat e form old new →
     SpellsClientMessage (SetPixelFormat form) bytes →
-    Watches e share k old to_server on_way → Watches e share k new (to_server ++ bytes) on_way
-watched_formatted e share k old new form bytes to_server on_way asks spelled (n, w) =
+    IsWatchedBy e share k old to_server on_way n → GoesOn e n share k new (to_server ++ bytes) on_way
+watched_formatted e share k old new form bytes to_server on_way n asks spelled w =
     let c = w.carries in
     let phase = (reached_holds e n w.reached).phase in
     let none = asks.taken n.link.viewer c.viewer_has c.viewer_is in
@@ -125,13 +126,13 @@ watched_formatted e share k old new form bytes to_server on_way asks spelled (n,
 
 -- a message that changes nothing of the viewer, as an event
 pub watched_sent : (e : Ends) (share : Share) (k : ℕ) (viewer : Viewer) (message : ClientMessage)
-    (event : Event) (bytes to_server on_way : List ℕ) → MaySend e viewer →
-    ((n m : Network) → m.screen ≡ n.screen →
-    m.link ≡ calls (call_refusal n.link.viewer) n.link n.link.viewer message → Steps e n event m) →
+    (event : Event) (bytes to_server on_way : List ℕ) (n : Network) → MaySend e viewer →
+    ((old new : Network) → new.screen ≡ old.screen →
+    new.link ≡ calls (call_refusal old.link.viewer) old.link old.link.viewer message → Steps e old event new) →
     SpellsClientMessage message bytes →
-    Watches e share k viewer to_server on_way →
-    Watches e share k viewer (to_server ++ bytes) on_way
-watched_sent e share k viewer message event bytes to_server on_way may steps spelled (n, w) =
+    IsWatchedBy e share k viewer to_server on_way n →
+    GoesOn e n share k viewer (to_server ++ bytes) on_way
+watched_sent e share k viewer message event bytes to_server on_way n may steps spelled w =
     let c = w.carries in
     let none = may n.link.viewer c.viewer_has c.viewer_is in
     let ready = call_ready n.link.viewer.point none in
@@ -142,40 +143,29 @@ watched_sent e share k viewer message event bytes to_server on_way may steps spe
     (called_flies e n.link _ ready.0 n.link.viewer message bytes
     (reached_holds e n w.reached).phase ready.1 c.flies c.flies.to_viewer spelled)
 
--- of each such event
-pub watched_plain : (e : Ends) (share : Share) (k : ℕ) (viewer : Viewer) (message : ClientMessage)
-    (event : Event) (bytes to_server on_way : List ℕ) → MaySend e viewer →
-    plain_message event ≡ Some message → SpellsClientMessage message bytes →
-    Watches e share k viewer to_server on_way →
-    Watches e share k viewer (to_server ++ bytes) on_way
-watched_plain e share k viewer message event bytes to_server on_way may is spelled w = by event is
+-- the event of a message that changes nothing of the viewer is a step of the link
+pub plain_steps : (e : Ends) (message : ClientMessage) (event : Event) → plain_message event ≡ Some message →
+    (old new : Network) → new.screen ≡ old.screen →
+    new.link ≡ calls (call_refusal old.link.viewer) old.link old.link.viewer message → Steps e old event new
+plain_steps e message event is old new screen link = by event is
   where
-    one : (a b : ClientMessage) → Some a ≡ Some b → a ≡ b
-    one a b same = cc
+    goes : (sent : ClientMessage) → Some sent ≡ Some message →
+        new.link ≡ calls (call_refusal old.link.viewer) old.link old.link.viewer sent
+    goes sent same = link ∙ ap (λ (m : ClientMessage). calls (call_refusal old.link.viewer) old.link
+        old.link.viewer m) (one sent message (sym same))
+      where
+        one : (a b : ClientMessage) → Some b ≡ Some a → b ≡ a
+        one a b same = cc
 
     apart : None ≡ Some message → ⊥
     apart same = cc
 
-    goes : (sent : ClientMessage) (happens : Event) → Some sent ≡ Some message →
-        ((n m : Network) → m.screen ≡ n.screen →
-        m.link ≡ calls (call_refusal n.link.viewer) n.link n.link.viewer sent →
-        Steps e n happens m) → Watches e share k viewer (to_server ++ bytes) on_way
-    goes sent happens same steps = watched_sent e share k viewer sent happens bytes to_server on_way
-        may steps (subst (λ (x : ClientMessage). SpellsClientMessage x bytes)
-        (sym (one sent message same)) spelled) w
-
-    by : (happens : Event) → plain_message happens ≡ Some message →
-        Watches e share k viewer (to_server ++ bytes) on_way
+    by : (happens : Event) → plain_message happens ≡ Some message → Steps e old happens new
     by (OfEncodings list) same =
-        goes (EncodingsMessage (map (λ encoding. number_of encoding) list.items))
-        (OfEncodings list) same (λ n m screen link. (screen, link))
-    by (OfKey down key) same =
-        goes (KeyEvent down key) (OfKey down key) same (λ n m screen link. (screen, link))
-    by (OfPointer buttons x y) same =
-        goes (PointerEvent buttons x y) (OfPointer buttons x y) same
-        (λ n m screen link. (screen, link))
-    by (OfText text) same =
-        goes (ClientCutText text.items) (OfText text) same (λ n m screen link. (screen, link))
+        (screen, goes (EncodingsMessage (map (λ encoding. number_of encoding) list.items)) same)
+    by (OfKey down key) same = (screen, goes (KeyEvent down key) same)
+    by (OfPointer buttons x y) same = (screen, goes (PointerEvent buttons x y) same)
+    by (OfText text) same = (screen, goes (ClientCutText text.items) same)
     by (OfFill rect colour) same = absurd (apart same)
     by (OfPut x y row) same = absurd (apart same)
     by (OfCopy rect sx sy) same = absurd (apart same)
@@ -185,6 +175,15 @@ watched_plain e share k viewer message event bytes to_server on_way may is spell
     by OfCompose same = absurd (apart same)
     by (OfServer count) same = absurd (apart same)
     by (OfViewer count) same = absurd (apart same)
+
+pub watched_plain : (e : Ends) (share : Share) (k : ℕ) (viewer : Viewer) (message : ClientMessage)
+    (event : Event) (bytes to_server on_way : List ℕ) (n : Network) → MaySend e viewer →
+    plain_message event ≡ Some message → SpellsClientMessage message bytes →
+    IsWatchedBy e share k viewer to_server on_way n →
+    GoesOn e n share k viewer (to_server ++ bytes) on_way
+watched_plain e share k viewer message event bytes to_server on_way n may is spelled w =
+    watched_sent e share k viewer message event bytes to_server on_way n may (plain_steps e message event is)
+    spelled w
 
 -- ---- what it shows
 

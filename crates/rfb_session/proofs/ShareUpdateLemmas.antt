@@ -1,7 +1,7 @@
 -- An update that is composed for a share's seat is one of its link.
 use Rattle.std.proofs.Common.{◌≡◌, ℕ, List, ◌++◌}
 use Rattle.std.proofs.Common.{append-nil, Some}
-use Rattle.std.proofs.Common.{inl, refl, sym, ap, ◌∙◌, subst}
+use Rattle.std.proofs.Common.{inl, inr, refl, sym, ap, ◌∙◌, subst}
 use Rattle.rfb_pixel.specs.declared.colour.Colour.{Colour}
 use Rattle.rfb_picture.specs.Grid.{Grid}
 use Rattle.rfb_server.specs.Composing.{Composes}
@@ -20,7 +20,7 @@ use Rattle.rfb_session.specs.Network.{Network, IsReached}
 use Rattle.rfb_session.specs.Share.{seat_in, screen_of}
 use Rattle.rfb_session.specs.ShareSeats.{waiting_in, ComposesAt, Sends}
 use Rattle.rfb_session.specs.ShareSteps.{ComposesAs}
-use Rattle.rfb_session.specs.ShareViewers.{Watches}
+use Rattle.rfb_session.specs.ShareViewers.{IsWatchedBy, GoesOn}
 use Rattle.rfb_session.proofs.NetworkLemmas.{reached_holds}
 use Rattle.rfb_session.proofs.SentLemmas.{composed_flies}
 use Rattle.rfb_session.proofs.ShareLawLemmas.{composes_at}
@@ -32,7 +32,7 @@ sent_watched : (e : Ends) (share : Share) (n : Network) (a b : ShareSeat) (k : �
     (viewer : Viewer) (to_server on_way : List ℕ) → n.screen ≡ screen_of share →
     seat_in share k ≡ Some b → IsReached e n →
     Between e n a.session viewer to_server (on_way ++ waiting_in a) → Sends n.screen a b →
-    Watches e share k viewer to_server on_way
+    GoesOn e n share k viewer to_server on_way
 sent_watched e share n a b k viewer to_server on_way here there reached c sends =
     let s : ServerState = server_of n.screen n.link.session in
     let one = sends.update.sent e.serving s c.server_has c.server_is in
@@ -63,6 +63,7 @@ sent_watched e share n a b k viewer to_server on_way here there reached c sends 
     ∙ ap (λ (q : List ℕ). q ++ one.bytes) (sym (append-nil on_way)
     ∙ ap (λ (q : List ℕ). on_way ++ q) (sym sends.written)) in (
       record n { link = l },
+      inr (inl (OfCompose, (refl, inl composes))),
       record {
         seat = b;
         there = there;
@@ -86,11 +87,12 @@ composed_watched : (e : Ends) (share : Share) (n : Network) (told : Composing) (
     (k : ℕ) (viewer : Viewer) (to_server on_way : List ℕ) → n.screen ≡ screen_of share →
     seat_in share k ≡ Some b → IsReached e n →
     Between e n a.session viewer to_server (on_way ++ waiting_in a) →
-    ComposesAt n.screen told a b → Watches e share k viewer to_server on_way
+    ComposesAt n.screen told a b → GoesOn e n share k viewer to_server on_way
 composed_watched e share n Composed a b k viewer to_server on_way here there reached c composes =
     sent_watched e share n a b k viewer to_server on_way here there reached c composes
 composed_watched e share n NotDue a b k viewer to_server on_way here there reached c composes = (
   n,
+  inl refl,
   record {
     seat = b;
     there = there;
@@ -110,6 +112,7 @@ composed_watched e share n NotDue a b k viewer to_server on_way here there reach
 )
 composed_watched e share n Waiting a b k viewer to_server on_way here there reached c composes = (
   n,
+  inl refl,
   record {
     seat = b;
     there = there;
@@ -123,9 +126,9 @@ composed_watched e share n NoSuchSeat a b k viewer to_server on_way here there r
     absurd composes
 
 pub watched_composed : (e : Ends) (old new : Share) (k : ℕ) (told : Composing) (viewer : Viewer)
-    (to_server on_way : List ℕ) → ComposesAs old k told new →
-    Watches e old k viewer to_server on_way → Watches e new k viewer to_server on_way
-watched_composed e old new k told viewer to_server on_way composes (n, w) =
+    (to_server on_way : List ℕ) (n : Network) → ComposesAs old k told new →
+    IsWatchedBy e old k viewer to_server on_way n → GoesOn e n new k viewer to_server on_way
+watched_composed e old new k told viewer to_server on_way n composes w =
     let one = composes_at (screen_of old) told (seat_in old k) (seat_in new k) w.seat
     composes.seat w.there in
     composed_watched e new n told w.seat one.0 k viewer to_server on_way

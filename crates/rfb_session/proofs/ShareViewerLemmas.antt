@@ -2,7 +2,7 @@
 -- pass, and drawings.
 use Rattle.std.proofs.Common.{◌≡◌, ◌≢◌, ℕ, List, [], ◌++◌, length, length-append}
 use Rattle.std.proofs.Common.{take, drop, take-append-drop, append_assoc, Option, Some}
-use Rattle.std.proofs.Common.{None, inl, refl, sym, ap, ◌∙◌, subst, arith}
+use Rattle.std.proofs.Common.{None, inl, inr, refl, sym, ap, ◌∙◌, subst, arith}
 use Rattle.rfb_pixel.specs.declared.colour.Colour.{Colour}
 use Rattle.rfb_picture.specs.Grid.{Grid}
 use Rattle.rfb_wire.specs.stream.End.{FedBy, RefusedBy, acts}
@@ -27,21 +27,22 @@ use Rattle.rfb_session.specs.Carrying.{Carries}
 use Rattle.rfb_session.specs.InFlight.{AreMade, Flies, first_flight, server_reply, viewer_reply}
 use Rattle.rfb_session.specs.Link.{Ends, first_link}
 use Rattle.rfb_session.specs.LinkStanding.{ServesOver}
-use Rattle.rfb_session.specs.Network.{Network}
+use Rattle.rfb_session.specs.declared.event.Event.TheVariants.{ToServer as OfServer, ToViewer as OfViewer}
+use Rattle.rfb_session.specs.Network.{Network, Strokes}
 use Rattle.rfb_session.specs.Share.{seat_in, screen_of, serving_in, waits_at, waiting_for}
 use Rattle.rfb_session.specs.ShareSeats.{waiting_in, WritesAt, IsNotifiedIn}
 use Rattle.rfb_server.specs.Drawing.{Stroke, IsInside, drawn_by, notice_of}
 use Rattle.rfb_session.specs.ShareSteps.{JoinsAs, Full, Joined, DrawsOn}
 use Rattle.rfb_session.specs.ShareSteps.{ReceivesAs, RefusesAs, NoneHeard, SeatEmptied, SeatEnded, WritesAs}
-use Rattle.rfb_session.specs.ShareViewers.{IsWatchedBy, Watches}
+use Rattle.rfb_session.specs.ShareViewers.{IsWatchedBy, GoesOn, fresh_over}
 use Rattle.rfb_session.proofs.CarryLemmas.{viewer_fed, server_fed, server_keeps}
-use Rattle.rfb_session.proofs.DeliveringLemmas.{server_reached, viewer_reached}
+use Rattle.rfb_session.proofs.DeliveringLemmas.{server_steps, viewer_steps}
 use Rattle.rfb_session.proofs.FlightLemmas.{first_flies}
 use Rattle.rfb_session.proofs.MoveLemmas.{viewer_flight, server_flight}
 use Rattle.rfb_session.proofs.NetworkLemmas.{first_reached, reached_holds}
 use Rattle.rfb_session.proofs.ShareLawLemmas.{became}
 use Rattle.rfb_session.proofs.SlotLemmas.{one_seat, not_both}
-use Rattle.rfb_session.proofs.WorldLemmas.{reached_stroke}
+use Rattle.rfb_session.proofs.WorldLemmas.{reached_step, reached_stroke}
 
 -- what is carried between a session and a viewer
 abbrev pub Between : Ends → Network → Session → Viewer → List ℕ → List ℕ → Type 0
@@ -69,39 +70,38 @@ to_viewer_same e n session viewer to_server old new is c =
 
 pub watched_joined : (e : Ends) (old new : Share) (joined : Option ℕ) (k : ℕ) (viewer : Viewer) →
     e.serving ≡ serving_in old → ViewerStandsFor e.viewing viewer first_viewer [] →
-    JoinsAs old joined new → joined ≡ Some k → Watches e new k viewer [] []
+    JoinsAs old joined new → joined ≡ Some k →
+    IsWatchedBy e new k viewer [] [] (fresh_over e (screen_of new))
 watched_joined e old new joined k viewer made fresh (Full taken none same) is =
     absurd (apart joined none is)
   where
     apart : (o : Option ℕ) → o ≡ None → o ≡ Some k → ⊥
     apart o none some = cc
 watched_joined e old new joined k viewer made fresh
-    (Joined j told within free first seat there begins keeps others) is = (
-      record { screen = screen_of new; link = first_link e },
-      record {
-        seat = seat;
-        there = subst (λ (i : ℕ). seat_in new i ≡ Some seat) (one joined told is) there;
-        screen_is = refl;
-        reached = first_reached e (screen_of new)
-            (ap (λ (g : Grid Colour). g.width) keeps.screen
-            ∙ ap (λ (s : Serving). s.hello.width) (sym made))
-            (ap (λ (g : Grid Colour). g.height) keeps.screen
-            ∙ ap (λ (s : Serving). s.hello.height) (sym made));
-        carries = record {
-          server_has = [];
-          viewer_has = [];
-          server_is = subst (λ (s : Serving). SessionStandsFor s (screen_of new) seat.session
-              (with_screen (screen_of new) (first_server s)) []) (sym made)
-              (subst (λ (g : Grid Colour). SessionStandsFor (serving_in old) g seat.session
-              (with_screen g (first_server (serving_in old))) []) (sym keeps.screen) begins.fresh);
-          viewer_is = fresh;
-          flies = subst (λ (bytes : List ℕ). Flies e (first_link e)
-              (record (first_flight e) { viewer_gets = bytes }))
-              (ap (λ (s : Serving). version_text s.hello.offer) made ∙ sym begins.greets)
-              (first_flies e);
-        };
-      },
-    )
+    (Joined j told within free first seat there begins keeps others) is =
+    record {
+      seat = seat;
+      there = subst (λ (i : ℕ). seat_in new i ≡ Some seat) (one joined told is) there;
+      screen_is = refl;
+      reached = first_reached e (screen_of new)
+          (ap (λ (g : Grid Colour). g.width) keeps.screen
+          ∙ ap (λ (s : Serving). s.hello.width) (sym made))
+          (ap (λ (g : Grid Colour). g.height) keeps.screen
+          ∙ ap (λ (s : Serving). s.hello.height) (sym made));
+      carries = record {
+        server_has = [];
+        viewer_has = [];
+        server_is = subst (λ (s : Serving). SessionStandsFor s (screen_of new) seat.session
+            (with_screen (screen_of new) (first_server s)) []) (sym made)
+            (subst (λ (g : Grid Colour). SessionStandsFor (serving_in old) g seat.session
+            (with_screen g (first_server (serving_in old))) []) (sym keeps.screen) begins.fresh);
+        viewer_is = fresh;
+        flies = subst (λ (bytes : List ℕ). Flies e (first_link e)
+            (record (first_flight e) { viewer_gets = bytes }))
+            (ap (λ (s : Serving). version_text s.hello.offer) made ∙ sym begins.greets)
+            (first_flies e);
+      };
+    }
   where
     one : (o : Option ℕ) → o ≡ Some j → o ≡ Some k → j ≡ k
     one o some other = cc
@@ -109,24 +109,26 @@ watched_joined e old new joined k viewer made fresh
 -- ---- drawings
 
 pub watched_drawn : (e : Ends) (old new : Share) (s : Stroke) (k : ℕ) (viewer : Viewer)
-    (to_server on_way : List ℕ) → IsInside (screen_of old) s → DrawsOn old s new →
-    Watches e old k viewer to_server on_way → Watches e new k viewer to_server on_way
-watched_drawn e old new s k viewer to_server on_way inside draws (n, w) =
+    (to_server on_way : List ℕ) (n : Network) → IsInside (screen_of old) s → DrawsOn old s new →
+    IsWatchedBy e old k viewer to_server on_way n → GoesOn e n new k viewer to_server on_way
+watched_drawn e old new s k viewer to_server on_way n inside draws w =
     let one = became (λ a b. IsNotifiedIn (notice_of s) a b) (seat_in old k) (seat_in new k) w.seat
     (draws.seats k) w.there in
     let keeps = one.2.keeps in
-    let had = w.carries in (
+    let had = w.carries in
+    let drawn : Strokes s n (record n { screen = screen_of new }) =
+    inl (
+      subst (λ (g : Grid Colour). IsInside g s) (sym w.screen_is) inside,
+      ap (λ (g : Grid Colour). record n { screen = g })
+          (draws.screen ∙ ap (λ (g : Grid Colour). drawn_by s g) (sym w.screen_is)),
+    ) in (
       record n { screen = screen_of new },
+      inr (inr (s, drawn)),
       record {
         seat = one.0;
         there = one.1;
         screen_is = refl;
-        reached = reached_stroke e n (record n { screen = screen_of new }) s w.reached
-            (inl (
-              subst (λ (g : Grid Colour). IsInside g s) (sym w.screen_is) inside,
-              ap (λ (g : Grid Colour). record n { screen = g })
-                  (draws.screen ∙ ap (λ (g : Grid Colour). drawn_by s g) (sym w.screen_is)),
-            ));
+        reached = reached_stroke e n (record n { screen = screen_of new }) s w.reached drawn;
         carries = to_viewer_same e (record n { screen = screen_of new }) one.0.session viewer
             to_server (on_way ++ waiting_in w.seat) (on_way ++ waiting_in one.0)
             (ap (λ (q : List ℕ). on_way ++ q) keeps.waits)
@@ -144,10 +146,10 @@ watched_drawn e old new s k viewer to_server on_way inside draws (n, w) =
 -- ---- bytes that reach the seat
 
 pub watched_received : (e : Ends) (old new : Share) (k : ℕ) (bytes : List ℕ) (told : Heard)
-    (viewer : Viewer) (to_server later on_way : List ℕ) → AreMade e →
+    (viewer : Viewer) (to_server later on_way : List ℕ) (n : Network) → AreMade e →
     to_server ≡ take told.used bytes ++ later → ReceivesAs old k bytes told new →
-    Watches e old k viewer to_server on_way → Watches e new k viewer later on_way
-watched_received e old new k bytes told viewer to_server later on_way made is r (n, w) =
+    IsWatchedBy e old k viewer to_server on_way n → GoesOn e n new k viewer later on_way
+watched_received e old new k bytes told viewer to_server later on_way n made is r w =
     let front = take told.used bytes in
     let c = subst (λ (q : List ℕ). Between e n r.was.session viewer q (on_way ++ waiting_in r.was))
     is (by_seat e old k viewer to_server on_way n w r.was r.was_there) in
@@ -155,13 +157,15 @@ watched_received e old new k bytes told viewer to_server later on_way made is r 
     r.now.session viewer front later (on_way ++ waiting_in r.was) r.told n.link made
     (reached_holds e n w.reached) c (r.hears.fed e.serving n.screen) in
     let all = server_flight e n.link _ c.flies in
-    let sum = length-append front later in (
+    let sum = length-append front later in
+    let step = server_steps e n one.0 (length front) (omega (arith, all, sum)) one.1 in (
       record n { link = one.0 },
+      inr (inl (OfServer (length front), step)),
       record {
         seat = r.now;
         there = r.is_there;
         screen_is = w.screen_is ∙ sym r.keeps.screen;
-        reached = server_reached e n one.0 (length front) w.reached (omega (arith, all, sum)) one.1;
+        reached = reached_step e n (record n { link = one.0 }) (OfServer (length front)) w.reached step;
         carries = to_viewer_same e (record n { link = one.0 }) r.now.session viewer later
             ((on_way ++ waiting_in r.was) ++ server_reply r.told) (on_way ++ waiting_in r.now)
             (ap (λ (q : List ℕ). on_way ++ q) r.hears.waits
@@ -185,18 +189,18 @@ ended_refused old new bytes fault ends some serving screen = λ s prefix stands.
     }
 
 pub watched_never : (e : Ends) (old new : Share) (k : ℕ) (bytes : List ℕ) (fault : ServerFault)
-    (viewer : Viewer) (to_server later on_way : List ℕ) → fault ≢ NoMemory →
+    (viewer : Viewer) (to_server later on_way : List ℕ) (n : Network) → fault ≢ NoMemory →
     to_server ≡ bytes ++ later → RefusesAs old k bytes (OfSession fault) new →
-    Watches e old k viewer to_server on_way → ⊥
-watched_never e old new k bytes fault viewer to_server later on_way some is
-    (NoneHeard told none all) (n, w) = not_both (seat_in old k) w.seat w.there none
-watched_never e old new k bytes fault viewer to_server later on_way some is
-    (SeatEmptied told was there gone keeps others) (n, w) = apart told
+    IsWatchedBy e old k viewer to_server on_way n → ⊥
+watched_never e old new k bytes fault viewer to_server later on_way n some is
+    (NoneHeard told none all) w = not_both (seat_in old k) w.seat w.there none
+watched_never e old new k bytes fault viewer to_server later on_way n some is
+    (SeatEmptied told was there gone keeps others) w = apart told
   where
     apart : OfSession fault ≡ Wanting → ⊥
     apart e = cc
-watched_never e old new k bytes fault viewer to_server later on_way some is
-    (SeatEnded of told was now there here ends keeps others) (n, w) =
+watched_never e old new k bytes fault viewer to_server later on_way n some is
+    (SeatEnded of told was now there here ends keeps others) w =
     let same : fault ≡ of = one told in
     let c = subst (λ (q : List ℕ). Between e n was.session viewer q (on_way ++ waiting_in was))
     is (by_seat e old k viewer to_server on_way n w was there) in
@@ -212,10 +216,10 @@ watched_never e old new k bytes fault viewer to_server later on_way some is
 -- ---- bytes that are written, and that reach the viewer
 
 pub watched_written : (e : Ends) (old new : Share) (k count : ℕ) (viewer : Viewer)
-    (to_server on_way : List ℕ) → WritesAs old k count new →
-    Watches e old k viewer to_server on_way →
-    Watches e new k viewer to_server (on_way ++ take count (waits_at old k))
-watched_written e old new k count viewer to_server on_way writes (n, w) =
+    (to_server on_way : List ℕ) (n : Network) → WritesAs old k count new →
+    IsWatchedBy e old k viewer to_server on_way n →
+    IsWatchedBy e new k viewer to_server (on_way ++ take count (waits_at old k)) n
+watched_written e old new k count viewer to_server on_way n writes w =
     let one = became (λ a b. WritesAt count a b) (seat_in old k) (seat_in new k) w.seat
     writes.seat w.there in
     let bytes : waits_at old k ≡ waiting_in w.seat =
@@ -225,27 +229,25 @@ watched_written e old new k count viewer to_server on_way writes (n, w) =
     ap (λ (l : List ℕ). (on_way ++ take count l) ++ waiting_in one.0) bytes
     ∙ ap (λ (l : List ℕ). (on_way ++ take count (waiting_in w.seat)) ++ l) one.2.waits
     ∙ append_assoc on_way (take count (waiting_in w.seat)) (drop count (waiting_in w.seat))
-    ∙ ap (λ (l : List ℕ). on_way ++ l) (take-append-drop count (waiting_in w.seat)) in (
-      n,
-      record {
-        seat = one.0;
-        there = one.1;
-        screen_is = w.screen_is ∙ sym writes.keeps.screen;
-        reached = w.reached;
-        carries = to_viewer_same e n one.0.session viewer to_server (on_way ++ waiting_in w.seat)
-            ((on_way ++ take count (waits_at old k)) ++ waiting_in one.0) whole
-            (subst (λ (s : Session). Between e n s viewer to_server (on_way ++ waiting_in w.seat))
-            (sym one.2.session) w.carries);
-      },
-    )
+    ∙ ap (λ (l : List ℕ). on_way ++ l) (take-append-drop count (waiting_in w.seat)) in
+    record {
+      seat = one.0;
+      there = one.1;
+      screen_is = w.screen_is ∙ sym writes.keeps.screen;
+      reached = w.reached;
+      carries = to_viewer_same e n one.0.session viewer to_server (on_way ++ waiting_in w.seat)
+          ((on_way ++ take count (waits_at old k)) ++ waiting_in one.0) whole
+          (subst (λ (s : Session). Between e n s viewer to_server (on_way ++ waiting_in w.seat))
+          (sym one.2.session) w.carries);
+    }
 
 pub watched_shown : (e : Ends) (share : Share) (k : ℕ) (old new : Viewer)
-    (bytes later : List ℕ) (event : Option ViewerTold) (to_server on_way : List ℕ) →
+    (bytes later : List ℕ) (event : Option ViewerTold) (to_server on_way : List ℕ) (n : Network) →
     AreMade e → on_way ≡ bytes ++ later →
     FedBy (viewer_end e.viewing) (ViewerStandsFor e.viewing) old bytes event new →
-    Watches e share k old to_server on_way →
-    Watches e share k new (to_server ++ viewer_reply event) later
-watched_shown e share k old new bytes later event to_server on_way made is fed (n, w) =
+    IsWatchedBy e share k old to_server on_way n →
+    GoesOn e n share k new (to_server ++ viewer_reply event) later
+watched_shown e share k old new bytes later event to_server on_way n made is fed w =
     let waits = waiting_in w.seat in
     let c = to_viewer_same e n w.seat.session old to_server (on_way ++ waits)
     (bytes ++ (later ++ waits))
@@ -253,13 +255,15 @@ watched_shown e share k old new bytes later event to_server on_way made is fed (
     let one = viewer_fed (ServesOver n.screen) ViewerStandsFor e n.screen w.seat.session old new
     to_server bytes (later ++ waits) event n.link made (reached_holds e n w.reached) c fed in
     let all = viewer_flight e n.link _ c.flies in
-    let sum = length-append bytes (later ++ waits) in (
+    let sum = length-append bytes (later ++ waits) in
+    let step = viewer_steps e n one.0 (length bytes) (omega (arith, all, sum)) one.1 in (
       record n { link = one.0 },
+      inr (inl (OfViewer (length bytes), step)),
       record {
         seat = w.seat;
         there = w.there;
         screen_is = w.screen_is;
-        reached = viewer_reached e n one.0 (length bytes) w.reached (omega (arith, all, sum)) one.1;
+        reached = reached_step e n (record n { link = one.0 }) (OfViewer (length bytes)) w.reached step;
         carries = one.3;
       },
     )

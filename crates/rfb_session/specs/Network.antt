@@ -74,6 +74,10 @@ pub record IsFirst (e : Ends) (n : Network) : Type 0 where
 abbrev pub Moves : Ends → Network → Network → Type 0
 Moves e old new = ((event : Event) × Steps e old event new) ⊎ ((s : Stroke) × Strokes s old new)
 
+-- at most one thing happens
+abbrev pub Goes : Ends → Network → Network → Type 0
+Goes e old new = (new ≡ old) ⊎ Moves e old new
+
 -- such things lead from one network to another
 pub data Leads (e : Ends) (old : Network) : Network → Type 0 where
   Still : Leads e old old

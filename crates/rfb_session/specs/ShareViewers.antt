@@ -2,7 +2,9 @@
 -- link over the share's screen.
 use Rattle.std.specs.Prelude.{◌≡◌, ℕ, List, ◌++◌, map, Option, Some, None}
 use Rattle.rfb_picture.specs.declared.rect.Rect.{Rect}
+use Rattle.rfb_pixel.specs.declared.colour.Colour.{Colour}
 use Rattle.rfb_pixel.specs.Format.{PixelFormat}
+use Rattle.rfb_picture.specs.Grid.{Grid}
 use Rattle.rfb_wire.specs.Encoding.{number_of}
 use Rattle.rfb_wire.specs.ClientMessage.{ClientMessage, SetEncodings as EncodingsMessage}
 use Rattle.rfb_wire.specs.ClientMessage.{KeyEvent, PointerEvent, ClientCutText}
@@ -16,9 +18,9 @@ use Rattle.rfb_session.specs.declared.event.Event.TheVariants.{SetEncodings, Key
 use Rattle.rfb_session.specs.declared.share.Share.{Share}
 use Rattle.rfb_session.specs.declared.share.seat.ShareSeat.{ShareSeat}
 use Rattle.rfb_session.specs.Carrying.{Carries}
-use Rattle.rfb_session.specs.Link.{Ends}
+use Rattle.rfb_session.specs.Link.{Ends, first_link}
 use Rattle.rfb_session.specs.LinkStanding.{ServesOver}
-use Rattle.rfb_session.specs.Network.{Network, IsReached}
+use Rattle.rfb_session.specs.Network.{Network, Goes, IsReached}
 use Rattle.rfb_session.specs.Share.{seat_in, screen_of}
 use Rattle.rfb_session.specs.ShareSeats.{session_at, waiting_in}
 
@@ -34,16 +36,21 @@ pub record IsWatchedBy (e : Ends) (share : Share) (k : ℕ) (viewer : Viewer)
   pub carries : Carries (ServesOver n.screen) ViewerStandsFor e n.screen (session_at seat) viewer
       to_server (on_way ++ waiting_in seat) n.link
 
--- the same of some network
-abbrev pub Watches : Ends → Share → ℕ → Viewer → List ℕ → List ℕ → Type 0
-Watches e share k viewer to_server on_way =
-    (n : Network) × IsWatchedBy e share k viewer to_server on_way n
+-- a fresh link over a screen
+abbrev pub fresh_over : Ends → Grid Colour → Network
+fresh_over e screen = record { screen = screen; link = first_link e }
 
--- whoever is the viewer of the seat, and whatever is between the two: they stand for a network after
--- a call as they did before it
+-- the network has become such a one, by at most one event or drawing
+abbrev pub GoesOn : Ends → Network → Share → ℕ → Viewer → List ℕ → List ℕ → Type 0
+GoesOn e old share k viewer to_server on_way =
+    (new : Network) × Goes e old new × IsWatchedBy e share k viewer to_server on_way new
+
+-- whoever is the viewer of the seat, and whatever is between the two: they stand for the same
+-- network after a call as before it
 abbrev pub StaysWatched : Share → ℕ → Share → Type 0
-StaysWatched old k new = (e : Ends) (viewer : Viewer) (to_server on_way : List ℕ) →
-    Watches e old k viewer to_server on_way → Watches e new k viewer to_server on_way
+StaysWatched old k new =
+    (e : Ends) (viewer : Viewer) (to_server on_way : List ℕ) (n : Network) →
+    IsWatchedBy e old k viewer to_server on_way n → IsWatchedBy e new k viewer to_server on_way n
 
 -- ---- calls of the viewer that are not refused
 

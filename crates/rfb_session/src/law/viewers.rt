@@ -33,7 +33,7 @@ ghost use Rattle.rfb_session.specs.Network.{Network};
 ghost use Rattle.rfb_session.specs.Share.{screen_of, serving_in, waits_at, fault_in};
 ghost use Rattle.rfb_session.specs.ShareSteps.{JoinsAs, DrawsOn, ReceivesAs, RefusesAs};
 ghost use Rattle.rfb_session.specs.ShareSteps.{WritesAs, ComposesAs, WantsRoomAs, LeavesAs};
-ghost use Rattle.rfb_session.specs.ShareViewers.{IsWatchedBy, Watches, StaysWatched};
+ghost use Rattle.rfb_session.specs.ShareViewers.{IsWatchedBy, GoesOn, StaysWatched, fresh_over};
 ghost use Rattle.rfb_session.specs.ShareViewers.{Requests, AsksFormat, MaySend, plain_message};
 
 /// A fresh viewer at a seat that was just taken, and the bytes between the two, stand for a fresh
@@ -44,26 +44,27 @@ ghost use Rattle.rfb_session.specs.ShareViewers.{Requests, AsksFormat, MaySend, 
 pub fn a_seat_goes_on_as_a_link()
     ensures joined { (e : Ends) (old new : Share) (joined : Option ℕ) (k : ℕ) (viewer : Viewer) →
         e.serving ≡ serving_in old → ViewerStandsFor e.viewing viewer first_viewer [] →
-        JoinsAs old joined new → joined ≡ Some k → Watches e new k viewer [] [] }
+        JoinsAs old joined new → joined ≡ Some k →
+        IsWatchedBy e new k viewer [] [] (fresh_over e (screen_of new)) }
     ensures drawn { (e : Ends) (old new : Share) (s : Stroke) (k : ℕ) (viewer : Viewer)
-        (to_server on_way : List ℕ) → IsInside (screen_of old) s → DrawsOn old s new →
-        Watches e old k viewer to_server on_way → Watches e new k viewer to_server on_way }
+        (to_server on_way : List ℕ) (n : Network) → IsInside (screen_of old) s → DrawsOn old s new →
+        IsWatchedBy e old k viewer to_server on_way n → GoesOn e n new k viewer to_server on_way }
     ensures received { (e : Ends) (old new : Share) (k : ℕ) (bytes : List ℕ) (told : Heard)
-        (viewer : Viewer) (to_server later on_way : List ℕ) → AreMade e →
+        (viewer : Viewer) (to_server later on_way : List ℕ) (n : Network) → AreMade e →
         to_server ≡ take told.used bytes ++ later → ReceivesAs old k bytes told new →
-        Watches e old k viewer to_server on_way → Watches e new k viewer later on_way }
+        IsWatchedBy e old k viewer to_server on_way n → GoesOn e n new k viewer later on_way }
     ensures never_refused { (e : Ends) (old new : Share) (k : ℕ) (bytes : List ℕ)
-        (fault : ServerFault) (viewer : Viewer) (to_server later on_way : List ℕ) →
+        (fault : ServerFault) (viewer : Viewer) (to_server later on_way : List ℕ) (n : Network) →
         fault ≢ NoMemory → to_server ≡ bytes ++ later →
         RefusesAs old k bytes (Session fault) new →
-        Watches e old k viewer to_server on_way → ⊥ }
+        IsWatchedBy e old k viewer to_server on_way n → ⊥ }
     ensures written { (e : Ends) (old new : Share) (k count : ℕ) (viewer : Viewer)
-        (to_server on_way : List ℕ) → WritesAs old k count new →
-        Watches e old k viewer to_server on_way →
-        Watches e new k viewer to_server (on_way ++ take count (waits_at old k)) }
+        (to_server on_way : List ℕ) (n : Network) → WritesAs old k count new →
+        IsWatchedBy e old k viewer to_server on_way n →
+        IsWatchedBy e new k viewer to_server (on_way ++ take count (waits_at old k)) n }
     ensures composed { (e : Ends) (old new : Share) (k : ℕ) (told : Composing) (viewer : Viewer)
-        (to_server on_way : List ℕ) → ComposesAs old k told new →
-        Watches e old k viewer to_server on_way → Watches e new k viewer to_server on_way }
+        (to_server on_way : List ℕ) (n : Network) → ComposesAs old k told new →
+        IsWatchedBy e old k viewer to_server on_way n → GoesOn e n new k viewer to_server on_way }
     ensures wanted { (old new : Share) (k : ℕ) → WantsRoomAs old k new → StaysWatched old k new }
 {}
 
@@ -92,24 +93,26 @@ pub fn a_seat_goes_on_beside_others()
 /// and what changes nothing of it; and so do bytes that reach it.
 pub fn a_viewer_of_a_seat_goes_on_as_a_link()
     ensures shown { (e : Ends) (share : Share) (k : ℕ) (old new : Viewer) (bytes later : List ℕ)
-        (event : Option ViewerTold) (to_server on_way : List ℕ) → AreMade e →
+        (event : Option ViewerTold) (to_server on_way : List ℕ) (n : Network) → AreMade e →
         on_way ≡ bytes ++ later →
         FedBy (viewer_end e.viewing) (ViewerStandsFor e.viewing) old bytes event new →
-        Watches e share k old to_server on_way →
-        Watches e share k new (to_server ++ viewer_reply event) later }
+        IsWatchedBy e share k old to_server on_way n →
+        GoesOn e n share k new (to_server ++ viewer_reply event) later }
     ensures requested { (e : Ends) (share : Share) (k : ℕ) (old new : Viewer) (incremental : Bool)
-        (rect : Rect) (bytes to_server on_way : List ℕ) → Requests e rect old new →
+        (rect : Rect) (bytes to_server on_way : List ℕ) (n : Network) → Requests e rect old new →
         SpellsClientMessage (FramebufferUpdateRequest incremental rect) bytes →
-        Watches e share k old to_server on_way → Watches e share k new (to_server ++ bytes) on_way }
+        IsWatchedBy e share k old to_server on_way n →
+        GoesOn e n share k new (to_server ++ bytes) on_way }
     ensures format { (e : Ends) (share : Share) (k : ℕ) (old new : Viewer) (form : PixelFormat)
-        (bytes to_server on_way : List ℕ) → AsksFormat e form old new →
+        (bytes to_server on_way : List ℕ) (n : Network) → AsksFormat e form old new →
         SpellsClientMessage (SetPixelFormat form) bytes →
-        Watches e share k old to_server on_way → Watches e share k new (to_server ++ bytes) on_way }
+        IsWatchedBy e share k old to_server on_way n →
+        GoesOn e n share k new (to_server ++ bytes) on_way }
     ensures sent { (e : Ends) (share : Share) (k : ℕ) (viewer : Viewer) (message : ClientMessage)
-        (event : Event) (bytes to_server on_way : List ℕ) → MaySend e viewer →
+        (event : Event) (bytes to_server on_way : List ℕ) (n : Network) → MaySend e viewer →
         plain_message event ≡ Some message → SpellsClientMessage message bytes →
-        Watches e share k viewer to_server on_way →
-        Watches e share k viewer (to_server ++ bytes) on_way }
+        IsWatchedBy e share k viewer to_server on_way n →
+        GoesOn e n share k viewer (to_server ++ bytes) on_way }
 {}
 
 /// At any time neither end of such a seat has failed. Once all that is on its way and all that
