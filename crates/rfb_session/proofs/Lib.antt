@@ -51,6 +51,12 @@ pub mod ShareViewerLemmas
 pub mod ShareUpdateLemmas
 pub mod ShareCallLemmas
 pub mod ShareBesideLemmas
+pub mod HopQueueLemmas
+pub mod HopLinkLemmas
+pub mod HopGoesLemmas
+pub mod HopRunLemmas
+pub mod HopSeatLemmas
+pub mod HopEndLemmas
 pub mod HubSeatLemmas
 pub mod HubSlotLemmas
 pub mod HubStepLemmas

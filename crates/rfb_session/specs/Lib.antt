@@ -43,6 +43,8 @@ pub mod ShareMirrors
 pub mod ShareAsking
 pub mod ShareLives
 pub mod ShareViewers
+pub mod Hops
+pub mod HopEnds
 pub mod language
 pub mod owner
 pub mod Turns
