@@ -19,7 +19,8 @@ use Rattle.rfb_session.specs.LinkSteps.{LinkEvent, Request as OfRequest, SetForm
 use Rattle.rfb_session.specs.LinkSteps.{SetEncodings as OfEncodings, Key as OfKey, Pointer as OfPointer}
 use Rattle.rfb_session.specs.LinkSteps.{CutText as OfText, Compose as OfComposing, ToServer as OfServer}
 use Rattle.rfb_session.specs.LinkSteps.{ToViewer as OfViewer, LinkSteps, MovesToViewer, calls, update_items}
-use Rattle.rfb_session.proofs.PhaseLemmas.{Core, core, Phase, Greeting, Versioned, Typed, Choosing37, Choosing38}
+use Rattle.rfb_session.proofs.PhaseLemmas.{Core, core, none_first, Phase}
+use Rattle.rfb_session.proofs.PhaseLemmas.{Greeting, Versioned, Typed, Choosing37, Choosing38}
 use Rattle.rfb_session.proofs.PhaseLemmas.{Chosen, Sharing, Begun, Named, Idling, Asking, Held, Sent}
 use Rattle.rfb_session.proofs.HoldsLemmas.{Holds}
 use Rattle.rfb_session.proofs.DueLemmas.{due_held}
@@ -34,6 +35,7 @@ pub record ShowsOutside (l : LinkState) (c : Composing) : Type 0 where
   pub latest : Composing
   pub latest_is : l.latest ≡ Some latest
   pub shows : point.left ≡ 0 → ShowsLatest (Some c) l.viewer.picture
+  pub fresh : l.to_viewer ≡ [] → l.latest ≡ Some c
 
 -- the same composing, or the latest one
 pub record GoesOutside (l : LinkState) (c : Composing) : Type 0 where
@@ -99,6 +101,7 @@ first_outside e screen l h quiet some = by h.phase
         latest = one.0;
         latest_is = one.1;
         shows = λ none. all_come e screen l one.0 h s.none one.1;
+        fresh = λ none. one.1;
       },
     )
     by (Asking p m s) = busy s.busy
@@ -122,6 +125,7 @@ called None l v message c s picture point =
       latest_is = s.latest_is;
       shows = λ none. subst (λ (g : Option (Grid Colour)). ShowsLatest (Some c) g) (sym picture)
           (s.shows (sym one.2 ∙ none));
+      fresh = s.fresh;
     }
 
 by_call : (o : Option CallFault) (old new : LinkState) (v : ViewerState) (message : ClientMessage) (c : Composing) →
@@ -176,7 +180,7 @@ to_viewer e screen old new c n h moves s = by moves.done refl
         (moves.queue ∙ ap (λ (q : List FromServer). q ++ moves.left) is) s.left
 
     ends : (q : UpdatePoint) → new.viewer.point ≡ Second q → IsLeft q moves.left →
-        ((moves.left ≡ []) ⊎ (0 < q.left)) → GoesOutside new c
+        ((moves.left ≡ []) ⊎ ((0 < q.left) × (moves.left ≡ [] → ⊥))) → GoesOutside new c
     ends q at left (inl none) = record {
       composing = s.latest;
       shows = record {
@@ -186,6 +190,7 @@ to_viewer e screen old new c n h moves s = by moves.done refl
         latest = s.latest;
         latest_is = latest_is;
         shows = λ outside. all_come e screen new s.latest h (left_is ∙ none) latest_is;
+        fresh = λ all. latest_is;
       };
       either = inr latest_is;
     }
@@ -195,7 +200,8 @@ to_viewer e screen old new c n h moves s = by moves.done refl
       left = subst (λ (l : List FromServer). IsLeft q l) (sym left_is) left;
       latest = s.latest;
       latest_is = latest_is;
-      shows = λ outside. absurd (omega (arith, some, outside));
+      shows = λ outside. absurd (let more = some.0 in omega (arith, more, outside));
+      fresh = λ all. absurd (some.1 (sym left_is ∙ all));
     })
 
     by : (done : List FromServer) → moves.done ≡ done → GoesOutside new c
@@ -207,6 +213,8 @@ to_viewer e screen old new c n h moves s = by moves.done refl
       latest_is = latest_is;
       shows = λ outside. subst (λ (v : ViewerState). ShowsLatest (Some c) v.picture) (sym (viewer_is [] is))
           (s.shows outside);
+      fresh = λ all. ap (λ (l : LinkState). l.latest) moves.result
+          ∙ s.fresh (moves.queue ∙ ap (λ (q : List FromServer). q ++ moves.left) is ∙ sym left_is ∙ all);
     })
     by (item ∷ done) is =
         let one = some_shown e old.viewer s.point item done moves.left s.at (queue_is (item ∷ done) is) in
@@ -241,6 +249,8 @@ link_outside e screen old new OfComposing c h (inl composed) s =
       latest = record { screen = screen; area = old.session.area; form = old.session.form };
       latest_is = refl;
       shows = s.shows;
+      fresh = λ all. absurd (none_first _ _ (sym all
+          ∙ ap (λ (q : List FromServer). q ++ update_items composed.copies composed.blocks) held.awaits.none));
     }))
 link_outside e screen old new OfComposing c h (inr idle) s =
     stays new c (subst (λ (l : LinkState). ShowsOutside l c) (sym idle.1) s)
@@ -255,6 +265,8 @@ link_outside e screen old new (OfServer count) c h moves s =
       latest = s.latest;
       latest_is = s.latest_is;
       shows = s.shows;
+      fresh = λ all. s.fresh (sym (append-nil old.to_viewer)
+          ∙ ap (λ (q : List FromServer). old.to_viewer ++ q) (sym none) ∙ all);
     }))
 link_outside e screen old new (OfViewer count) c h moves s =
     to_viewer e screen old new c _ (link_holds e screen old new (OfViewer count) h moves) moves s

@@ -34,14 +34,15 @@ past_left p item = refl
 
 after_item : (sent : List SentRect) (rest : List FromServer) (q : UpdatePoint) →
     rest ≡ map (λ item. Second item) (map item_of sent) → q.left ≡ length sent →
-    IsLeft q rest × ((rest ≡ []) ⊎ (0 < q.left))
+    IsLeft q rest × ((rest ≡ []) ⊎ ((0 < q.left) × (rest ≡ [] → ⊥)))
 after_item [] rest q is left = (Nothing is, inl is)
-after_item (s ∷ sent) rest q is left = (Part s sent left is, inr (omega (arith, left)))
+after_item (s ∷ sent) rest q is left =
+    (Part s sent left is, inr (omega (arith, left), λ none. none_first _ _ (sym none ∙ is)))
 
 -- once one has acted nothing is left, or some rectangles
 left_shown : (p : UpdatePoint) (item : FromServer) (rest : List FromServer) → IsLeft p (item ∷ rest) →
     (i : UpdateItem) × (item ≡ Second i) × IsLeft (update_stream.past p i) rest
-    × ((rest ≡ []) ⊎ (0 < (update_stream.past p i).left))
+    × ((rest ≡ []) ⊎ ((0 < (update_stream.past p i).left) × (rest ≡ [] → ⊥)))
 left_shown p item rest (Nothing none) = absurd (none_first item rest (sym none))
 left_shown p item rest (Whole none sent is) =
     let head = Message (FramebufferUpdate (length sent)) in
@@ -59,7 +60,7 @@ left_shown p item rest (Part s sent some is) =
 pub some_shown : (e : Ends) (v : ViewerState) (p : UpdatePoint) (item : FromServer) (done left : List FromServer) →
     v.point ≡ Second p → IsLeft p (item ∷ (done ++ left)) →
     (q : UpdatePoint) × ((acts (viewer e.viewing) v (item ∷ done)).point ≡ Second q) × IsLeft q left
-    × ((left ≡ []) ⊎ (0 < q.left))
+    × ((left ≡ []) ⊎ ((0 < q.left) × (left ≡ [] → ⊥)))
 some_shown e v p item [] left at is =
     let one = left_shown p item left is in (
       update_stream.past p one.0,

@@ -114,7 +114,7 @@ picture_seen m seen between =
     (subst (λ (bytes : List ℕ). Shows m.above.link.viewer bytes (Some m.screen)) bare seen.shows)
 
 pub seen_holds : (e f : Ends) (m : Moment) (earlier : List Moment) → IsRun e f (m ∷ earlier) → IsBetween m →
-    Once (m ∷ earlier) (λ at before. ShowsServers m.screen at before)
+    Once (m ∷ earlier) (λ at before. ShowsServers m at before)
 seen_holds e f m earlier run between =
     let one = run_above e f m earlier run in
     let same : one.shows.point ≡ between.point = (let is = sym one.shows.at ∙ between.at in cc) in
@@ -122,8 +122,8 @@ seen_holds e f m earlier run between =
     let shows : ShowsComposing one.composing m.screen =
     subst (λ (g : Option (Grid Colour)). ShowsLatest (Some one.composing) g)
     (sym (picture_seen m (run_seen e f m earlier run) between)) (one.shows.shows outside) in
-    once_so (λ at before. HasComposed one.composing at before) (λ at before. ShowsServers m.screen at before)
-    (m ∷ earlier) (λ at before is. (one.composing, is, shows)) one.once
+    once_so (λ at before. HasComposed one.composing at before) (λ at before. ShowsServers m at before)
+    (m ∷ earlier) (λ at before is. (one.composing, is, shows, one.shows.fresh)) one.once
 
 -- ---- the second hop
 
@@ -208,13 +208,14 @@ passed_holds e f m earlier l c run is latest =
     (λ at before of. record {
       screen = of.0;
       shows = λ between.
-          once_so (λ once sooner. ShowsServers at.screen once sooner)
-          (λ once sooner. ShowsThrough c (due_picture f l) once sooner) (at ∷ before)
+          once_so (λ once sooner. ShowsServers at once sooner)
+          (λ once sooner. ShowsThrough c (due_picture f l) at once sooner) (at ∷ before)
           (λ once sooner one. (
             one.0,
             one.1,
             shows_twice one.0 c (due_picture f l)
                 (subst (λ (g : Grid Colour). ShowsComposing one.0 g) (sym of.0) one.2) shown,
+            one.3,
           ))
           (seen_holds e f at before of.1 between);
     })

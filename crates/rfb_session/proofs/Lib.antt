@@ -56,7 +56,10 @@ pub mod HopLinkLemmas
 pub mod HopGoesLemmas
 pub mod HopRunLemmas
 pub mod HopSeatLemmas
+pub mod HopEarlyLemmas
+pub mod HopFedLemmas
 pub mod HopEndLemmas
+pub mod HopCallLemmas
 pub mod HubSeatLemmas
 pub mod HubSlotLemmas
 pub mod HubStepLemmas

@@ -4,10 +4,10 @@ use Rattle.std.specs.Prelude.{◌≡◌, ℕ, List, Option, Some, None}
 use Rattle.rfb_viewer.specs.declared.viewer.Viewer.{Viewer}
 use Rattle.rfb_viewer.specs.Standing.{StandsFor as ViewerStandsFor}
 use Rattle.rfb_session.specs.declared.share.Share.{Share}
-use Rattle.rfb_session.specs.Hops.{Moment, GoesTo, over}
+use Rattle.rfb_session.specs.Hops.{Moment, GoesTo, Opens, over}
 use Rattle.rfb_session.specs.InFlight.{Flies}
 use Rattle.rfb_session.specs.Link.{Ends, LinkState}
-use Rattle.rfb_session.specs.Network.{Network, IsReached}
+use Rattle.rfb_session.specs.Network.{Network, Goes, IsReached}
 use Rattle.rfb_session.specs.Share.{screen_of, viewer_of}
 use Rattle.rfb_session.specs.ShareViewers.{IsWatchedBy}
 
@@ -27,6 +27,15 @@ pub record IsFed (e : Ends) (viewer : Viewer) (server_has to_server to_viewer : 
     server_gets = to_server;
   })
 
+-- a network after it, at which the server has done nothing, that a viewer stands for so
+pub record GoesFed (e : Ends) (old : Network) (viewer : Viewer)
+    (has to_server to_viewer : List ℕ) : Type 0 where
+  pub next : Network
+  pub goes : Goes e old next
+  pub screen : next.screen ≡ old.screen
+  pub session : next.link.session ≡ old.link.session
+  pub fed : IsFed e viewer has to_server to_viewer next
+
 -- it is the viewer of a share, which shows what that viewer does
 pub record IsRelay (e : Ends) (share : Share) (server_has to_server to_viewer : List ℕ)
     (m : Moment) : Type 0 where
@@ -43,6 +52,14 @@ pub record LeavesServer (old new : Moment) : Type 0 where
 -- the moment at which a share opens over a network
 abbrev pub opened : Share → Network → Moment
 opened share n = record { above = n; screen = screen_of share; below = None }
+
+-- so it opens, at a network after it
+pub record OpensAs (e : Ends) (old : Network) (share : Share) (has to_server to_viewer : List ℕ)
+    : Type 0 where
+  pub next : Network
+  pub goes : Goes e old next
+  pub opens : Opens e (opened share next)
+  pub relay : IsRelay e share has to_server to_viewer (opened share next)
 
 -- ---- the second hop
 

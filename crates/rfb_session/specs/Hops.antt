@@ -81,11 +81,15 @@ pub record IsBetween (m : Moment) : Type 0 where
   pub none_left : point.left ≡ 0
   pub none_came : m.above.link.at_viewer ≡ 0
 
--- the server had composed an update, its latest then, and the picture shows its screen of that time
--- over the area that it answered, through its format
-abbrev pub ShowsServers : Grid Colour → Moment → List Moment → Type 0
-ShowsServers picture m earlier =
-    (c : Composing) × (m.above.link.latest ≡ Some c) × ShowsComposing c picture
+-- where nothing is on its way to the relay it is the server's latest composing
+abbrev pub IsFresh : Moment → Composing → Type 0
+IsFresh m c = m.above.link.to_viewer ≡ [] → m.above.link.latest ≡ Some c
+
+-- the server had composed an update, its latest then, and the relay now shows its screen of that
+-- time over the area that it answered, through its format
+abbrev pub ShowsServers : Moment → Moment → List Moment → Type 0
+ShowsServers now m earlier =
+    (c : Composing) × (m.above.link.latest ≡ Some c) × ShowsComposing c now.screen × IsFresh now c
 
 -- a place that a composing answered
 abbrev pub IsAnswered : Composing → ℕ → ℕ → Type 0
@@ -100,14 +104,16 @@ ShowsTwice first second (Some picture) =
     at_or picture x y d
     ≡ seen_through second.form (seen_through first.form (at_or first.screen x y black))
 
--- the server had composed an update, and with the second one this picture shows both
-abbrev pub ShowsThrough : Composing → Option (Grid Colour) → Moment → List Moment → Type 0
-ShowsThrough second due m earlier =
+-- the server had composed an update, and with one that the relay composes now the picture shows
+-- both
+abbrev pub ShowsThrough : Composing → Option (Grid Colour) → Moment → Moment → List Moment → Type 0
+ShowsThrough second due now m earlier =
     (first : Composing) × (m.above.link.latest ≡ Some first) × ShowsTwice first second due
+    × IsFresh now first
 
 -- an update was composed of the relay's screen at that moment; and where the relay's viewer stood
 -- between two messages then, the server had composed one before of which that screen was
 pub record IsPassedOn (second : Composing) (due : Option (Grid Colour)) (m : Moment)
     (earlier : List Moment) : Type 0 where
   pub screen : second.screen ≡ m.screen
-  pub shows : IsBetween m → Once (m ∷ earlier) (λ at before. ShowsThrough second due at before)
+  pub shows : IsBetween m → Once (m ∷ earlier) (λ at before. ShowsThrough second due m at before)

@@ -1,8 +1,13 @@
 //! Laws of two hops, with nothing to run: what a viewer behind a relay comes to show of a server.
 
 ghost use Rattle.std.specs.Prelude.{◌≡◌, ◌≢◌, ℕ, Bool, false, List, [], ◌∷◌, ◌++◌, take};
-ghost use Rattle.std.specs.Prelude.{Some, None, Result, Ok};
+ghost use Rattle.std.specs.Prelude.{Option, Some, None, Result, Ok};
+ghost use Rattle.rfb_pixel.specs.declared.colour.Colour.{Colour};
 ghost use Rattle.rfb_picture.specs.declared.rect.Rect.{Rect};
+ghost use Rattle.rfb_picture.specs.Grid.{Grid};
+ghost use Rattle.rfb_wire.specs.ClientMessage.{FramebufferUpdateRequest, SpellsClientMessage};
+ghost use Rattle.rfb_wire.specs.stream.End.{FedBy};
+ghost use Rattle.rfb_hello.specs.Version.{version_text};
 ghost use Rattle.rfb_hello.specs.declared.fed.Fed.{Fed};
 ghost use Rattle.rfb_viewer.specs.declared.call.Call.{Call};
 ghost use Rattle.rfb_viewer.specs.declared.call.Call.TheVariants.{Request};
@@ -13,13 +18,15 @@ ghost use Rattle.rfb_viewer.specs.declared.fault.ViewerFault.TheVariants.{NoMemo
 ghost use Rattle.rfb_viewer.specs.declared.viewer.Viewer.{Viewer};
 ghost use Rattle.rfb_viewer.specs.Call.{is_noted, message_bytes, message_of};
 ghost use Rattle.rfb_viewer.specs.Messages.{request_message};
-ghost use Rattle.rfb_viewer.specs.Told.{seen};
+ghost use Rattle.rfb_viewer.specs.Standing.{StandsFor as ViewerStandsFor};
+ghost use Rattle.rfb_viewer.specs.Told.{ViewerTold, UpdateDone, seen};
+ghost use Rattle.rfb_viewer.specs.Viewer.{first_viewer, viewer as viewer_end};
 ghost use Rattle.rfb_session.specs.declared.event.Event.{Event};
 ghost use Rattle.rfb_session.specs.declared.share.Share.{Share};
-ghost use Rattle.rfb_session.specs.Headline.{AnswersSome, IsHeadline, due_picture};
-ghost use Rattle.rfb_session.specs.HopEnds.{IsFed, IsRelay, opened};
+ghost use Rattle.rfb_session.specs.Headline.{IsHeadline, due_picture};
+ghost use Rattle.rfb_session.specs.HopEnds.{IsFed, GoesFed, IsRelay, OpensAs};
 ghost use Rattle.rfb_session.specs.HopEnds.{IsBehind, ShowsSame, Becomes};
-ghost use Rattle.rfb_session.specs.Hops.{Moment, GoesTo, Opens, IsRun, Once, IsBetween, over};
+ghost use Rattle.rfb_session.specs.Hops.{Moment, GoesTo, IsRun, Once, IsBetween, over};
 ghost use Rattle.rfb_session.specs.Hops.{ShowsServers, IsPassedOn};
 ghost use Rattle.rfb_session.specs.InFlight.{AreMade, viewer_reply};
 ghost use Rattle.rfb_session.specs.Link.{Ends, Composing, LinkState};
@@ -27,7 +34,7 @@ ghost use Rattle.rfb_session.specs.Network.{Network, Goes};
 ghost use Rattle.rfb_session.specs.Share.{screen_of, viewer_of, waits_at};
 ghost use Rattle.rfb_session.specs.ShareMirrors.{FeedsOn, FailsOn, MakesOn, ShowsOther};
 ghost use Rattle.rfb_session.specs.ShareViewers.{IsWatchedBy, GoesOn, StaysWatched, fresh_over};
-ghost use Rattle.rfb_session.specs.ShareViewers.{plain_message};
+ghost use Rattle.rfb_session.specs.ShareViewers.{Requests, plain_message};
 
 /// Whatever happens on both hops, each of them has the theorem of a server and its viewer. The
 /// relay's screen, where its viewer stands between two messages, is the server's at a composing of
@@ -41,7 +48,7 @@ pub fn a_viewer_behind_a_relay_shows_the_servers_screen()
         IsRun e f (m ∷ earlier) → m.below ≡ Some l → IsHeadline f l }
     ensures seen { (e f : Ends) (m : Moment) (earlier : List Moment) → IsRun e f (m ∷ earlier) →
         IsBetween m →
-        Once (m ∷ earlier) (λ at before. ShowsServers m.screen at before) }
+        Once (m ∷ earlier) (λ at before. ShowsServers m at before) }
     ensures passed { (e f : Ends) (m : Moment) (earlier : List Moment) (l : LinkState)
         (c : Composing) → IsRun e f (m ∷ earlier) → m.below ≡ Some l → l.latest ≡ Some c →
         Once (m ∷ earlier) (λ at before. IsPassedOn c (due_picture f l) at before) }
@@ -65,14 +72,38 @@ pub fn a_seat_goes_on_as_a_picture_does()
         MakesOn old was call before result after new → StaysWatched old k new }
 {}
 
-/// A share of a server's picture goes on moment by moment on the first hop: once an update of the
-/// server's has come whole it opens; the server does something, whatever it is, as the seat of
-/// another share does; bytes of the server's reach the share; and the share's viewer requests an
-/// update, or sends a message that changes nothing of it. It refuses no byte of such a server.
+/// A fresh viewer and a fresh server stand for a fresh link, once the server has greeted. Bytes of
+/// the server's and a request of the viewer's go on as the link does. When the end of an update is
+/// reported a share of that viewer's picture opens.
+pub fn a_relay_meets_its_server()
+    ensures first { (e : Ends) (screen : Grid Colour) (viewer : Viewer) →
+        ViewerStandsFor e.viewing viewer first_viewer [] →
+        screen.width ≡ e.serving.hello.width → screen.height ≡ e.serving.hello.height →
+        IsFed e viewer [] [] (version_text e.serving.hello.offer) (fresh_over e screen) }
+    ensures fed { (e : Ends) (old new : Viewer) (bytes : List ℕ) (event : Option ViewerTold)
+        (has to_server to_viewer later : List ℕ) (n : Network) → AreMade e →
+        to_viewer ≡ bytes ++ later →
+        FedBy (viewer_end e.viewing) (ViewerStandsFor e.viewing) old bytes event new →
+        IsFed e old has to_server to_viewer n →
+        GoesFed e n new has (to_server ++ viewer_reply event) later }
+    ensures requested { (e : Ends) (old new : Viewer) (incremental : Bool) (rect : Rect)
+        (bytes has to_server to_viewer : List ℕ) (n : Network) → Requests e rect old new →
+        SpellsClientMessage (FramebufferUpdateRequest incremental rect) bytes →
+        IsFed e old has to_server to_viewer n →
+        GoesFed e n new has (to_server ++ bytes) to_viewer }
+    ensures opens { (e : Ends) (share : Share) (old new : Viewer) (bytes : List ℕ)
+        (has to_server to_viewer later : List ℕ) (n : Network) → AreMade e →
+        to_viewer ≡ bytes ++ later →
+        FedBy (viewer_end e.viewing) (ViewerStandsFor e.viewing) old bytes (Some UpdateDone) new →
+        viewer_of share ≡ Some new → IsFed e old has to_server to_viewer n →
+        OpensAs e n share has to_server later }
+{}
+
+/// A share of a server's picture goes on moment by moment on the first hop: the server does
+/// something, whatever it is, as the seat of another share does; bytes of the server's reach the
+/// share; and its viewer requests an update, or sends a message that changes nothing of it. It
+/// refuses no byte of such a server.
 pub fn a_relay_goes_on_with_its_server()
-    ensures opens { (e : Ends) (share : Share) (server_has to_server to_viewer : List ℕ)
-        (n : Network) → IsRelay e share server_has to_server to_viewer (opened share n) →
-        n.link.viewer.outstanding ≡ false → AnswersSome n.link.latest → Opens e (opened share n) }
     ensures above { (e f : Ends) (share : Share) (viewer : Viewer)
         (had to_server to_viewer has sends gets : List ℕ) (m : Moment) (n : Network) →
         IsRelay e share had to_server to_viewer m → viewer_of share ≡ Some viewer →

@@ -1,11 +1,9 @@
-use Rattle.rfb_session.proofs.HopEndLemmas.{relay_opens, relay_above, seat_fed, relay_heard, relay_never}
-use Rattle.rfb_session.proofs.HopEndLemmas.{relay_requested, relay_sent}
+use Rattle.rfb_session.proofs.HopCallLemmas.{relay_requested, relay_sent}
+use Rattle.rfb_session.proofs.HopEndLemmas.{relay_above, seat_fed, relay_heard, relay_never}
 use Rattle.rfb_session.proofs.law.hops.a_relay_goes_on_with_its_server.Goals as goal
 
 pub returns : goal.returns
 returns c = record {
-  opens = λ e share has to_server to_viewer n relay quiet some.
-      relay_opens e share has to_server to_viewer n relay quiet some;
   above = λ e f share viewer had to_server to_viewer has sends gets m n relay there goes fed.
       relay_above e f share viewer had to_server to_viewer has sends gets m n relay there goes fed;
   seat = λ e server j viewer to_server on_way n w. seat_fed e server j viewer to_server on_way n w;

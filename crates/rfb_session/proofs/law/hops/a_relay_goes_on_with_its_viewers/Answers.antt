@@ -1,4 +1,4 @@
-use Rattle.rfb_session.proofs.HopEndLemmas.{relay_came, relay_below, relay_beside}
+use Rattle.rfb_session.proofs.HopCallLemmas.{relay_came, relay_below, relay_beside}
 use Rattle.rfb_session.proofs.law.hops.a_relay_goes_on_with_its_viewers.Goals as goal
 
 pub returns : goal.returns
