@@ -68,7 +68,7 @@ is_whole old new whole_old whole_new wide high = (
 
 -- ---- a seat
 
-follows : (share : Share) (k : ℕ) (seat : ShareSeat) → seat_in share k ≡ Some seat →
+pub follows : (share : Share) (k : ℕ) (seat : ShareSeat) → seat_in share k ≡ Some seat →
     Follows (screen_of share) (session_at seat)
 follows share k seat there =
     each_seat (λ (s : ShareSeat). Follows (screen_of share) (session_at s)) share.seats share.follow k seat there
@@ -118,11 +118,17 @@ watched_told e old new k viewer to_server on_way n told w =
 
 -- ---- bytes of the server's, and another viewer
 
-keeps_copies : (old : Share) (fed : Viewer) (new : Share) (k : ℕ) → Relays old fed new →
+pub keeps_copies : (old : Share) (fed : Viewer) (new : Share) (k : ℕ) → Relays old fed new →
     OnSlot (λ a b. KeepsShareSeat a b) (seat_in old k) (seat_in new k)
 keeps_copies old fed new k relays =
     slot_by (λ a b. HasCopies (screen_of new) (moved_of fed) a b) (λ a b. KeepsShareSeat a b) (seat_in old k)
     (seat_in new k) (λ a b has. has.keeps) (relays.seats k)
+
+pub keeps_told : (old : Share) (other : Viewer) (new : Share) (k : ℕ) → ShowsOther old other new →
+    OnSlot (λ a b. KeepsShareSeat a b) (seat_in old k) (seat_in new k)
+keeps_told old other new k shows =
+    slot_by (λ a b. HasTold a b) (λ a b. KeepsShareSeat a b) (seat_in old k) (seat_in new k)
+    (λ a b has. has.keeps) (shows.seats k)
 
 pub watched_fed : (e : Ends) (old new : Share) (bytes : List ℕ) (fed : Fed ViewerEvent) (k : ℕ) (viewer : Viewer)
     (to_server on_way : List ℕ) (n : Network) → FeedsOn old bytes fed new →
@@ -140,9 +146,7 @@ pub watched_other : (e : Ends) (old new : Share) (other : Viewer) (k : ℕ) (vie
     (to_server on_way : List ℕ) (n : Network) → ShowsOther old other new →
     IsWatchedBy e old k viewer to_server on_way n → GoesOn e n new k viewer to_server on_way
 watched_other e old new other k viewer to_server on_way n shows w =
-    watched_told e old new k viewer to_server on_way n
-    (slot_by (λ a b. HasTold a b) (λ a b. KeepsShareSeat a b) (seat_in old k) (seat_in new k)
-    (λ a b has. has.keeps) (shows.seats k)) w
+    watched_told e old new k viewer to_server on_way n (keeps_told old other new k shows) w
 
 -- a call of the server's viewer leaves the seats and the screen
 pub watched_made : (old new : Share) (was : Viewer) (call : Call) (before : List ℕ)

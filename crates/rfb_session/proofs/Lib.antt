@@ -56,6 +56,7 @@ pub mod HopLinkLemmas
 pub mod HopGoesLemmas
 pub mod HopRunLemmas
 pub mod HopSeatLemmas
+pub mod HopLifeLemmas
 pub mod HopEarlyLemmas
 pub mod HopFedLemmas
 pub mod HopEndLemmas

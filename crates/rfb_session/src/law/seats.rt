@@ -1,6 +1,13 @@
 //! Laws of a share's seats: what they come to by all calls, with nothing to run.
 
-ghost use Rattle.std.specs.Prelude.{◌≡◌, ◌≢◌, ℕ, List, [], ◌++◌, take, Option, Some};
+ghost use Rattle.std.specs.Prelude.{◌≡◌, ◌≢◌, ℕ, List, [], ◌++◌, take, Option, Some, Result};
+ghost use Rattle.rfb_hello.specs.declared.fed.Fed.{Fed};
+ghost use Rattle.rfb_server.specs.Following.{Follows};
+ghost use Rattle.rfb_viewer.specs.declared.call.Call.{Call};
+ghost use Rattle.rfb_viewer.specs.declared.event.ViewerEvent.{ViewerEvent};
+ghost use Rattle.rfb_viewer.specs.declared.fault.AppendFault.{AppendFault};
+ghost use Rattle.rfb_viewer.specs.declared.fault.ViewerFault.{ViewerFault};
+ghost use Rattle.rfb_viewer.specs.declared.viewer.Viewer.{Viewer};
 ghost use Rattle.rfb_server.specs.Server.{Serving};
 ghost use Rattle.rfb_session.specs.declared.share.Share.{Share};
 ghost use Rattle.rfb_session.specs.declared.share.event.Composing.{Composing};
@@ -10,8 +17,11 @@ ghost use Rattle.rfb_session.specs.declared.share.event.ShareFault.{ShareFault};
 ghost use Rattle.rfb_session.specs.declared.share.event.ShareFault.TheVariants.{NoMemory};
 ghost use Rattle.rfb_session.specs.Share.{seat_in, screen_of, serving_in, waits_at};
 ghost use Rattle.rfb_session.specs.ShareLives.{LivesAt};
+ghost use Rattle.rfb_session.specs.ShareMirrors.{FeedsOn, FailsOn, MakesOn, ShowsOther};
+ghost use Rattle.rfb_session.specs.ShareSeats.{session_at, KeepsShareSeat};
 ghost use Rattle.rfb_session.specs.ShareSteps.{JoinsAs, DrawsOn, ReceivesAs, RefusesAs};
 ghost use Rattle.rfb_session.specs.ShareSteps.{WritesAs, ComposesAs, WantsRoomAs, KeepsScreen};
+ghost use Rattle.rfb_session.specs.Slots.{OnSlot};
 
 /// A seat that a viewer takes begins its life: nothing was received there, nothing written. A call
 /// of the share's carries that on. So at any time its session stands for what the bytes received
@@ -49,4 +59,30 @@ pub fn a_seat_that_is_left_alone_lives_on()
     ensures { (serving : Serving) (old new : Share) (k : ℕ) (heard taken : List ℕ) →
         KeepsScreen old new → seat_in new k ≡ seat_in old k →
         LivesAt serving old k heard taken → LivesAt serving new k heard taken }
+{}
+
+/// So does a seat of a share whose screen is the picture of a server's viewer, whatever the server
+/// sends, and also where it fails: the pictures that it leads to are the screens.
+pub fn a_seat_lives_on_as_a_picture_changes()
+    ensures fed { (serving : Serving) (old new : Share) (bytes : List ℕ) (told : Fed ViewerEvent)
+        (k : ℕ) (heard taken : List ℕ) → FeedsOn old bytes told new →
+        LivesAt serving old k heard taken → LivesAt serving new k heard taken }
+    ensures failed { (serving : Serving) (old new : Share) (bytes : List ℕ) (fault : ViewerFault)
+        (k : ℕ) (heard taken : List ℕ) → FailsOn old bytes fault new →
+        LivesAt serving old k heard taken → LivesAt serving new k heard taken }
+    ensures shown { (serving : Serving) (old new : Share) (other : Viewer) (k : ℕ)
+        (heard taken : List ℕ) → ShowsOther old other new →
+        LivesAt serving old k heard taken → LivesAt serving new k heard taken }
+    ensures called { (serving : Serving) (old new : Share) (was : Viewer) (call : Call)
+        (before : List ℕ) (result : Result (Unit {0}) AppendFault) (after : List ℕ) (k : ℕ)
+        (heard taken : List ℕ) → MakesOn old was call before result after new →
+        LivesAt serving old k heard taken → LivesAt serving new k heard taken }
+{}
+
+/// A fault of the server's changes no seat's session: nobody comes or leaves, what each session
+/// stands for and what waits is as it was, and each follows the picture that the server left.
+pub fn a_fault_of_the_server_changes_no_session()
+    ensures { (old new : Share) (bytes : List ℕ) (fault : ViewerFault) (k : ℕ) →
+        FailsOn old bytes fault new → OnSlot (λ a b. KeepsShareSeat a b
+        × Follows (screen_of new) (session_at b)) (seat_in old k) (seat_in new k) }
 {}
