@@ -96,7 +96,7 @@ same_early : (old new : LinkState) → new.to_viewer ≡ old.to_viewer → new.l
 same_early old new queue latest (inl steps) = inl (subst (λ (q : List FromServer). AreSteps q) (sym queue) steps)
 same_early old new queue latest (inr some) = inr (subst (λ (o : Option Composing). AnswersSome o) (sym latest) some)
 
-first_holds : (a b : Bool) → (a && b) ≡ true → a ≡ true
+pub first_holds : (a b : Bool) → (a && b) ≡ true → a ≡ true
 first_holds true b both = refl
 first_holds false b both = absurd cc
 

@@ -55,9 +55,12 @@ pub mod HopQueueLemmas
 pub mod HopLinkLemmas
 pub mod HopGoesLemmas
 pub mod HopRunLemmas
+pub mod HopEarlyLemmas
+pub mod HopAskLemmas
+pub mod HopAreaLemmas
+pub mod HopAllLemmas
 pub mod HopSeatLemmas
 pub mod HopLifeLemmas
-pub mod HopEarlyLemmas
 pub mod HopFedLemmas
 pub mod HopEndLemmas
 pub mod HopCallLemmas

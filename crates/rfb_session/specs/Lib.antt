@@ -45,6 +45,7 @@ pub mod ShareLives
 pub mod ShareViewers
 pub mod Hops
 pub mod HopEnds
+pub mod HopAreas
 pub mod language
 pub mod owner
 pub mod Turns

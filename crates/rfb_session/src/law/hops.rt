@@ -24,13 +24,15 @@ ghost use Rattle.rfb_viewer.specs.Viewer.{first_viewer, viewer as viewer_end};
 ghost use Rattle.rfb_session.specs.declared.event.Event.{Event};
 ghost use Rattle.rfb_session.specs.declared.share.Share.{Share};
 ghost use Rattle.rfb_session.specs.Headline.{IsHeadline, due_picture};
+ghost use Rattle.rfb_session.specs.HopAreas.{HasAskedAll, GoesForAll, AskAll};
+ghost use Rattle.rfb_session.specs.HopAreas.{ShowsAll, IsAllPassedOn};
 ghost use Rattle.rfb_session.specs.HopEnds.{IsFed, GoesFed, IsRelay, OpensAs};
 ghost use Rattle.rfb_session.specs.HopEnds.{IsBehind, ShowsSame, Becomes};
 ghost use Rattle.rfb_session.specs.Hops.{Moment, GoesTo, IsRun, Once, IsBetween, over};
 ghost use Rattle.rfb_session.specs.Hops.{ShowsServers, IsPassedOn};
 ghost use Rattle.rfb_session.specs.InFlight.{AreMade, viewer_reply};
-ghost use Rattle.rfb_session.specs.Link.{Ends, Composing, LinkState};
-ghost use Rattle.rfb_session.specs.Network.{Network, Goes};
+ghost use Rattle.rfb_session.specs.Link.{Ends, Composing, LinkState, first_link};
+ghost use Rattle.rfb_session.specs.Network.{Network, Goes, IsReached};
 ghost use Rattle.rfb_session.specs.Share.{screen_of, viewer_of, waits_at};
 ghost use Rattle.rfb_session.specs.ShareMirrors.{FeedsOn, FailsOn, MakesOn, ShowsOther};
 ghost use Rattle.rfb_session.specs.ShareViewers.{IsWatchedBy, GoesOn, StaysWatched, fresh_over};
@@ -52,6 +54,22 @@ pub fn a_viewer_behind_a_relay_shows_the_servers_screen()
     ensures passed { (e f : Ends) (m : Moment) (earlier : List Moment) (l : LinkState)
         (c : Composing) → IsRun e f (m ∷ earlier) → m.below ≡ Some l → l.latest ≡ Some c →
         Once (m ∷ earlier) (λ at before. IsPassedOn c (due_picture f l) at before) }
+{}
+
+/// A relay asks for its whole screen each time. From a fresh link on each update of its server's
+/// then answers all of it. So the relay shows the server's whole screen, and what its viewer shows
+/// of that is the server's, wherever its own update answered.
+pub fn a_relay_that_asks_for_all_shows_all()
+    ensures first { (e : Ends) → HasAskedAll e (first_link e) }
+    ensures goes { (e : Ends) (old new : Network) → IsReached e old → GoesForAll e old new →
+        HasAskedAll e old.link → HasAskedAll e new.link }
+    ensures seen { (e f : Ends) (m : Moment) (earlier : List Moment) → IsRun e f (m ∷ earlier) →
+        AskAll e (m ∷ earlier) → IsBetween m →
+        Once (m ∷ earlier) (λ at before. ShowsAll m at before) }
+    ensures passed { (e f : Ends) (m : Moment) (earlier : List Moment) (l : LinkState)
+        (c : Composing) → IsRun e f (m ∷ earlier) → AskAll e (m ∷ earlier) →
+        m.below ≡ Some l → l.latest ≡ Some c →
+        Once (m ∷ earlier) (λ at before. IsAllPassedOn c (due_picture f l) at before) }
 {}
 
 /// A seat of a relay's share goes on as a link does, whatever its server sends: at bytes of the

@@ -1,0 +1,95 @@
+-- A relay that asks for its whole screen each time: what an update answered is all of it.
+use Rattle.std.specs.Prelude.{◌≡◌, ◌⊎◌, ℕ, ◌<◌, true, List, [], ◌∷◌, Option, Some, None}
+use Rattle.rfb_pixel.specs.declared.colour.Colour.{Colour}
+use Rattle.rfb_pixel.specs.Format.{seen_through}
+use Rattle.rfb_picture.specs.declared.rect.Rect.{Rect}
+use Rattle.rfb_picture.specs.Rect.{contains}
+use Rattle.rfb_picture.specs.Grid.{Grid, IsGrid, at_or}
+use Rattle.rfb_picture.specs.Area.{asked_at}
+use Rattle.rfb_wire.specs.ClientMessage.{SetPixelFormat, SetEncodings, FramebufferUpdateRequest}
+use Rattle.rfb_wire.specs.ClientMessage.{KeyEvent, PointerEvent, ClientCutText}
+use Rattle.rfb_wire.specs.stream.Sequel.{First, Second}
+use Rattle.rfb_server.specs.ClientBytes.{FromClient}
+use Rattle.rfb_server.specs.Drawing.{Stroke}
+use Rattle.rfb_server.specs.Server.{black}
+use Rattle.rfb_session.specs.declared.event.Event.{Event}
+use Rattle.rfb_session.specs.declared.event.Event.TheVariants.{Request}
+use Rattle.rfb_session.specs.Hops.{Moment, Once, IsBetween, IsFresh, IsAnswered}
+use Rattle.rfb_session.specs.Link.{Ends, Composing, LinkState}
+use Rattle.rfb_session.specs.Network.{Network, Steps, Strokes}
+
+-- the rectangle has each place of the server's screen
+abbrev pub Covers : Ends → Rect → Type 0
+Covers e rect =
+    (x y : ℕ) → x < e.serving.hello.width → y < e.serving.hello.height → contains rect x y ≡ true
+
+-- an event is no request, or it asks for all
+abbrev pub AsksAll : Ends → Event → Type 0
+AsksAll e (Request incremental rect) = Covers e rect
+AsksAll e event = Unit {0}
+
+-- at most one thing happens to a network, and none that asks for less
+abbrev pub GoesForAll : Ends → Network → Network → Type 0
+GoesForAll e old new =
+    (new ≡ old) ⊎ ((event : Event) × AsksAll e event × Steps e old event new)
+    ⊎ ((s : Stroke) × Strokes s old new)
+
+-- the requests among these items ask for all
+abbrev pub AreForAll : Ends → List FromClient → Type 0
+AreForAll e [] = Unit {0}
+AreForAll e (First step ∷ items) = AreForAll e items
+AreForAll e (Second (SetPixelFormat form) ∷ items) = AreForAll e items
+AreForAll e (Second (SetEncodings numbers) ∷ items) = AreForAll e items
+AreForAll e (Second (FramebufferUpdateRequest incremental rect) ∷ items) =
+    Covers e rect × AreForAll e items
+AreForAll e (Second (KeyEvent down key) ∷ items) = AreForAll e items
+AreForAll e (Second (PointerEvent buttons x y) ∷ items) = AreForAll e items
+AreForAll e (Second (ClientCutText text) ∷ items) = AreForAll e items
+
+-- so it is of those on their way; the server was asked for all since its latest update, or for
+-- nothing; and that update answered all
+pub record HasAskedAll (e : Ends) (l : LinkState) : Type 0 where
+  pub requests : AreForAll e l.to_server
+  pub whole : IsGrid l.session.area.asked
+  pub wide : l.session.area.asked.width ≡ e.serving.hello.width
+  pub high : l.session.area.asked.height ≡ e.serving.hello.height
+  pub some : (x y u v : ℕ) → asked_at l.session.area u v ≡ true →
+      x < e.serving.hello.width → y < e.serving.hello.height → asked_at l.session.area x y ≡ true
+  pub latest : (c : Composing) → l.latest ≡ Some c →
+      (x y : ℕ) → x < c.screen.width → y < c.screen.height → asked_at c.area x y ≡ true
+
+-- at each of these moments
+abbrev pub AskAll : Ends → List Moment → Type 0
+AskAll e [] = Unit {0}
+AskAll e (m ∷ earlier) = HasAskedAll e m.above.link × AskAll e earlier
+
+-- the server had composed an update, its latest then, and the relay now shows all of its screen of
+-- that time, through its format
+abbrev pub ShowsAll : Moment → Moment → List Moment → Type 0
+ShowsAll now m earlier =
+    (c : Composing) × (m.above.link.latest ≡ Some c) × IsFresh now c
+    × ((x y : ℕ) (d : Colour) → x < c.screen.width → y < c.screen.height →
+    at_or now.screen x y d ≡ seen_through c.form (at_or c.screen x y black))
+
+-- at each place of the server's screen that the second answered, the picture is that screen, seen
+-- through both formats
+abbrev pub ShowsAllTwice : Composing → Composing → Option (Grid Colour) → Type 0
+ShowsAllTwice first second None = ⊥
+ShowsAllTwice first second (Some picture) =
+    (x y : ℕ) (d : Colour) → x < first.screen.width → y < first.screen.height →
+    IsAnswered second x y →
+    at_or picture x y d
+    ≡ seen_through second.form (seen_through first.form (at_or first.screen x y black))
+
+-- the same as `ShowsThrough` and `IsPassedOn` say, of all of the server's screen
+abbrev pub ShowsAllThrough : Composing → Option (Grid Colour) → Moment → Moment → List Moment →
+    Type 0
+ShowsAllThrough second due now m earlier =
+    (first : Composing) × (m.above.link.latest ≡ Some first) × ShowsAllTwice first second due
+    × IsFresh now first
+
+pub record IsAllPassedOn (second : Composing) (due : Option (Grid Colour)) (m : Moment)
+    (earlier : List Moment) : Type 0 where
+  pub screen : second.screen ≡ m.screen
+  pub shows : IsBetween m →
+      Once (m ∷ earlier) (λ at before. ShowsAllThrough second due m at before)
