@@ -19,7 +19,7 @@ use Rattle.rfb_session.specs.console.Console.{OpensAs, DeclinesAs}
 use Rattle.rfb_session.specs.relay.Calls.{passed, Passes, Asks}
 use Rattle.rfb_session.specs.relay.Presence.{is_shown, is_called, planned}
 use Rattle.rfb_session.specs.relay.Setup.{viewing_by}
-use Rattle.rfb_session.specs.relay.Doors.{Arrives, KeepsAllButRooms, KeepsServer, OpensDoors, passed_at}
+use Rattle.rfb_session.specs.relay.Doors.{Arrives, KeepsAllButRooms, KeepsButDesk, KeepsServer, OpensDoors, passed_at}
 use Rattle.rfb_session.specs.relay.Doors.{room_of_server, space_at_door}
 use Rattle.rfb_session.specs.relay.Server.{ForgetsServer, HearsServer, LosesServer, WakesFor, planned_for}
 
@@ -61,11 +61,16 @@ module _ {S : Type 0} where
     pub done : does mid
     pub keeps : KeepsAllButRooms mid new
 
-  -- a turn: the desk's, and after it the server is asked where somebody waits for an update, or its call is planned
+  -- a turn: the desk's, and before it and after it the server is asked where somebody waits for an update; or its
+  -- call is planned
   pub record TurnsRelay (old : Relay S) (now : ℕ) (new : Relay S) : Type 0 where
+    pub asked : Relay S
+    pub asks_first : Asks (is_shown old.presence) old.console.outcome old.console.desk asked.console.desk
+        old.to_server asked.to_server asked.console.outcome
+    pub keeps : KeepsButDesk old asked
     pub mid : Console S
-    pub turns : TurnsDesk old.console now mid
-    pub asks : Asks (is_shown old.presence) mid.outcome mid.desk new.console.desk old.to_server new.to_server
+    pub turns : TurnsDesk asked.console now mid
+    pub asks : Asks (is_shown old.presence) mid.outcome mid.desk new.console.desk asked.to_server new.to_server
         new.console.outcome
     pub coming : new.coming ≡ old.coming
     pub presence : new.presence ≡ planned_for new.console.rules.retry new.console.outcome now old.presence

@@ -83,6 +83,9 @@ impl<S: Speaker + Drop> Core for Relay<S> {
     }
 
     fn turned(&mut self, now: u64) -> Option<u64> {
+        // Who asked for the whole screen waits no more after the desk's turn, and who is told of an
+        // update asks for the next one: both are seen before it.
+        self.ask();
         self.console.turn_desk(now);
         self.ask();
         self.console.end_turn(now);

@@ -28,7 +28,8 @@ const ASKS_AND_TYPES: &[u8] = b"\x03\0\0\0\0\0\0\x02\0\x01\x04\x01\0\0\0\0\0\x61
 const UPDATE: &[u8] = b"\0\0\0\x01\0\0\0\0\0\x02\0\x01\0\0\0\0\x1E\x14\x0A\0\x42\x37\x2C\0";
 
 // What viewers sent comes to their seats, and keys go down. What is there moves to the left, and a
-// column of three bytes a place comes from the right. Then each viewer is sent what it lacks.
+// column comes from the right: it is blue until it has three bytes a place. Then each viewer is
+// sent what it lacks.
 fn serve(
     share: &mut Share,
     came: &[(Seat, &[u8])],
@@ -47,6 +48,7 @@ fn serve(
         }
     }
     share.draw(&Drawing::Scroll(WHOLE, -1, 0))?;
+    share.draw(&Drawing::Fill(LAST, BLUE))?;
     share.draw(&Drawing::Bytes(LAST, column))?;
     for seat in share.to_serve().iter() {
         share.compose(seat)?;
