@@ -5,37 +5,37 @@ use Rattle.rfb_picture.specs.Area.{asked_at}
 use Rattle.rfb_picture.specs.Grid.{Grid}
 use Rattle.rfb_session.specs.Headline.{due_picture}
 use Rattle.rfb_session.specs.Hops.{Moment, IsRun, Once, IsBetween, ShowsTwice}
-use Rattle.rfb_session.specs.HopAreas.{AskAll, ShowsAll, ShowsAllTwice, ShowsAllThrough, IsAllPassedOn}
+use Rattle.rfb_session.specs.HopAreas.{AllAnswerAll, ShowsAll, ShowsAllTwice, ShowsAllThrough, IsAllPassedOn}
 use Rattle.rfb_session.specs.Link.{Ends, Composing, LinkState}
 use Rattle.rfb_session.proofs.HopRunLemmas.{seen_holds, passed_holds}
 
 -- so it is at those moments that are the last of them
-later_ask : (e : Ends) (later moments : List Moment) → AskAll e (later ++ moments) → AskAll e moments
-later_ask e [] moments all = all
-later_ask e (m ∷ later) moments all = later_ask e later moments all.1
+later_ask : (later moments : List Moment) → AllAnswerAll (later ++ moments) → AllAnswerAll moments
+later_ask [] moments all = all
+later_ask (m ∷ later) moments all = later_ask later moments all.1
 
-once_ask : (e : Ends) (moments : List Moment) (P Q : Moment → List Moment → Type 0) → AskAll e moments →
-    ((m : Moment) (earlier : List Moment) → AskAll e (m ∷ earlier) → P m earlier → Q m earlier) → Once moments P →
+once_ask : (moments : List Moment) (P Q : Moment → List Moment → Type 0) → AllAnswerAll moments →
+    ((m : Moment) (earlier : List Moment) → AllAnswerAll (m ∷ earlier) → P m earlier → Q m earlier) → Once moments P →
     Once moments Q
-once_ask e moments P Q all goes one = record {
+once_ask moments P Q all goes one = record {
   moment = one.moment;
   later = one.later;
   earlier = one.earlier;
   is_of = one.is_of;
   so = goes one.moment one.earlier
-      (later_ask e one.later (one.moment ∷ one.earlier) (subst (λ (ms : List Moment). AskAll e ms) one.is_of all))
+      (later_ask one.later (one.moment ∷ one.earlier) (subst (λ (ms : List Moment). AllAnswerAll ms) one.is_of all))
       one.so;
 }
 
 pub all_seen : (e f : Ends) (m : Moment) (earlier : List Moment) → IsRun e f (m ∷ earlier) →
-    AskAll e (m ∷ earlier) → IsBetween m → Once (m ∷ earlier) (λ at before. ShowsAll m at before)
+    AllAnswerAll (m ∷ earlier) → IsBetween m → Once (m ∷ earlier) (λ at before. ShowsAll m at before)
 all_seen e f m earlier run all between =
-    once_ask e (m ∷ earlier) _ (λ at before. ShowsAll m at before) all
+    once_ask (m ∷ earlier) _ (λ at before. ShowsAll m at before) all
     (λ at before asks one. (
       one.0,
       one.1,
       one.3,
-      λ x y d p q. one.2 x y d p q (asks.0.latest one.0 one.1 x y p q),
+      λ x y d p q. one.2 x y d p q (asks.0 one.0 one.1 x y p q),
     ))
     (seen_holds e f m earlier run between)
 
@@ -46,18 +46,18 @@ twice_all first second None asked shows = shows
 twice_all first second (Some g) asked shows = λ x y d p q here. shows x y d (p, q, asked x y p q) here
 
 pub all_passed : (e f : Ends) (m : Moment) (earlier : List Moment) (l : LinkState) (c : Composing) →
-    IsRun e f (m ∷ earlier) → AskAll e (m ∷ earlier) → m.below ≡ Some l → l.latest ≡ Some c →
+    IsRun e f (m ∷ earlier) → AllAnswerAll (m ∷ earlier) → m.below ≡ Some l → l.latest ≡ Some c →
     Once (m ∷ earlier) (λ at before. IsAllPassedOn c (due_picture f l) at before)
 all_passed e f m earlier l c run all is latest =
-    once_ask e (m ∷ earlier) _ (λ at before. IsAllPassedOn c (due_picture f l) at before) all
+    once_ask (m ∷ earlier) _ (λ at before. IsAllPassedOn c (due_picture f l) at before) all
     (λ at before asks passed. record {
       screen = passed.screen;
       shows = λ between.
-          once_ask e (at ∷ before) _ (λ once sooner. ShowsAllThrough c (due_picture f l) at once sooner) asks
+          once_ask (at ∷ before) _ (λ once sooner. ShowsAllThrough c (due_picture f l) at once sooner) asks
           (λ once sooner asked one. (
             one.0,
             one.1,
-            twice_all one.0 c (due_picture f l) (asked.0.latest one.0 one.1) one.2,
+            twice_all one.0 c (due_picture f l) (asked.0 one.0 one.1) one.2,
             one.3,
           ))
           (passed.shows between);

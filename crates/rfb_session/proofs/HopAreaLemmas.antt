@@ -17,7 +17,7 @@ use Rattle.rfb_viewer.specs.declared.fault.CallFault.{CallFault}
 use Rattle.rfb_viewer.specs.Viewer.{ViewerState}
 use Rattle.rfb_session.specs.declared.event.Event.{Event}
 use Rattle.rfb_session.specs.declared.event.Event.TheVariants as Happens
-use Rattle.rfb_session.specs.HopAreas.{Covers, AsksAll, GoesForAll, AreForAll, HasAskedAll}
+use Rattle.rfb_session.specs.HopAreas.{Covers, AsksAll, GoesForAll, AreForAll, AnswersAll, HasAskedAll}
 use Rattle.rfb_session.specs.Link.{Ends, Composing, LinkState, server_of, first_link}
 use Rattle.rfb_session.specs.LinkSteps.{LinkEvent, Request, SetFormat, LinkSteps, calls}
 use Rattle.rfb_session.specs.LinkSteps.{SetEncodings as Encodings, Key, Pointer, CutText, Compose, ToServer, ToViewer}
@@ -83,9 +83,8 @@ items_whole e s (item ∷ items) all was =
 area_of : (e : Ends) (l : LinkState) → HasAskedAll e l → IsWhole e l.session.area
 area_of e l h = record { whole = h.whole; wide = h.wide; high = h.high; some = h.some }
 
-with_area : (e : Ends) (l : LinkState) → AreForAll e l.to_server → IsWhole e l.session.area →
-    ((c : Composing) → l.latest ≡ Some c →
-    (x y : ℕ) → x < c.screen.width → y < c.screen.height → asked_at c.area x y ≡ true) → HasAskedAll e l
+with_area : (e : Ends) (l : LinkState) → AreForAll e l.to_server → IsWhole e l.session.area → AnswersAll l →
+    HasAskedAll e l
 with_area e l requests w latest =
     record { requests = requests; whole = w.whole; wide = w.wide; high = w.high; some = w.some; latest = latest }
 

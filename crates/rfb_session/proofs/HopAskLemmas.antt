@@ -87,7 +87,8 @@ answers_all e (First point) (Second item) = tt
 answers_all e (Second p) (First step) = tt
 answers_all e (Second p) (Second item) = tt
 
-pub replies_all : (e : Ends) (s : ViewerState) (items : List FromServer) → AreForAll e (viewer_replies e.viewing s items)
+pub replies_all : (e : Ends) (s : ViewerState) (items : List FromServer) →
+    AreForAll e (viewer_replies e.viewing s items)
 replies_all e s [] = tt
 replies_all e s (item ∷ items) =
     all_join e (viewer_answers e.viewing s.point item) (viewer_replies e.viewing (shows e.viewing s item) items)

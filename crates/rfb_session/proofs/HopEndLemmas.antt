@@ -34,6 +34,9 @@ use Rattle.rfb_viewer.specs.Told.{UpdateDone}
 use Rattle.rfb_viewer.specs.Viewer.{viewer as viewer_end}
 use Rattle.rfb_session.specs.HopEnds.{OpensAs}
 use Rattle.rfb_session.proofs.HopFedLemmas.{fed_next}
+use Rattle.rfb_session.specs.HopEnds.{RenewsAs}
+use Rattle.rfb_session.specs.ShareMirrors.{ShowsOther}
+use Rattle.rfb_session.proofs.HopSeatLemmas.{watched_other}
 
 -- ---- what a share shows
 
@@ -76,9 +79,7 @@ relay_opens e share old new bytes has to_server to_viewer later n made is fed th
       next = one.0.next;
       goes = one.0.goes;
       opens = record {
-        reached = one.0.fed.reached;
-        quiet = ended.0;
-        some = ended.1;
+        update = record { reached = one.0.fed.reached; quiet = ended.0; some = ended.1 };
         seen = is_seen e share has to_server later (opened share one.0.next) relay;
         none = refl;
       };
@@ -194,3 +195,37 @@ relay_never e old new bytes fault has to_server to_viewer later m some is fails 
     viewer_good e l
     (record { viewer_has = r.fed.has; viewer_gets = to_viewer; server_has = has; server_gets = to_server })
     bytes later fault r.fed.flies is (fails.fails.refused some e.viewing l.viewer r.fed.has stands)
+
+-- ---- another server
+
+pub relay_renews : (e f : Ends) (old new : Share) (was other : Viewer) (bytes has to_server to_viewer later : List ℕ)
+    (k : ℕ) (viewer : Viewer) (sends gets : List ℕ) (m : Moment) (n : Network) → AreMade e →
+    to_viewer ≡ bytes ++ later →
+    FedBy (viewer_end e.viewing) (ViewerStandsFor e.viewing) was bytes (Some UpdateDone) other →
+    ShowsOther old other new → IsFed e was has to_server to_viewer n → m.screen ≡ screen_of old →
+    IsBehind f old k viewer sends gets m → RenewsAs e f m n new has to_server later k viewer sends gets
+relay_renews e f old new was other bytes has to_server to_viewer later k viewer sends gets m n made is fed shows have
+    screen behind =
+    let one = fed_next e was other bytes (Some UpdateDone) has to_server to_viewer later n made is fed have in
+    let ended = one.1 refl in
+    let below = below_told f old new k viewer sends gets m.below
+    (λ o w. watched_other f old new other k viewer sends gets o shows w) behind in
+    let next : Moment = record { above = one.0.next; screen = screen_of new; below = below.0 } in
+    let relay : IsRelay e new has to_server later next =
+    record {
+      viewer = other;
+      is_there = shows.is_there;
+      screen_is = refl;
+      fed = subst (λ (q : List ℕ). IsFed e other has q later one.0.next) (append-nil to_server) one.0.fed;
+    } in
+    record {
+      next = next;
+      goes = one.0.goes;
+      renews = record {
+        update = record { reached = one.0.fed.reached; quiet = ended.0; some = ended.1 };
+        seen = is_seen e new has to_server later next relay;
+        below = subst (λ (g : Grid Colour). GoesBelow f g m.below (screen_of new) below.0) (sym screen) below.1;
+      };
+      relay = relay;
+      behind = below.2;
+    }

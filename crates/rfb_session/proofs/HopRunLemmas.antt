@@ -6,7 +6,7 @@ use Rattle.rfb_picture.specs.Grid.{Grid}
 use Rattle.rfb_server.specs.Server.{black}
 use Rattle.rfb_viewer.specs.Showing.{Shows}
 use Rattle.rfb_session.specs.Headline.{IsHeadline, ShowsLatest, ShowsComposing, due_picture}
-use Rattle.rfb_session.specs.Hops.{Moment, over, GoesBelow, GoesTo, IsSeen, IsRun, Once, IsBetween}
+use Rattle.rfb_session.specs.Hops.{Moment, over, GoesBelow, GoesTo, HasUpdate, IsSeen, IsRun, Once, IsBetween}
 use Rattle.rfb_session.specs.Hops.{ShowsServers, ShowsTwice, ShowsThrough, IsPassedOn}
 use Rattle.rfb_session.specs.Link.{Ends, Composing, LinkState}
 use Rattle.rfb_session.specs.Network.{Network, Goes, Still, IsFirst, IsReached}
@@ -85,22 +85,27 @@ more_above e f m before earlier goes was =
         (subst (λ (d : Composing). Once (before ∷ earlier) (λ at sooner. HasComposed d at sooner)) (sym same) was.once)
     by c (inr latest) = once_now (λ at sooner. HasComposed c at sooner) m (before ∷ earlier) latest
 
-run_above : (e f : Ends) (m : Moment) (earlier : List Moment) → IsRun e f (m ∷ earlier) → IsAbove e m earlier
-run_above e f m [] opens =
-    let one = first_outside e m.above.screen m.above.link (reached_holds e m.above opens.reached) opens.quiet
-    opens.some in
+-- a server's update has come
+fresh_above : (e : Ends) (m : Moment) (earlier : List Moment) → HasUpdate e m.above → IsAbove e m earlier
+fresh_above e m earlier has =
+    let one = first_outside e m.above.screen m.above.link (reached_holds e m.above has.reached) has.quiet has.some in
     record {
-      reached = opens.reached;
+      reached = has.reached;
       composing = one.0;
       shows = one.2;
-      once = once_now (λ at before. HasComposed one.0 at before) m [] one.1;
+      once = once_now (λ at before. HasComposed one.0 at before) m earlier one.1;
     }
-run_above e f m (before ∷ earlier) (goes, run) =
+
+run_above : (e f : Ends) (m : Moment) (earlier : List Moment) → IsRun e f (m ∷ earlier) → IsAbove e m earlier
+run_above e f m [] opens = fresh_above e m [] opens.update
+run_above e f m (before ∷ earlier) (inl (goes, run)) =
     more_above e f m before earlier goes (run_above e f before earlier run)
+run_above e f m (before ∷ earlier) (inr (renews, run)) = fresh_above e m (before ∷ earlier) renews.update
 
 run_seen : (e f : Ends) (m : Moment) (earlier : List Moment) → IsRun e f (m ∷ earlier) → IsSeen m
 run_seen e f m [] opens = opens.seen
-run_seen e f m (before ∷ earlier) (goes, run) = goes.seen
+run_seen e f m (before ∷ earlier) (inl (goes, run)) = goes.seen
+run_seen e f m (before ∷ earlier) (inr (renews, run)) = renews.seen
 
 pub above_holds : (e f : Ends) (m : Moment) (earlier : List Moment) → IsRun e f (m ∷ earlier) →
     IsHeadline e m.above.link
@@ -128,12 +133,12 @@ seen_holds e f m earlier run between =
 -- ---- the second hop
 
 -- an update was composed of the relay's screen at that moment
-abbrev IsOf : Ends → Ends → Composing → Moment → List Moment → Type 0
-IsOf e f c m earlier = (c.screen ≡ m.screen) × IsRun e f (m ∷ earlier)
+abbrev IsOf : Ends → Composing → Moment → List Moment → Type 0
+IsOf f c m earlier = (c.screen ≡ m.screen) × ((e : Ends) × IsRun e f (m ∷ earlier))
 
-record IsBelow (e f : Ends) (m : Moment) (earlier : List Moment) (l : LinkState) : Type 0 where
+record IsBelow (f : Ends) (m : Moment) (earlier : List Moment) (l : LinkState) : Type 0 where
   pub reached : IsReached f (over m.screen l)
-  pub once : (c : Composing) → l.latest ≡ Some c → Once (m ∷ earlier) (λ at before. IsOf e f c at before)
+  pub once : (c : Composing) → l.latest ≡ Some c → Once (m ∷ earlier) (λ at before. IsOf f c at before)
 
 -- a viewer that is there came just now, or was there before
 came_or_was : (f : Ends) (before after : Grid Colour) (a b : Option LinkState) (l : LinkState) →
@@ -151,37 +156,41 @@ none_yet : (f : Ends) (n : Network) (c : Composing) → IsFirst f n → n.link.l
 none_yet f n c first is = let none = sym (ap (λ (l : LinkState). l.latest) first.link) ∙ is in cc
 
 -- one moment more
-more_below : (e f : Ends) (m before : Moment) (earlier : List Moment) (l : LinkState) →
-    IsRun e f (before ∷ earlier) →
+more_below : (f : Ends) (m before : Moment) (earlier : List Moment) (l : LinkState) →
+    ((e : Ends) × IsRun e f (before ∷ earlier)) →
     (IsFirst f (over m.screen l) ⊎ ((k : LinkState) × (before.below ≡ Some k)
     × Goes f (over before.screen k) (over m.screen l))) →
-    ((k : LinkState) → before.below ≡ Some k → IsBelow e f before earlier k) →
-    IsBelow e f m (before ∷ earlier) l
-more_below e f m before earlier l run (inl first) was = record {
+    ((k : LinkState) → before.below ≡ Some k → IsBelow f before earlier k) →
+    IsBelow f m (before ∷ earlier) l
+more_below f m before earlier l run (inl first) was = record {
   reached = record { first = over m.screen l; is_first = first; leads = Still };
   once = λ c latest. absurd (none_yet f (over m.screen l) c first latest);
 }
-more_below e f m before earlier l run (inr (k, there, on)) was = record {
+more_below f m before earlier l run (inr (k, there, on)) was = record {
   reached = goes_reached f (over before.screen k) (over m.screen l) on (was k there).reached;
-  once = λ c latest. once_later (λ at sooner. IsOf e f c at sooner) m (before ∷ earlier)
+  once = λ c latest. once_later (λ at sooner. IsOf f c at sooner) m (before ∷ earlier)
       (of_which c latest (goes_latest f (over before.screen k) (over m.screen l) on));
 }
   where
     of_which : (c : Composing) → l.latest ≡ Some c → IsNext before.screen k.latest l.latest →
-        Once (before ∷ earlier) (λ at sooner. IsOf e f c at sooner)
+        Once (before ∷ earlier) (λ at sooner. IsOf f c at sooner)
     of_which c latest (inl same) = (was k there).once c (sym same ∙ latest)
     of_which c latest (inr (d, is_d, screen)) =
         let same : d ≡ c = (let one = sym is_d ∙ latest in cc) in
-        once_now (λ at sooner. IsOf e f c at sooner) before earlier
+        once_now (λ at sooner. IsOf f c at sooner) before earlier
         (sym (ap (λ (x : Composing). x.screen) same) ∙ screen, run)
 
 run_below : (e f : Ends) (m : Moment) (earlier : List Moment) (l : LinkState) → IsRun e f (m ∷ earlier) →
-    m.below ≡ Some l → IsBelow e f m earlier l
+    m.below ≡ Some l → IsBelow f m earlier l
 run_below e f m [] l opens is = absurd (let none = sym opens.none ∙ is in cc)
-run_below e f m (before ∷ earlier) l (goes, run) is =
-    more_below e f m before earlier l run
+run_below e f m (before ∷ earlier) l (inl (goes, run)) is =
+    more_below f m before earlier l (e, run)
     (came_or_was f before.screen m.screen before.below m.below l goes.below is)
     (λ k there. run_below e f before earlier k run there)
+run_below e f m (before ∷ earlier) l (inr (renews, (other, run))) is =
+    more_below f m before earlier l (other, run)
+    (came_or_was f before.screen m.screen before.below m.below l renews.below is)
+    (λ k there. run_below other f before earlier k run there)
 
 pub below_holds : (e f : Ends) (m : Moment) (earlier : List Moment) (l : LinkState) → IsRun e f (m ∷ earlier) →
     m.below ≡ Some l → IsHeadline f l
@@ -204,7 +213,7 @@ passed_holds e f m earlier l c run is latest =
     let shown : ShowsLatest (Some c) (due_picture f l) =
     subst (λ (o : Option Composing). ShowsLatest o (due_picture f l)) latest
     (below_holds e f m earlier l run is).latest in
-    once_so (λ at before. IsOf e f c at before) (λ at before. IsPassedOn c (due_picture f l) at before) (m ∷ earlier)
+    once_so (λ at before. IsOf f c at before) (λ at before. IsPassedOn c (due_picture f l) at before) (m ∷ earlier)
     (λ at before of. record {
       screen = of.0;
       shows = λ between.
@@ -217,6 +226,6 @@ passed_holds e f m earlier l c run is latest =
                 (subst (λ (g : Grid Colour). ShowsComposing one.0 g) (sym of.0) one.2) shown,
             one.3,
           ))
-          (seen_holds e f at before of.1 between);
+          (seen_holds of.1.0 f at before of.1.1 between);
     })
     ((run_below e f m earlier l run is).once c latest)

@@ -46,6 +46,12 @@ AreForAll e (Second (KeyEvent down key) ∷ items) = AreForAll e items
 AreForAll e (Second (PointerEvent buttons x y) ∷ items) = AreForAll e items
 AreForAll e (Second (ClientCutText text) ∷ items) = AreForAll e items
 
+-- the latest update answered each place of its screen
+abbrev pub AnswersAll : LinkState → Type 0
+AnswersAll l =
+    (c : Composing) → l.latest ≡ Some c →
+    (x y : ℕ) → x < c.screen.width → y < c.screen.height → asked_at c.area x y ≡ true
+
 -- so it is of those on their way; the server was asked for all since its latest update, or for
 -- nothing; and that update answered all
 pub record HasAskedAll (e : Ends) (l : LinkState) : Type 0 where
@@ -55,13 +61,12 @@ pub record HasAskedAll (e : Ends) (l : LinkState) : Type 0 where
   pub high : l.session.area.asked.height ≡ e.serving.hello.height
   pub some : (x y u v : ℕ) → asked_at l.session.area u v ≡ true →
       x < e.serving.hello.width → y < e.serving.hello.height → asked_at l.session.area x y ≡ true
-  pub latest : (c : Composing) → l.latest ≡ Some c →
-      (x y : ℕ) → x < c.screen.width → y < c.screen.height → asked_at c.area x y ≡ true
+  pub latest : AnswersAll l
 
--- at each of these moments
-abbrev pub AskAll : Ends → List Moment → Type 0
-AskAll e [] = Unit {0}
-AskAll e (m ∷ earlier) = HasAskedAll e m.above.link × AskAll e earlier
+-- so did the latest one at each of these moments
+abbrev pub AllAnswerAll : List Moment → Type 0
+AllAnswerAll [] = Unit {0}
+AllAnswerAll (m ∷ earlier) = AnswersAll m.above.link × AllAnswerAll earlier
 
 -- the server had composed an update, its latest then, and the relay now shows all of its screen of
 -- that time, through its format

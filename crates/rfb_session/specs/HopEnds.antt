@@ -4,7 +4,7 @@ use Rattle.std.specs.Prelude.{◌≡◌, ℕ, List, Option, Some, None}
 use Rattle.rfb_viewer.specs.declared.viewer.Viewer.{Viewer}
 use Rattle.rfb_viewer.specs.Standing.{StandsFor as ViewerStandsFor}
 use Rattle.rfb_session.specs.declared.share.Share.{Share}
-use Rattle.rfb_session.specs.Hops.{Moment, GoesTo, Opens, over}
+use Rattle.rfb_session.specs.Hops.{Moment, GoesTo, Opens, Renews, over}
 use Rattle.rfb_session.specs.InFlight.{Flies}
 use Rattle.rfb_session.specs.Link.{Ends, LinkState}
 use Rattle.rfb_session.specs.Network.{Network, Goes, IsReached}
@@ -88,5 +88,15 @@ pub record Becomes (e f : Ends) (m : Moment) (share : Share) (has to_server to_v
   pub next : Moment
   pub goes : GoesTo e f m next
   pub server : LeavesServer m next
+  pub relay : IsRelay e share has to_server to_viewer next
+  pub behind : IsBehind f share k viewer sends gets next
+
+-- the picture of another server's viewer is shown there, once an update of that server's has come
+pub record RenewsAs (e f : Ends) (m : Moment) (n : Network) (share : Share)
+    (has to_server to_viewer : List ℕ) (k : ℕ) (viewer : Viewer) (sends gets : List ℕ)
+    : Type 0 where
+  pub next : Moment
+  pub goes : Goes e n next.above
+  pub renews : Renews e f m next
   pub relay : IsRelay e share has to_server to_viewer next
   pub behind : IsBehind f share k viewer sends gets next

@@ -1,6 +1,6 @@
 -- Two hops: a relay has a viewer of a server, and shows the picture of that to a viewer of its own.
 -- What both come to is said moment by moment.
-use Rattle.std.specs.Prelude.{◌≡◌, ℕ, ◌<◌, true, false, List, [], ◌∷◌, ◌++◌, length}
+use Rattle.std.specs.Prelude.{◌≡◌, ◌⊎◌, ℕ, ◌<◌, true, false, List, [], ◌∷◌, ◌++◌, length}
 use Rattle.std.specs.Prelude.{Option, Some, None}
 use Rattle.rfb_pixel.specs.declared.colour.Colour.{Colour}
 use Rattle.rfb_pixel.specs.Format.{seen_through}
@@ -49,20 +49,31 @@ pub record GoesTo (e f : Ends) (old new : Moment) : Type 0 where
   pub seen : IsSeen new
   pub below : GoesBelow f old.screen old.below new.screen new.below
 
--- a relay opens: an update of the server's has come whole, the relay shows what its viewer does,
--- and nobody has come
+-- an update of a server's has come whole, and no request is out
+pub record HasUpdate (e : Ends) (n : Network) : Type 0 where
+  pub reached : IsReached e n
+  pub quiet : n.link.viewer.outstanding ≡ false
+  pub some : AnswersSome n.link.latest
+
+-- so it is when a relay opens; it shows what its viewer does, and nobody has come
 pub record Opens (e : Ends) (m : Moment) : Type 0 where
-  pub reached : IsReached e m.above
-  pub quiet : m.above.link.viewer.outstanding ≡ false
-  pub some : AnswersSome m.above.link.latest
+  pub update : HasUpdate e m.above
   pub seen : IsSeen m
   pub none : m.below ≡ None
 
--- the moments of a relay since it opened, the latest first
+-- so it is too when the viewer of a server takes the place of another's, whatever became of that
+pub record Renews (e f : Ends) (old new : Moment) : Type 0 where
+  pub update : HasUpdate e new.above
+  pub seen : IsSeen new
+  pub below : GoesBelow f old.screen old.below new.screen new.below
+
+-- the moments of a relay since it opened, the latest first; `e` is of its latest server
 abbrev pub IsRun : Ends → Ends → List Moment → Type 0
 IsRun e f [] = ⊥
 IsRun e f (m ∷ []) = Opens e m
-IsRun e f (m ∷ before ∷ earlier) = GoesTo e f before m × IsRun e f (before ∷ earlier)
+IsRun e f (m ∷ before ∷ earlier) =
+    (GoesTo e f before m × IsRun e f (before ∷ earlier))
+    ⊎ (Renews e f before m × ((other : Ends) × IsRun other f (before ∷ earlier)))
 
 -- ---- what is said of moments
 

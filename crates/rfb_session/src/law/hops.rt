@@ -24,9 +24,9 @@ ghost use Rattle.rfb_viewer.specs.Viewer.{first_viewer, viewer as viewer_end};
 ghost use Rattle.rfb_session.specs.declared.event.Event.{Event};
 ghost use Rattle.rfb_session.specs.declared.share.Share.{Share};
 ghost use Rattle.rfb_session.specs.Headline.{IsHeadline, due_picture};
-ghost use Rattle.rfb_session.specs.HopAreas.{HasAskedAll, GoesForAll, AskAll};
+ghost use Rattle.rfb_session.specs.HopAreas.{HasAskedAll, GoesForAll, AnswersAll, AllAnswerAll};
 ghost use Rattle.rfb_session.specs.HopAreas.{ShowsAll, IsAllPassedOn};
-ghost use Rattle.rfb_session.specs.HopEnds.{IsFed, GoesFed, IsRelay, OpensAs};
+ghost use Rattle.rfb_session.specs.HopEnds.{IsFed, GoesFed, IsRelay, OpensAs, RenewsAs};
 ghost use Rattle.rfb_session.specs.HopEnds.{IsBehind, ShowsSame, Becomes};
 ghost use Rattle.rfb_session.specs.Hops.{Moment, GoesTo, IsRun, Once, IsBetween, over};
 ghost use Rattle.rfb_session.specs.Hops.{ShowsServers, IsPassedOn};
@@ -63,11 +63,12 @@ pub fn a_relay_that_asks_for_all_shows_all()
     ensures first { (e : Ends) → HasAskedAll e (first_link e) }
     ensures goes { (e : Ends) (old new : Network) → IsReached e old → GoesForAll e old new →
         HasAskedAll e old.link → HasAskedAll e new.link }
+    ensures answers { (e : Ends) (l : LinkState) → HasAskedAll e l → AnswersAll l }
     ensures seen { (e f : Ends) (m : Moment) (earlier : List Moment) → IsRun e f (m ∷ earlier) →
-        AskAll e (m ∷ earlier) → IsBetween m →
+        AllAnswerAll (m ∷ earlier) → IsBetween m →
         Once (m ∷ earlier) (λ at before. ShowsAll m at before) }
     ensures passed { (e f : Ends) (m : Moment) (earlier : List Moment) (l : LinkState)
-        (c : Composing) → IsRun e f (m ∷ earlier) → AskAll e (m ∷ earlier) →
+        (c : Composing) → IsRun e f (m ∷ earlier) → AllAnswerAll (m ∷ earlier) →
         m.below ≡ Some l → l.latest ≡ Some c →
         Once (m ∷ earlier) (λ at before. IsAllPassedOn c (due_picture f l) at before) }
 {}
@@ -92,7 +93,8 @@ pub fn a_seat_goes_on_as_a_picture_does()
 
 /// A fresh viewer and a fresh server stand for a fresh link, once the server has greeted. Bytes of
 /// the server's and a request of the viewer's go on as the link does. When the end of an update is
-/// reported a share of that viewer's picture opens.
+/// reported a share of that viewer's picture opens, or the viewer takes the place of another's in
+/// a share whose seats stay.
 pub fn a_relay_meets_its_server()
     ensures first { (e : Ends) (screen : Grid Colour) (viewer : Viewer) →
         ViewerStandsFor e.viewing viewer first_viewer [] →
@@ -115,6 +117,14 @@ pub fn a_relay_meets_its_server()
         FedBy (viewer_end e.viewing) (ViewerStandsFor e.viewing) old bytes (Some UpdateDone) new →
         viewer_of share ≡ Some new → IsFed e old has to_server to_viewer n →
         OpensAs e n share has to_server later }
+    ensures renews { (e f : Ends) (old new : Share) (was other : Viewer) (bytes : List ℕ)
+        (has to_server to_viewer later : List ℕ) (k : ℕ) (viewer : Viewer)
+        (sends gets : List ℕ) (m : Moment) (n : Network) → AreMade e →
+        to_viewer ≡ bytes ++ later →
+        FedBy (viewer_end e.viewing) (ViewerStandsFor e.viewing) was bytes (Some UpdateDone) other →
+        ShowsOther old other new → IsFed e was has to_server to_viewer n →
+        m.screen ≡ screen_of old → IsBehind f old k viewer sends gets m →
+        RenewsAs e f m n new has to_server later k viewer sends gets }
 {}
 
 /// A share of a server's picture goes on moment by moment on the first hop: the server does

@@ -1,4 +1,4 @@
-use Rattle.rfb_session.proofs.HopEndLemmas.{relay_opens}
+use Rattle.rfb_session.proofs.HopEndLemmas.{relay_opens, relay_renews}
 use Rattle.rfb_session.proofs.HopFedLemmas.{fed_first, fed_next, fed_requested}
 use Rattle.rfb_session.proofs.law.hops.a_relay_meets_its_server.Goals as goal
 
@@ -11,4 +11,7 @@ returns c = record {
       fed_requested e old new incremental rect bytes has to_server to_viewer n asks spelled f;
   opens = λ e share old new bytes has to_server to_viewer later n made is fed there f.
       relay_opens e share old new bytes has to_server to_viewer later n made is fed there f;
+  renews = λ e f old new was other bytes has to_server to_viewer later k viewer sends gets m n made is fed shows have
+      screen behind. relay_renews e f old new was other bytes has to_server to_viewer later k viewer sends gets m n
+      made is fed shows have screen behind;
 }

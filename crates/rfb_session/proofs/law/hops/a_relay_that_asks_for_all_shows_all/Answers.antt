@@ -6,6 +6,7 @@ pub returns : goal.returns
 returns c' = record {
   first = λ e. first_all e;
   goes = λ e old new reached goes has. goes_all e old new reached goes has;
+  answers = λ e l has. has.latest;
   seen = λ e f m earlier run all between. all_seen e f m earlier run all between;
   passed = λ e f m earlier l c run all is latest. all_passed e f m earlier l c run all is latest;
 }
