@@ -4,8 +4,8 @@
     .ci/benches.py PROGRAM
 
 Each must end with status 0 and print its figures, of which none is judged. What is not installed
-here a bench says, and goes on without it: valgrind, or for the table beside libvncserver that library
-or a C compiler. The last line is 'N passed, M failed'.
+here a bench says, and goes on without it: valgrind, or for tables beside libvncserver and x11vnc
+these or a C compiler. The last line is 'N passed, M failed'.
 """
 
 import os
@@ -45,6 +45,10 @@ def the_cost_of_a_share_is_printed():
     assert b"\nseven viewers, a stuck one " in printed("share.py", [Run.program, "--once"])
 
 
+def the_cost_of_a_relay_is_printed():
+    assert b"\na typed character, " in printed("relay.py", [Run.program, "--once"])
+
+
 def the_largest_memory_of_a_run_is_printed():
     told = printed("resident.py", [Run.program, "script"], SCRIPT)
     assert told.startswith(b"largest resident set "), told
@@ -68,6 +72,7 @@ ROWS = [
     the_cost_of_a_delivery_is_printed,
     the_cost_of_serving_is_printed,
     the_cost_of_a_share_is_printed,
+    the_cost_of_a_relay_is_printed,
     the_largest_memory_of_a_run_is_printed,
     a_table_is_printed_or_what_it_lacks,
     the_recordings_of_a_bench_show_what_their_fills_draw,

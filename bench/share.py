@@ -11,9 +11,7 @@ rounds less fewer, over the difference; and frames of `pixels` beside eight view
 asked, three less one, over the places of two.
 """
 
-import gzip
 import os
-import shutil
 import statistics
 import subprocess
 import sys
@@ -21,6 +19,7 @@ import tempfile
 import time
 
 import callgrind
+from crowd import COPIES, HEXTILE, RAW, Crowd, built, picture
 from messages import key
 from peers import connected
 from sharing import Share, Viewer, viewers
@@ -30,34 +29,6 @@ SIZE = (64, 48) if ONCE else (1920, 1080)
 CONSOLE = 2 if ONCE else 1500
 FRAMES = 2 if ONCE else 40
 LINES = 3 if ONCE else 300
-RAW, HEXTILE = (0,), (5, 0)
-# A viewer that lists CopyRect draws the cursor by itself: else libvncserver looks for one.
-COPIES = (1, -239, *HEXTILE)
-
-
-class Crowd:
-    """Viewers of a share, by processes that are no part of this one."""
-
-    program = None
-
-    def __init__(self, share, count, encodings=RAW, does="changes"):
-        words = [self.program, str(share.port), str(count), does, *map(str, encodings)]
-        connected(share.port).close()
-        self.run = subprocess.Popen(words, stdin=subprocess.PIPE, stdout=subprocess.PIPE, text=True,
-                                    bufsize=1)
-        assert self.run.stdout.readline() == "ready\n", words
-
-    def looks_for(self, x, y, colour):
-        self.run.stdin.write(f"{x} {y} {colour}\n")
-        assert self.run.stdout.readline() == "armed\n"
-
-    def found(self):
-        """When the last viewer showed what they look for, in seconds."""
-        return int(self.run.stdout.readline()) / 1e9
-
-    def leaves(self):
-        self.run.kill()
-        self.run.wait()
 
 
 def begun(width, height):
@@ -90,22 +61,9 @@ def console():
     return f"{CONSOLE / taken:,.0f}; {seconds:.1f}"
 
 
-def picture():
-    """The rows of a picture of windows, red, green and blue of each place."""
-    width, height = SIZE
-    rows = [bytearray(3 * width) for _ in range(height)]
-    with gzip.open(os.path.join(HERE, "office.fills.gz"), "rt") as fills:
-        for line in fills:
-            x, y, w, h = map(int, line.split()[1:5])
-            data = bytes.fromhex(line.split()[5]) * min(w, max(0, width - x))
-            for row in rows[y:y + h]:
-                row[3 * x:3 * x + len(data)] = data
-    return rows
-
-
 def frames(count, encodings, rows=[]):
     """Processor seconds for frames, each of which all viewers have before the next one."""
-    rows[:] = rows or picture()
+    rows[:] = rows or picture(*SIZE)
     share = begun(*SIZE)
     crowd = Crowd(share, count, encodings)
     before = share.ticks()
@@ -208,15 +166,6 @@ ROWS = [
     ("writes to standard output for 1,000 events at once", writes),
     ("processor seconds of ten, idle, eight viewers", idle),
 ]
-
-
-def built(room, name, *libraries):
-    """A program of `peer` in C, or nothing where it cannot be had."""
-    words = ["cc", "-O2", "-o", os.path.join(room, name), os.path.join(HERE, "peer", name + ".c")]
-    if not shutil.which("cc") or subprocess.run([*words, *libraries], check=False,
-                                                stderr=subprocess.DEVNULL).returncode:
-        return None
-    return words[3]
 
 
 def table(program):

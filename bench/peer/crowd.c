@@ -1,12 +1,14 @@
 /* Viewers of a server, each a process of its own that keeps the screen as it is sent and asks again
  * after each update. What they do costs little, so that it does not decide what a server needs.
  *
- *     crowd PORT COUNT changes|whole|pointers ENCODING..
+ *     crowd PORT COUNT changes|whole|pointers|own ENCODING..
  *
  * They ask for what changed, for the whole screen, or for nothing: then they send pointers as fast as
- * these are taken. Encodings are numbers. A line `X Y RRGGBB` on standard input is answered by
- * `armed`, and then, once all viewers show that pixel, by when the last of them did, in nanoseconds of
- * the clock that only goes forward. The first line that is printed is `ready`: all have the screen.
+ * these are taken. With `own` they ask for what changed, in the server's format, which has 32 bits.
+ * Encodings are numbers. A line `X Y RRGGBB` on standard input is answered by `armed`, and then, once
+ * all viewers show that pixel, by when the last of them did, in nanoseconds of the clock that only goes
+ * forward, and how many updates all of them have had. The first line that is printed is `ready`: all
+ * have the screen.
  */
 #include <arpa/inet.h>
 #include <netinet/tcp.h>
@@ -21,9 +23,10 @@
 #include <unistd.h>
 #include <signal.h>
 
-/* What all viewers look for: how often it was asked, the place and the pixel. */
+/* What all viewers look for: how often it was asked, the place and the pixel; and how many updates they
+ * have had. */
 struct wanted {
-    volatile int round;
+    volatile int round, updates;
     volatile int x, y;
     volatile uint32_t pixel;
 };
@@ -57,7 +60,7 @@ static void ask(int incremental) {
     send_all(message, 10);
 }
 
-static void hello(int port, int count, uint32_t *encodings) {
+static void hello(int port, int own, int count, uint32_t *encodings) {
     struct sockaddr_in address = {.sin_family = AF_INET, .sin_port = htons(port)};
     int one = 1;
     char bytes[64];
@@ -80,7 +83,7 @@ static void hello(int port, int count, uint32_t *encodings) {
     screen = calloc((size_t)width * height, 4);
     /* SetPixelFormat: 32 bits, depth 24, lowest byte first, true colour, red at 16. */
     static const char format[20] = {0, 0, 0, 0, 32, 24, 0, 1, 0, -1, 0, -1, 0, -1, 16, 8, 0};
-    send_all(format, 20);
+    if (!own) send_all(format, 20);
     uint32_t message[16] = {htonl(2 << 24 | count)};
     for (int k = 0; k < count; k++) message[1 + k] = htonl(encodings[k]);
     send_all(message, 4 + 4 * count);
@@ -134,7 +137,9 @@ static void update(void) {
         case 0: raw(x, y, w, h); break;
         case 1: copy(x, y, w, h); break;
         case 5: hextile(x, y, w, h); break;
-        case -239: break; /* a cursor with no place */
+        case -239: /* a cursor: its pixels and its mask */
+            for (int left = 4 * w * h + (w + 7) / 8 * h; left > 0; left--) number(1);
+            break;
         default: exit(1);
         }
     }
@@ -151,6 +156,7 @@ static void view(int incremental) {
     int round = 0;
     for (ask(0);; ask(incremental)) {
         update();
+        __sync_fetch_and_add(&wanted->updates, 1);
         if (round == 0 || (round <= wanted->round
                            && (*row(wanted->x, wanted->y) & 0xffffff) == wanted->pixel)) {
             tell();
@@ -187,9 +193,9 @@ int main(int argc, char **argv) {
         if (fork() == 0) {
             prctl(PR_SET_PDEATHSIG, SIGKILL);
             found = ends[1];
-            hello(atoi(argv[1]), argc - 4, encodings);
+            hello(atoi(argv[1]), !strcmp(argv[3], "own"), argc - 4, encodings);
             if (!strcmp(argv[3], "pointers")) point();
-            view(!strcmp(argv[3], "changes"));
+            view(strcmp(argv[3], "whole") != 0);
         }
     close(ends[1]);
     setvbuf(stdout, NULL, _IOLBF, 0);
@@ -199,7 +205,8 @@ int main(int argc, char **argv) {
         wanted->x = x, wanted->y = y, wanted->pixel = pixel;
         wanted->round++;
         puts("armed");
-        printf("%lld\n", last_of(ends[0], count));
+        long long last = last_of(ends[0], count);
+        printf("%lld %d\n", last, wanted->updates);
     }
     return 0;
 }
