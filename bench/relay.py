@@ -33,7 +33,7 @@ ONCE = callgrind.ONCE
 WIDTH, HEIGHT = SIZE = (64, 48) if ONCE else (1920, 1080)
 PACE = 25
 STEPS = 4 if ONCE else 10 * PACE
-LINES = 3 if ONCE else 200
+LINES = 3 if ONCE else 100
 
 
 class Reflector(Share):
