@@ -71,19 +71,19 @@ fed_next e old new bytes event has to_server to_viewer later n made is fed f =
     ap (λ (q : List ℕ). length q) is ∙ length-append bytes later in
     let few : length bytes ≤ flight_to_viewer e l = omega (arith, all, viewer_flight e l flight f.flies) in
     let step = viewer_steps e n moved.new (length bytes) few moved.moves in (
-    record {
-      next = record n { link = moved.new };
-      goes = inr (inl (OfViewer (length bytes), step));
-      screen = refl;
-      session = same_session e l moved.new (length bytes) moved.moves;
-      fed = record {
-        reached = reached_step e n (record n { link = moved.new }) (OfViewer (length bytes)) f.reached step;
-        has = one.1;
-        stands = subst (λ (s : ViewerState). ViewerStandsFor e.viewing new s one.1) (sym moved.viewer_is) one.2;
-        flies = moved.flies;
-      };
-    },
-    λ done.
+      record {
+        next = record n { link = moved.new };
+        goes = inr (inl (OfViewer (length bytes), step));
+        screen = refl;
+        session = same_session e l moved.new (length bytes) moved.moves;
+        fed = record {
+          reached = reached_step e n (record n { link = moved.new }) (OfViewer (length bytes)) f.reached step;
+          has = one.1;
+          stands = subst (λ (s : ViewerState). ViewerStandsFor e.viewing new s one.1) (sym moved.viewer_is) one.2;
+          flies = moved.flies;
+        };
+      },
+      λ done.
           let d = delivered (viewer_end e.viewing) (viewer_machine e.viewing) l.viewer one.0 f.has bytes later one.1
           l.to_viewer event one.3
           (subst (λ (ys : List ℕ). ReadsAll (to_viewer_stream e) l.viewer.point ys l.to_viewer [])

@@ -31,10 +31,7 @@ pub enum Why {
     /// Another one came, and its own handshake was not done.
     Newcomer,
     /// The screen of a server that came back has this size, which is another.
-    NewSize {
-        width: u16,
-        height: u16,
-    },
+    NewSize { width: u16, height: u16 },
 }
 
 /// What there is to say.

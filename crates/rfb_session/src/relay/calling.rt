@@ -6,8 +6,8 @@ ghost use Rattle.rfb_session.specs.relay.Relay.{IsCalledAgain, is_due};
 
 use crate::console::Speaker;
 use crate::console::guest::sooner;
-use crate::relay::presence::Presence;
 use crate::relay::Relay;
+use crate::relay::presence::Presence;
 use crate::slots::seat_in;
 
 impl<S: Speaker + Drop> Relay<S> {

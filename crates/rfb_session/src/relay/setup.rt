@@ -57,7 +57,11 @@ impl Given {
         ensures value { result.now ≡ name_by self.now told.now }
         ensures few { length result.now ≤ 255 }
     {
-        if self.is_named { self.name.as_slice() } else { told }
+        if self.is_named {
+            self.name.as_slice()
+        } else {
+            told
+        }
     }
 
     /// A viewer that was told nothing.

@@ -13,7 +13,7 @@ returns-clause-steps g c =
     let spares = c.spare_seats.ensures.spares in
     let plans = c.plan_call.ensures.plans in
     let presence = spares.keeps.server.presence ∙ opens.keeps.server.presence ∙ asks.keeps.server.presence
-            ∙ first.keeps.server.presence in
+    ∙ first.keeps.server.presence in
     record {
       does = record {
         asked = c.ask.new.self;
