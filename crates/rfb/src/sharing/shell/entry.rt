@@ -46,7 +46,7 @@ where
         }
     }
 
-    /// Begins a connection to the server of a relay. All that it waits for is the look-up of a name.
+    /// Begins a connection to the server of a relay. All that it waits for is a name's look-up.
     fn call(&mut self) -> Option<Arrival<Counted<Tenant<'t, R, W, E, L::Stream>>>> {
         // Of those at the listener the core was not asked in this turn.
         self.is_stirred = true;

@@ -13,7 +13,8 @@ returns-then-not-is_empty c =
     let line = c.in-Some.line in
     let some = some_chars line.now c.is_empty.result c.is_empty.ensures c.if-not-is_empty.true in
     let turn = YieldsList-turn (YieldsList-from_first (λ x. x.now) (λ (lines : Lines). lines_left lines.rest)
-    (lines_of c.args.text.now) (cc)) l.yielded _ l.yielded_by _ c.next.new.self line c.in-Some.is c.next.ensures.steps in
+    (lines_of c.args.text.now) (cc)) l.yielded _ l.yielded_by _ c.next.new.self line c.in-Some.is
+    c.next.ensures.steps in
     let front = YieldsList-so_far (YieldsList-from_first (λ x. x.now) (λ (lines : Lines). lines_left lines.rest)
     (lines_of c.args.text.now) (cc)) l.yielded _ l.yielded_by in
     begins_by (lines_of c.args.text.now) line.now c.read_hub.result c.is_some.result (is_first_line
