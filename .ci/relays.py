@@ -321,6 +321,24 @@ def nothing_is_asked_where_nobody_waits():
     return f"{asked} requests of the server's for four of each of eight viewers"
 
 
+def who_asks_for_all_sees_at_the_next_look_what_changed():
+    screen = Screen(23, 19)
+    relay = Relay(screen.port)
+    viewer = Seer(relay).hello().begins()
+    for _ in range(3):
+        screen.draws(*screen.scene())
+        asked = screen.requests()
+        # Such a look is answered at once, so nobody waits after it.
+        viewer.ask(0)
+        viewer.update()
+        wait_for(lambda: screen.requests() > asked or screen.open, screen.heard)
+        time.sleep(0.3)
+        viewer.ask(0)
+        viewer.update()
+        assert viewer.shows(screen.picture)
+    screen.is_right()
+
+
 # ---- what is told
 
 def told_text(text):
@@ -1035,7 +1053,8 @@ ROWS = [what_the_server_draws_is_what_each_viewer_sees,
         what_viewers_do_reaches_the_server_in_order,
         a_long_text_reaches_the_server_whole_or_cut_at_its_end,
         nothing_of_a_viewer_is_passed_on_before_its_handshake, of_a_view_alone_nothing_is_passed_on,
-        nothing_is_asked_where_nobody_waits, a_bell_and_a_text_are_lines_and_no_more,
+        nothing_is_asked_where_nobody_waits, who_asks_for_all_sees_at_the_next_look_what_changed,
+        a_bell_and_a_text_are_lines_and_no_more,
         each_line_is_told_in_its_order, where_the_server_goes_away_viewers_get_what_waits,
         a_server_that_is_not_there_is_explained,
         a_server_that_does_wrong_ends_the_relay_and_no_more, a_screen_that_is_too_large_is_refused,
