@@ -277,6 +277,7 @@ def of_a_view_alone_nothing_is_passed_on():
         screen.draws(*screen.scene())
         viewer.follows(screen.picture)
     assert not screen.events(), screen.events()
+    relay.tells(b"join 1")
     told = {line.split(b" ")[0] for line in relay.output.split(b"\n") if line}
     assert told == {b"server", b"come", b"join"}, relay.output
     screen.is_right()
@@ -979,6 +980,7 @@ def one_that_goes_before_its_first_picture_is_called_again():
     assert waiting.hears_nothing(0.3) is True and not relay.output, relay.output
     screen = Screen(31, 22, port=screen.port, seed=55)
     assert waiting.hello().begins().shows(screen.picture)
+    comes_back(screen, relay, 1)
     assert relay.lines(b"server") == [b"server up 31 22 77616c6c"], relay.output
     screen.is_right()
     # One that is not there at first is called no more.
