@@ -3,6 +3,7 @@ pub mod ArgumentLemmas
 pub mod CommandLemmas
 pub mod ComposingLemmas
 pub mod DeliveryLemmas
+pub mod CrossingLemmas
 pub mod EndsLemmas
 pub mod FirstLineLemmas
 pub mod HubWordLemmas

@@ -1,6 +1,7 @@
 pub mod VersionLaws
 pub mod ClientHandshakeLaws
 pub mod ServerHandshakeLaws
+pub mod ServerSecurityLaws
 pub mod ServerStreamLaws
 pub mod ServerHelloLemmas
 pub mod ServerHelloLaws

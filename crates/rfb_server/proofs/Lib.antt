@@ -19,6 +19,7 @@ pub mod SendingLemmas
 pub mod CellLemmas
 pub mod NeedingLemmas
 pub mod BoxesLemmas
+pub mod SendsPushLemmas
 pub mod SendsLemmas
 pub mod ComposesLemmas
 pub mod RoomLemmas

@@ -1,9 +1,8 @@
 -- A cell more in a composing: one that has nothing to send, and one of which a rectangle is sent.
-use Rattle.std.proofs.Common.{◌≡◌, ℕ, ◌+◌, ◌-◌, ◌<◌, ◌≤◌, ◌&&◌, ◌||◌, Bool, true, false, not, List, [], ◌∷◌, ◌++◌, map}
-use Rattle.std.proofs.Common.{Option, Some, None, if◌then◌else◌, refl, sym, ap, ◌∙◌, arith, inl, inr, append_assoc}
-use Rattle.std.proofs.Common.{append-nil, length-append, ◌==◌}
+use Rattle.std.proofs.Common.{◌≡◌, ℕ, ◌+◌, ◌-◌, ◌<◌, ◌≤◌, ◌||◌, Bool, true, false, not, List, [], ◌∷◌, ◌++◌, map}
+use Rattle.std.proofs.Common.{Option, Some, None, if◌then◌else◌, refl, sym, ap, ◌∙◌, arith, inl, inr}
+use Rattle.std.proofs.Common.{append-nil, length-append}
 use Rattle.std.proofs.lemmas.Bool.{cases_eq, cases_lt, both_ways, or_left, or_right}
-use Rattle.std.proofs.lemmas.Bool.Decides.{nat_tests}
 use Rattle.rfb_pixel.specs.declared.colour.Colour.{Colour}
 use Rattle.rfb_pixel.specs.Format.{PixelFormat}
 use Rattle.rfb_picture.specs.declared.rect.Rect.{Rect}
@@ -14,76 +13,17 @@ use Rattle.rfb_picture.specs.Box.{IsClear, IsBox}
 use Rattle.rfb_picture.proofs.GridLaws.{contains_true, contains_row}
 use Rattle.rfb_codec.specs.Codec.{PacksRect}
 use Rattle.rfb_codec.specs.RectData.{Pixels}
-use Rattle.rfb_codec.specs.UpdateStream.{Rectangle}
-use Rattle.rfb_codec.specs.Effect.{effect, effects, IsAlike, Agrees, IsRecorded}
+use Rattle.rfb_codec.specs.Effect.{effects, IsAlike, Agrees, IsRecorded}
 use Rattle.rfb_codec.specs.WholeUpdate.{item_of, SpellsRectangles}
 use Rattle.rfb_codec.proofs.EffectLaws.{effect_painted, effects_picture, agrees_placed}
 use Rattle.rfb_server.specs.Server.{ServerState, black}
-use Rattle.rfb_server.specs.Request.{wanted_at, wanted, recorded, is_asked, is_whole, differs, needs_at, needs_sending}
+use Rattle.rfb_server.specs.Request.{wanted_at, wanted, recorded, is_asked, is_whole, needs_at, needs_sending}
 use Rattle.rfb_server.specs.Cells.{cell_of, IsCell}
-use Rattle.rfb_server.specs.Composing.{Part, sent_as, between, IsPlace, HasItsData, HaveTheirData, IsBlockOf}
-use Rattle.rfb_server.specs.Composing.{AreBlocksOf, IsBoxOf, is_in_some}
+use Rattle.rfb_server.specs.Composing.{Part, sent_as, between, IsPlace, HasItsData, IsBlockOf}
+use Rattle.rfb_server.specs.Composing.{IsBoxOf, is_in_some}
 use Rattle.rfb_server.specs.inside.Sends.{SendsPixels, Sends}
 use Rattle.rfb_server.proofs.BoxesLemmas.{boxes_none, boxes_push}
-
--- ---- what needs no sending
-
-same_number : (a b : ℕ) → not (a == b) ≡ false → a ≡ b
-same_number a b e = grind (arith, nat_tests)
-
-not_differs : (pixel : ℕ) (old : Option ℕ) → differs pixel old ≡ false → old ≡ Some pixel
-not_differs pixel None e = absurd cc
-not_differs pixel (Some old) e = ap (λ (k : ℕ). Some k) (same_number old pixel e)
-
--- an asked place that needs no sending is recorded with the wanted pixel, and is not whole
-pub quiet_place : (asked whole : Bool) (pixel : ℕ) (old : Option ℕ) → (asked && (whole || differs pixel old)) ≡ false →
-    asked ≡ true → (old ≡ Some pixel) × (whole ≡ false)
-quiet_place true true pixel old e a = absurd cc
-quiet_place true false pixel old e a = (not_differs pixel old e, refl)
-quiet_place false whole pixel old e a = absurd cc
-
--- ---- lists that get one more
-
-module _ (s : ServerState) where
-  pub effects_push : (parts : List Part) (part : Part) (picture : Grid Colour) →
-      effects (between s) (map item_of (map sent_as (parts ++ part ∷ []))) picture
-      ≡ effect (between s) (Rectangle part.head part.body)
-      (effects (between s) (map item_of (map sent_as parts)) picture)
-  effects_push [] part picture = refl
-  effects_push (first ∷ parts) part picture =
-      effects_push parts part (effect (between s) (Rectangle first.head first.body) picture)
-
-  pub spelled_push : (parts : List Part) (part : Part) (bytes more : List ℕ) →
-      SpellsRectangles (between s) (map sent_as parts) bytes →
-      SpellsRectangles (between s) (sent_as part ∷ []) more →
-      SpellsRectangles (between s) (map sent_as (parts ++ part ∷ [])) (bytes ++ more)
-  spelled_push [] part bytes more none one = rw none one
-  spelled_push (first ∷ parts) part bytes more (front, back, whole, here, rest) one =
-      (front, back ++ more, rw whole (append_assoc front back more), here, spelled_push parts part back more rest one)
-
-  pub data_push : (parts : List Part) (part : Part) → HaveTheirData s parts → HasItsData s part →
-      HaveTheirData s (parts ++ part ∷ [])
-  data_push [] part all one = (one, tt)
-  data_push (first ∷ parts) part (here, rest) one = (here, data_push parts part rest one)
-
-  pub blocks_push : (parts : List Part) (part : Part) → AreBlocksOf s parts → IsBlockOf s part →
-      AreBlocksOf s (parts ++ part ∷ [])
-  blocks_push [] part all one = (one, tt)
-  blocks_push (first ∷ parts) part (here, rest) one = (here, blocks_push parts part rest one)
-
-pub in_push : (parts : List Part) (part : Part) (x y : ℕ) →
-    is_in_some (parts ++ part ∷ []) x y ≡ (is_in_some parts x y || contains part.head.rect x y)
-in_push [] part x y = or_none (contains part.head.rect x y)
-  where
-    or_none : (b : Bool) → (b || false) ≡ (false || b)
-    or_none true = refl
-    or_none false = refl
-in_push (first ∷ parts) part x y = rw (in_push parts part x y)
-    (or_swing (contains first.head.rect x y) (is_in_some parts x y) (contains part.head.rect x y))
-  where
-    or_swing : (a b c : Bool) → (a || (b || c)) ≡ ((a || b) || c)
-    or_swing true b c = refl
-    or_swing false b c = refl
+use Rattle.rfb_server.proofs.SendsPushLemmas.{quiet_place, effects_push, spelled_push, data_push, blocks_push, in_push}
 
 -- ---- a rectangle
 

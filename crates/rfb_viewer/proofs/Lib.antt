@@ -2,6 +2,7 @@ pub mod ViewerLaws
 pub mod StepLemmas
 pub mod HeadLemmas
 pub mod MessageLemmas
+pub mod MessageBodyLemmas
 pub mod RectLemmas
 pub mod GreetLemmas
 pub mod GreetRefusalLemmas

@@ -1,8 +1,7 @@
--- What a viewer makes of messages: their heads, colours and texts.
-use Rattle.std.proofs.Common.{◌≡◌, ℕ, zero, suc, ◌+◌, ◌*◌, ◌<◌, ◌≤◌, ◌==◌, Bool, false, List, [], ◌∷◌, ◌++◌, Option}
-use Rattle.std.proofs.Common.{Some, None, Ok, Err, if◌then◌else◌, length, take, drop, min, refl, sym, subst, ◌∙◌, ap}
-use Rattle.std.proofs.Common.{arith, length-append, append-nil, append_assoc, take-append-drop, length-drop}
-use Rattle.std.proofs.lemmas.List.{length-take-le}
+-- What a viewer makes of messages: their heads.
+use Rattle.std.proofs.Common.{◌≡◌, ℕ, zero, suc, ◌+◌, ◌*◌, ◌==◌, Bool, false, List, [], ◌∷◌, ◌++◌, Option}
+use Rattle.std.proofs.Common.{Some, None, Ok, Err, if◌then◌else◌, length, take, drop, refl, sym, subst, ◌∙◌, ap}
+use Rattle.std.proofs.Common.{arith, append-nil, append_assoc, take-append-drop}
 use Rattle.arrayvec.specs.ArrayVec.{ArrayVec}
 use Rattle.rfb_pixel.specs.declared.colour.Colour.{Colour}
 use Rattle.rfb_picture.specs.Grid.{Grid}
@@ -12,11 +11,11 @@ use Rattle.rfb_wire.specs.declared.server_head.ServerHead.TheVariants.{CutText a
 use Rattle.rfb_wire.specs.declared.fault.WireFault.{WireFault}
 use Rattle.rfb_wire.specs.declared.fault.WireFault.TheVariants.{UnknownMessage, UnknownEncoding, RectOutside}
 use Rattle.rfb_wire.specs.Heads.{IsUnknown}
-use Rattle.rfb_wire.specs.ServerHead.{SpellsServerHead, SpellsColourMap, SpellsServerCutText}
-use Rattle.rfb_wire.specs.stream.Reading.{More, Got, Listed}
-use Rattle.rfb_wire.specs.ServerMessage.{MapColour, ServerMessage, FramebufferUpdate, SetColorMapEntries, Bell}
-use Rattle.rfb_wire.specs.ServerMessage.{ServerCutText, UnknownType, SpellsMapColour, SpellsServerMessage}
-use Rattle.rfb_wire.specs.ServerMessage.{map_colour_of, server_message}
+use Rattle.rfb_wire.specs.ServerHead.{SpellsServerHead}
+use Rattle.rfb_wire.specs.stream.Reading.{More, Got}
+use Rattle.rfb_wire.specs.ServerMessage.{ServerMessage, FramebufferUpdate, SetColorMapEntries, Bell}
+use Rattle.rfb_wire.specs.ServerMessage.{ServerCutText, UnknownType, SpellsServerMessage}
+use Rattle.rfb_wire.specs.ServerMessage.{server_message}
 use Rattle.rfb_wire.specs.stream.Sequel.{First, Second}
 use Rattle.rfb_wire.specs.stream.End.{StepsBy, RunsOutBy}
 use Rattle.rfb_wire.proofs.ServerMessageLaws.{server_message_reads}
@@ -25,7 +24,6 @@ use Rattle.rfb_codec.specs.UpdateStream.{UpdatePoint, UpdateItem, Message, InMes
 use Rattle.rfb_codec.proofs.UpdateWaitLaws.{past_left, message_got, message_waits, message_bad}
 use Rattle.rfb_codec.proofs.EffectLaws.{effect_message}
 use Rattle.rfb_hello.specs.KeptText.{KeptText, kept_of}
-use Rattle.rfb_hello.proofs.KeptTextLaws.{kept_on}
 use Rattle.rfb_viewer.specs.declared.viewer.Viewer.{Viewer}
 use Rattle.rfb_viewer.specs.declared.viewer.progress.Progress.{Progress}
 use Rattle.rfb_viewer.specs.declared.viewer.progress.Progress.TheVariants.{Head, Colours, CutText}
@@ -48,32 +46,6 @@ got_message : (message : ServerMessage) (bytes : List ℕ) → SpellsServerMessa
 got_message message bytes s = subst (λ (ys : List ℕ). server_message ys ≡ Got message []) (append-nil bytes)
     (server_message_reads.only message bytes [] s)
 
--- ---- colours
-
--- six times `count` bytes are `count` colours
-are_colours : (count : ℕ) (bytes : List ℕ) → length bytes ≡ count * 6 →
-    (colors : List MapColour) × (length colors ≡ count) × Listed SpellsMapColour colors bytes
-are_colours zero [] size = ([], refl, refl)
-are_colours zero (byte ∷ bytes) size = absurd (omega (arith, size))
-are_colours (suc count) bytes size =
-    let few : 6 ≤ length bytes = omega (arith, size) in
-    let rest = are_colours count (drop 6 bytes) (omega (arith, size, length-drop 6 bytes)) in
-    let one : SpellsMapColour (map_colour_of (take 6 bytes)) (take 6 bytes) =
-    record { size = length-take-le 6 bytes few; red_is = refl; green_is = refl; blue_is = refl } in
-    let count_is = rest.1 in (
-      map_colour_of (take 6 bytes) ∷ rest.0,
-      omega (arith, count_is),
-      (take 6 bytes, drop 6 bytes, sym (take-append-drop 6 bytes), one, rest.2),
-    )
-
--- ---- texts of which the first bytes are kept
-
-kept_joined : (limit n : ℕ) (text unit : List ℕ) (kept now : KeptText) → kept ≡ kept_of limit n text →
-    now ≡ record kept { bytes = take kept.room (kept.bytes ++ unit) } → length (text ++ unit) ≤ n →
-    now ≡ kept_of limit n (text ++ unit)
-kept_joined limit n text unit kept now is made within =
-    made ∙ rw is (ap (λ (ys : List ℕ). record { room = min n limit; bytes = ys }) (kept_on limit n text unit within))
-
 -- ---- where a viewer stands
 
 pub at_head : (viewing : Viewing) (v : Viewer) (part : ArrayVec ℕ) (at : ServerAt) (g : Option (Grid Colour))
@@ -82,13 +54,13 @@ pub at_head : (viewing : Viewing) (v : Viewer) (part : ArrayVec ℕ) (at : Serve
 at_head viewing v part (First p) g prefix h = absurd h
 at_head viewing v part (Second q) g prefix h = (q, refl, h.0, h.1, h.2, h.3)
 
-at_colours : (viewing : Viewing) (v : Viewer) (more : ℕ) (at : ServerAt) (g : Option (Grid Colour)) (prefix : List ℕ) →
-    ProgressStandsFor viewing v (Colours more) at g prefix →
+pub at_colours : (viewing : Viewing) (v : Viewer) (more : ℕ) (at : ServerAt) (g : Option (Grid Colour))
+    (prefix : List ℕ) → ProgressStandsFor viewing v (Colours more) at g prefix →
     (q : UpdatePoint) × (at ≡ Second q) × IsReadyAt v q g 0 × Stores v g × AreColoursBegun more prefix
 at_colours viewing v more (First p) g prefix h = absurd h
 at_colours viewing v more (Second q) g prefix h = (q, refl, h.0, h.1, h.2)
 
-at_text : (viewing : Viewing) (v : Viewer) (n more : ℕ) (kept : KeptText) (at : ServerAt) (g : Option (Grid Colour))
+pub at_text : (viewing : Viewing) (v : Viewer) (n more : ℕ) (kept : KeptText) (at : ServerAt) (g : Option (Grid Colour))
     (prefix : List ℕ) → ProgressStandsFor viewing v (CutText n more kept) at g prefix → (q : UpdatePoint)
     × (at ≡ Second q) × IsReadyAt v q g 0 × Stores v g × IsTextBegun viewing.hello.text_limit n more kept prefix
 at_text viewing v n more kept (First p) g prefix h = absurd h
@@ -119,7 +91,7 @@ module _ (viewing : Viewing) (old new : Viewer) where
       (effect_message q message ready.screen) refl refl out (progress ready.screen made'.picture_is)
 
   -- one that goes to the next message
-  next_stands : (s : ViewerState) (prefix : List ℕ) (q : UpdatePoint) (message : ServerMessage) →
+  pub next_stands : (s : ViewerState) (prefix : List ℕ) (q : UpdatePoint) (message : ServerMessage) →
       StandsFor viewing old s prefix → s.point ≡ Second q → IsReadyAt old q s.picture 0 → Stores old s.picture →
       IsMade old new at_message old.request old.picture →
       update_stream.past q (Message message) ≡ record q { left = q.left } → is_last q (Message message) ≡ false →
@@ -133,7 +105,7 @@ module _ (viewing : Viewing) (old new : Viewer) where
       (λ g is now. (now, is, refl, tt))
 
   -- one that waits for the rest of a message
-  part_stands : (s : ViewerState) (prefix rest : List ℕ) (q : UpdatePoint) (p : Progress) →
+  pub part_stands : (s : ViewerState) (prefix rest : List ℕ) (q : UpdatePoint) (p : Progress) →
       StandsFor viewing old s prefix → s.point ≡ Second q → IsReadyAt old q s.picture 0 → Stores old s.picture →
       IsMade old new p old.request old.picture → (IsReadyAt new q s.picture 0 → Stores new s.picture →
       ProgressStandsFor viewing new p (Second q) s.picture rest) → StandsFor viewing new s rest
@@ -173,7 +145,7 @@ module _ (viewing : Viewing) (old new : Viewer) where
   head_bad part unit RectOutside was h = absurd h
 
   -- a whole head, with which its message is whole or its rest begins
-  got_whole : (s : ViewerState) (prefix unit front : List ℕ) (q : UpdatePoint)
+  pub got_whole : (s : ViewerState) (prefix unit front : List ℕ) (q : UpdatePoint)
       (message : ServerMessage) (event : Option ViewerTold) → prefix ++ unit ≡ front → s.point ≡ Second q →
       q.left ≡ 0 → SpellsServerMessage message front → item_told viewing.hello.text_limit q (Message message) ≡ event →
       StandsFor viewing new (shows viewing s (Second (Message message))) [] →
@@ -311,130 +283,3 @@ module _ (viewing : Viewing) (old new : Viewer) where
   head_asks part byte bytes (Update count) was one spelled asked = absurd asked
   head_asks part byte bytes (ColourMap first count) was one spelled asked = absurd asked
   head_asks part byte bytes BellHead was one spelled asked = absurd asked
-
-  -- ---- colours
-
-  pub colours_part : (more left : ℕ) (unit : List ℕ) →
-      old.progress ≡ Colours more → length unit + left ≡ more → IsMade old new (Colours left) old.request old.picture →
-      StepsBy (viewer viewing) (StandsFor viewing) old unit (Ok None) new
-  colours_part more left unit was count made =
-      more_step viewing old new unit (λ s prefix stands.
-      let h =
-      at_colours viewing old more s.point s.picture prefix (here viewing old (Colours more) s prefix was stands) in
-      let b = h.4 in
-      let all : prefix ++ unit ≡ b.head ++ (b.colours ++ unit) =
-      ap (λ (ys : List ℕ). ys ++ unit) b.prefix_is ∙ append_assoc b.head b.colours unit in
-      let missing = b.missing in
-      let long = length-append b.colours unit in (
-        h.0,
-        h.1,
-        rw all (message_waits h.0 (b.head ++ (b.colours ++ unit)) h.2.left_is
-            (colours_wait b.first b.count b.head (b.colours ++ unit) b.head_is (omega (arith, missing, long, count)))),
-        rw all (part_stands s prefix (b.head ++ (b.colours ++ unit)) h.0 (Colours left) stands h.1 h.2 h.3 made
-            (λ ready stored. (
-              ready,
-              stored,
-              record {
-                head = b.head;
-                colours = b.colours ++ unit;
-                first = b.first;
-                count = b.count;
-                prefix_is = refl;
-                head_is = b.head_is;
-                missing = omega (arith, missing, long, count);
-              },
-            ))),
-      ))
-
-  pub colours_got : (more : ℕ) (unit : List ℕ) →
-      old.progress ≡ Colours more → length unit ≡ more + 1 → IsMade old new at_message old.request old.picture →
-      StepsBy (viewer viewing) (StandsFor viewing) old unit (Ok (Some ColourMapSkipped)) new
-  colours_got more unit was count made =
-      got_step viewing old new unit (Some ColourMapSkipped) (λ s prefix stands.
-      let h =
-      at_colours viewing old more s.point s.picture prefix (here viewing old (Colours more) s prefix was stands) in
-      let b = h.4 in
-      let all : prefix ++ unit ≡ b.head ++ (b.colours ++ unit) =
-      ap (λ (ys : List ℕ). ys ++ unit) b.prefix_is ∙ append_assoc b.head b.colours unit in
-      let missing = b.missing in
-      let long = length-append b.colours unit in
-      let list = are_colours b.count (b.colours ++ unit) (omega (arith, missing, long, count)) in
-      got_whole s prefix unit (b.head ++ (b.colours ++ unit)) h.0 (SetColorMapEntries b.first list.0)
-      (Some ColourMapSkipped) all h.1 h.2.left_is
-      (record {
-        head = b.head;
-        list = b.colours ++ unit;
-        whole = refl;
-        head_is = subst (λ (k : ℕ). SpellsColourMap b.first k b.head) (sym list.1) b.head_is;
-        listed = list.2;
-      }) refl
-      (next_stands s prefix h.0 (SetColorMapEntries b.first list.0) stands h.1 h.2 h.3 made
-      (past_left h.0 (Message (SetColorMapEntries b.first list.0))) refl))
-
-  -- ---- texts
-
-  pub text_part : (n more left : ℕ) (kept now : KeptText) (unit : List ℕ) → old.progress ≡ CutText n more kept →
-      length unit + left ≡ more → now ≡ record kept { bytes = take kept.room (kept.bytes ++ unit) } →
-      IsMade old new (CutText n left now) old.request old.picture →
-      StepsBy (viewer viewing) (StandsFor viewing) old unit (Ok None) new
-  text_part n more left kept now unit was count is made =
-      more_step viewing old new unit (λ s prefix stands.
-      let h = at_text viewing old n more kept s.point s.picture prefix
-      (here viewing old (CutText n more kept) s prefix was stands) in
-      let b = h.4 in
-      let all : prefix ++ unit ≡ b.head ++ (b.text ++ unit) =
-      ap (λ (ys : List ℕ). ys ++ unit) b.prefix_is ∙ append_assoc b.head b.text unit in
-      let missing = b.missing in
-      let long = length-append b.text unit in
-      let few : length (b.text ++ unit) < n = omega (arith, missing, long, count) in
-      let now_is : now ≡ kept_of viewing.hello.text_limit n (b.text ++ unit) =
-      kept_joined viewing.hello.text_limit n b.text unit kept now b.kept_is is (omega (arith, few)) in (
-        h.0,
-        h.1,
-        rw all (message_waits h.0 (b.head ++ (b.text ++ unit)) h.2.left_is
-            (server_text_waits n b.head (b.text ++ unit) b.head_is few)),
-        rw all (part_stands s prefix (b.head ++ (b.text ++ unit)) h.0 (CutText n left now) stands h.1 h.2 h.3 made
-            (λ ready stored. (
-              ready,
-              stored,
-              record {
-                head = b.head;
-                text = b.text ++ unit;
-                prefix_is = refl;
-                head_is = b.head_is;
-                missing = omega (arith, missing, long, count);
-                kept_is = now_is;
-              },
-            ))),
-      ))
-
-  pub text_got : (n more : ℕ) (kept now : KeptText) (unit : List ℕ) → old.progress ≡ CutText n more kept →
-      length unit ≡ more + 1 → now ≡ record kept { bytes = take kept.room (kept.bytes ++ unit) } →
-      IsMade old new at_message old.request old.picture →
-      StepsBy (viewer viewing) (StandsFor viewing) old unit (Ok (Some (CutTextTold now.bytes n))) new
-  text_got n more kept now unit was count is made =
-      got_step viewing old new unit (Some (CutTextTold now.bytes n)) (λ s prefix stands.
-      let h = at_text viewing old n more kept s.point s.picture prefix
-      (here viewing old (CutText n more kept) s prefix was stands) in
-      let b = h.4 in
-      let text = b.text ++ unit in
-      let all : prefix ++ unit ≡ b.head ++ text =
-      ap (λ (ys : List ℕ). ys ++ unit) b.prefix_is ∙ append_assoc b.head b.text unit in
-      let missing = b.missing in
-      let long = length-append b.text unit in
-      let size : length text ≡ n = omega (arith, missing, long, count) in
-      let now_is : now ≡ kept_of viewing.hello.text_limit n text =
-      kept_joined viewing.hello.text_limit n b.text unit kept now b.kept_is is (omega (arith, size)) in
-      let told : Some (CutTextTold (take viewing.hello.text_limit text) (length text))
-      ≡ Some (CutTextTold now.bytes n) =
-      ap (λ (k : ℕ). Some (CutTextTold (take viewing.hello.text_limit text) k)) size
-      ∙ ap (λ (ys : List ℕ). Some (CutTextTold ys n)) (sym (ap (λ (k : KeptText). k.bytes) now_is)) in
-      got_whole s prefix unit (b.head ++ text) h.0 (ServerCutText text)
-      (Some (CutTextTold now.bytes n)) all h.1 h.2.left_is
-      (record {
-        head = b.head;
-        whole = refl;
-        head_is = subst (λ (k : ℕ). SpellsServerCutText k b.head) (sym size) b.head_is;
-      }) told
-      (next_stands s prefix h.0 (ServerCutText text) stands h.1 h.2 h.3 made
-      (past_left h.0 (Message (ServerCutText text))) refl))

@@ -1,7 +1,7 @@
 use Rattle.std.proofs.Common.{◌≡◌, ◌+◌, ◌-◌, ℕ, length, take, List, ap, refl, arith}
 use Rattle.std.proofs.lemmas.List.{length-take-le}
 use Rattle.rfb_viewer.specs.declared.viewer.progress.Progress.TheVariants.{Head, Colours}
-use Rattle.rfb_viewer.proofs.MessageLemmas.{colours_part, colours_got}
+use Rattle.rfb_viewer.proofs.MessageBodyLemmas.{colours_part, colours_got}
 use Rattle.rfb_viewer.proofs.TakingLemmas.{damages_at}
 use Rattle.rfb_viewer.proofs.MovedLemmas.{quiet_moves}
 use Rattle.rfb_viewer.proofs.viewer.Viewer.skip_colours.Goals as goal

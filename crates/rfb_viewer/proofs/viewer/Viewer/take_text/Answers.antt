@@ -3,7 +3,7 @@ use Rattle.std.proofs.lemmas.List.{length-take-le, take_all}
 use Rattle.rfb_hello.specs.KeptText.{KeptText}
 use Rattle.rfb_viewer.specs.declared.viewer.progress.Progress.TheVariants.{Head, CutText}
 use Rattle.rfb_viewer.specs.Progress.{fault_in}
-use Rattle.rfb_viewer.proofs.MessageLemmas.{text_part, text_got}
+use Rattle.rfb_viewer.proofs.MessageBodyLemmas.{text_part, text_got}
 use Rattle.rfb_viewer.proofs.TakingLemmas.{damages_at}
 use Rattle.rfb_viewer.proofs.MovedLemmas.{quiet_moves}
 use Rattle.rfb_viewer.proofs.viewer.Viewer.take_text.Goals as goal

@@ -1,7 +1,7 @@
 use Rattle.std.proofs.Common.{min, ◌≡◌, ◌∙◌, ◌+◌, ◌-◌, ◌≤◌, ap, refl, arith, length, length-take-le, take, drop}
 use Rattle.std.proofs.lemmas.List.{drop-drop}
 use Rattle.std.proofs.lemmas.Grind.{common_steps}
-use Rattle.rfb.proofs.DeliveryLemmas.{reaches_viewer_none, reaches_viewer_more}
+use Rattle.rfb.proofs.CrossingLemmas.{reaches_viewer_none, reaches_viewer_more}
 use Rattle.rfb.proofs.loopback.ends.Ends.deliver_to_viewer.Goals as goal
 
 pub loop-left-init : goal.loop-left-init

@@ -1,0 +1,139 @@
+-- The version and the security types of a server's handshake, as they stand in its stream.
+use Rattle.std.proofs.Common.{◌≡◌, ℕ, inl, inr, Bool, true, false, List}
+use Rattle.std.proofs.Common.{Option, Some, None, if◌then◌else◌, length, refl, sym, subst, ap}
+use Rattle.rfb_wire.specs.Fields.{u8_at, u32_at}
+use Rattle.rfb_wire.specs.stream.Reading.{Reads, Same}
+use Rattle.rfb_wire.specs.stream.Parts.{and_then, valued}
+use Rattle.rfb_wire.proofs.stream_laws.PartLaws.{then_reads, same_reads}
+use Rattle.rfb_wire.proofs.stream_laws.RepeatLaws.{valued_says, valued_reads, checked_says}
+use Rattle.rfb_hello.specs.declared.version.Version.{Version}
+use Rattle.rfb_hello.specs.declared.version.Version.TheVariants.{V33, V37, V38}
+use Rattle.rfb_hello.specs.declared.fault.HelloFault.{HelloFault}
+use Rattle.rfb_hello.specs.declared.fault.HelloFault.TheVariants.{BadVersion, NoneNotOffered, Refused}
+use Rattle.rfb_hello.specs.Version.{IsVersionText, is_version_text, version_of}
+use Rattle.rfb_hello.specs.ServerHandshake.{AwaitsVersion, AwaitsSecurity}
+use Rattle.rfb_hello.specs.ServerHandshake.{ServerItem, ProtocolVersion, SecurityTypes}
+use Rattle.rfb_hello.specs.ServerHandshake.{SpellsServerItem, FaultsServerItem}
+use Rattle.rfb_hello.specs.ServerHandshake.{server_item_says}
+use Rattle.rfb_hello.specs.ServerReading.{after_word, after_count, security}
+use Rattle.rfb_hello.proofs.VersionLaws.{text_true, text_test}
+use Rattle.rfb_hello.proofs.ServerHandshakeLaws.{word_says, words_say}
+use Rattle.rfb_hello.proofs.ServerHandshakeLaws.{word_reads, words_same, ItemOfTypes, FaultOfTypes, types_say}
+use Rattle.rfb_hello.proofs.ServerHandshakeLaws.{count_says, counts_say, count_reads, counts_same}
+
+-- ---- the version
+
+abbrev pub text_fault : List ℕ → Option HelloFault
+text_fault bytes = if is_version_text bytes then None else Some BadVersion
+
+pub version_same : (max : ℕ) →
+    Same (checked_says 12 text_fault (λ bytes. ProtocolVersion (version_of bytes))) (server_item_says max AwaitsVersion)
+version_same max = record {
+  item = item;
+  fault = λ f bytes h. told f bytes (is_version_text bytes) h.0 refl h.1;
+  item_back = item_back;
+  fault_back = fault_back;
+}
+  where
+    good : (bytes : List ℕ) (b : Bool) → is_version_text bytes ≡ b →
+        ◌≡◌ {A = Option HelloFault} (if b then None else Some BadVersion) None → is_version_text bytes ≡ true
+    good bytes true is e = is
+    good bytes false is e = cc
+
+    item : (step : ServerItem) (bytes : List ℕ) → (length bytes ≡ 12) × (text_fault bytes ≡ None)
+        × (step ≡ ProtocolVersion (version_of bytes)) → SpellsServerItem max AwaitsVersion step bytes
+    item step bytes h = subst (λ (s : ServerItem). SpellsServerItem max AwaitsVersion s bytes) (sym h.2)
+        (record { text = text_true bytes h.0 (good bytes (is_version_text bytes) refl h.1); version_is = refl })
+
+    told : (f : HelloFault) (bytes : List ℕ) (b : Bool) → length bytes ≡ 12 →
+        is_version_text bytes ≡ b → ◌≡◌ {A = Option HelloFault} (if b then None else Some BadVersion) (Some f) →
+        FaultsServerItem max AwaitsVersion f bytes
+    told f bytes true size is e = cc
+    told f bytes false size is e =
+        let same : BadVersion ≡ f = cc in
+        subst (λ (k : HelloFault). FaultsServerItem max AwaitsVersion k bytes) same
+        (size, λ t. let yes' = text_test bytes t in cc)
+
+    item_back : (step : ServerItem) (bytes : List ℕ) → SpellsServerItem max AwaitsVersion step bytes →
+        (length bytes ≡ 12) × (text_fault bytes ≡ None) × (step ≡ ProtocolVersion (version_of bytes))
+    item_back (ProtocolVersion v) bytes h =
+        let text = text_test bytes h.text in
+        (h.text.size, rw text refl, ap (λ (w : Version). ProtocolVersion w) h.version_is)
+    item_back step bytes h = absurd h
+
+    no_text : (bytes : List ℕ) → length bytes ≡ 12 → (IsVersionText bytes → ⊥) → (b : Bool) →
+        is_version_text bytes ≡ b → b ≡ false
+    no_text bytes size none true e = absurd (none (text_true bytes size e))
+    no_text bytes size none false e = refl
+
+    fault_back : (f : HelloFault) (bytes : List ℕ) → FaultsServerItem max AwaitsVersion f bytes →
+        (length bytes ≡ 12) × (text_fault bytes ≡ Some f)
+    fault_back BadVersion bytes h =
+        let text : is_version_text bytes ≡ false = no_text bytes h.0 h.1 (is_version_text bytes) refl in
+        (h.0, rw text refl)
+    fault_back f bytes h = absurd h
+
+-- ---- security
+
+types_37 : (max : ℕ) → Same types_say (server_item_says max (AwaitsSecurity V37))
+types_37 max = record {
+  item = λ step bytes h. subst (λ (s : ServerItem). SpellsServerItem max (AwaitsSecurity V37) s bytes)
+      (sym h.1) (h.2, h.3);
+  fault = fault;
+  item_back = item_back;
+  fault_back = fault_back;
+}
+  where
+    fault : (f : HelloFault) (bytes : List ℕ) → FaultOfTypes f bytes → FaultsServerItem max (AwaitsSecurity V37) f bytes
+    fault f bytes (inl h) = subst (λ (k : HelloFault). FaultsServerItem max (AwaitsSecurity V37) k bytes) (sym h.1) h.2
+    fault f bytes (inr h) = subst (λ (k : HelloFault). FaultsServerItem max (AwaitsSecurity V37) k bytes) (sym h.0) h.1
+
+    item_back : (step : ServerItem) (bytes : List ℕ) → SpellsServerItem max (AwaitsSecurity V37) step bytes →
+        ItemOfTypes step bytes
+    item_back (SecurityTypes types) bytes h = (types, refl, h.0, h.1)
+    item_back step bytes h = absurd h
+
+    fault_back : (f : HelloFault) (bytes : List ℕ) →
+        FaultsServerItem max (AwaitsSecurity V37) f bytes → FaultOfTypes f bytes
+    fault_back (Refused n) bytes h = inl (n, refl, h)
+    fault_back NoneNotOffered bytes h = inr (refl, h)
+    fault_back f bytes h = absurd h
+
+types_38 : (max : ℕ) → Same types_say (server_item_says max (AwaitsSecurity V38))
+types_38 max = record {
+  item = λ step bytes h. subst (λ (s : ServerItem). SpellsServerItem max (AwaitsSecurity V38) s bytes)
+      (sym h.1) (h.2, h.3);
+  fault = fault;
+  item_back = item_back;
+  fault_back = fault_back;
+}
+  where
+    fault : (f : HelloFault) (bytes : List ℕ) → FaultOfTypes f bytes → FaultsServerItem max (AwaitsSecurity V38) f bytes
+    fault f bytes (inl h) = subst (λ (k : HelloFault). FaultsServerItem max (AwaitsSecurity V38) k bytes) (sym h.1) h.2
+    fault f bytes (inr h) = subst (λ (k : HelloFault). FaultsServerItem max (AwaitsSecurity V38) k bytes) (sym h.0) h.1
+
+    item_back : (step : ServerItem) (bytes : List ℕ) → SpellsServerItem max (AwaitsSecurity V38) step bytes →
+        ItemOfTypes step bytes
+    item_back (SecurityTypes types) bytes h = (types, refl, h.0, h.1)
+    item_back step bytes h = absurd h
+
+    fault_back : (f : HelloFault) (bytes : List ℕ) →
+        FaultsServerItem max (AwaitsSecurity V38) f bytes → FaultOfTypes f bytes
+    fault_back (Refused n) bytes h = inl (n, refl, h)
+    fault_back NoneNotOffered bytes h = inr (refl, h)
+    fault_back f bytes h = absurd h
+
+counts_read : Reads (and_then (valued 1 (λ bytes. u8_at 0 bytes)) after_count) types_say
+counts_read = same_reads (and_then (valued 1 (λ bytes. u8_at 0 bytes)) after_count) counts_say types_say counts_same
+    (then_reads (valued 1 (λ bytes. u8_at 0 bytes)) after_count (valued_says 1 (λ bytes. u8_at 0 bytes)) count_says
+    (valued_reads 1 (λ bytes. u8_at 0 bytes)) count_reads)
+
+pub security_reads : (max : ℕ) (version : Version) →
+    Reads (security version) (server_item_says max (AwaitsSecurity version))
+security_reads max V33 = same_reads (security V33) words_say (server_item_says max (AwaitsSecurity V33))
+    (words_same max) (then_reads (valued 4 (λ bytes. u32_at 0 bytes)) after_word
+    (valued_says 4 (λ bytes. u32_at 0 bytes)) word_says (valued_reads 4 (λ bytes. u32_at 0 bytes)) word_reads)
+security_reads max V37 =
+    same_reads (security V37) types_say (server_item_says max (AwaitsSecurity V37)) (types_37 max) counts_read
+security_reads max V38 =
+    same_reads (security V38) types_say (server_item_says max (AwaitsSecurity V38)) (types_38 max) counts_read
