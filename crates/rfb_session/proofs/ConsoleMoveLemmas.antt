@@ -45,7 +45,8 @@ pub data DeskMove (h : Happening) (a b : Desk) : Type 0 where
   Holds : IsSilent h → HoldsAs a Begins b → DeskMove h a b
   Shows : IsSilent h → ShowsAs a b → DeskMove h a b
   Hears : (k : ℕ) (bytes part : List ℕ) (used ended : ℕ) (event : Option SeatEvent) → k < 8 →
-      h ≡ Told (Received (k + 1) part) → part ≡ take used bytes → HearsAt a k bytes used ended event b → DeskMove h a b
+      h ≡ Told (Received (k + 1) part) → part ≡ take used bytes → HearsAt a k bytes used ended event b →
+      DeskMove h a b
   Writes : (k : ℕ) (bytes : List ℕ) → k < 8 → h ≡ Told (Wrote (k + 1) bytes) →
       bytes ≡ take (length bytes) (waits_at a.share k) → WritesSeat a k (length bytes) b → DeskMove h a b
   WritesOut : (bytes : List ℕ) → h ≡ Told (Wrote 9 bytes) → bytes ≡ take (length bytes) (lines_of a) →

@@ -1,5 +1,6 @@
 -- What the calls of a desk come to, one after the other.
-use Rattle.std.proofs.Common.{◌≡◌, ◌<◌, ◌+◌, ◌-◌, ◌++◌, ◌∙◌, ℕ, Bool, true, false, not, nat_eq, ◌&&◌, ◌||◌, List, []}
+use Rattle.std.proofs.Common.{◌≡◌, ◌<◌, ◌+◌, ◌-◌, ◌++◌, ◌∙◌, ℕ, Bool, true, false}
+use Rattle.std.proofs.Common.{not, nat_eq, ◌&&◌, ◌||◌, List, []}
 use Rattle.std.proofs.Common.{zero, suc}
 use Rattle.std.proofs.Common.{refl, sym, ap, subst, append_assoc, arith, inl, inr, length, cond, Option, None}
 use Rattle.std.proofs.lemmas.Bool.{false≢true}

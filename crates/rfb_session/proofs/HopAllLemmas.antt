@@ -15,7 +15,8 @@ later_ask [] moments all = all
 later_ask (m ∷ later) moments all = later_ask later moments all.1
 
 once_ask : (moments : List Moment) (P Q : Moment → List Moment → Type 0) → AllAnswerAll moments →
-    ((m : Moment) (earlier : List Moment) → AllAnswerAll (m ∷ earlier) → P m earlier → Q m earlier) → Once moments P →
+    ((m : Moment) (earlier : List Moment) → AllAnswerAll (m ∷ earlier) → P m earlier → Q m earlier) →
+    Once moments P →
     Once moments Q
 once_ask moments P Q all goes one = record {
   moment = one.moment;

@@ -34,7 +34,8 @@ record IsWhole (e : Ends) (area : Places) : Type 0 where
   pub whole : IsGrid area.asked
   pub wide : area.asked.width ≡ e.serving.hello.width
   pub high : area.asked.height ≡ e.serving.hello.height
-  pub some : (x y u v : ℕ) → asked_at area u v ≡ true → x < e.serving.hello.width → y < e.serving.hello.height →
+  pub some : (x y u v : ℕ) → asked_at area u v ≡ true → x < e.serving.hello.width →
+      y < e.serving.hello.height →
       asked_at area x y ≡ true
 
 apart : (b : Bool) → b ≡ false → b ≡ true → ⊥
@@ -172,7 +173,8 @@ step_all e old new (Happens.ToServer count) wide high all step h =
 step_all e old new (Happens.ToViewer count) wide high all step h =
     link_all e old.screen old.link new.link (ToViewer count) wide high tt step.1 h
 
-pub goes_all : (e : Ends) (old new : Network) → IsReached e old → GoesForAll e old new → HasAskedAll e old.link →
+pub goes_all : (e : Ends) (old new : Network) → IsReached e old → GoesForAll e old new →
+    HasAskedAll e old.link →
     HasAskedAll e new.link
 goes_all e old new r (inl same) h = subst (λ (n : Network). HasAskedAll e n.link) (sym same) h
 goes_all e old new r (inr (inl (event, all, step))) h =

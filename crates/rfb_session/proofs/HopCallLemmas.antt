@@ -15,8 +15,10 @@ use Rattle.rfb_viewer.specs.Messages.{request_message}
 use Rattle.rfb_viewer.specs.Standing.{StandsFor as ViewerStandsFor}
 use Rattle.rfb_viewer.specs.Viewer.{ViewerState}
 use Rattle.rfb_session.specs.declared.event.Event.{Event}
+use Rattle.rfb_session.specs.declared.event.Event.TheVariants as Happens
 use Rattle.rfb_session.specs.declared.event.Event.TheVariants.{Request as OfRequest}
 use Rattle.rfb_session.specs.declared.share.Share.{Share}
+use Rattle.rfb_session.specs.HopAreas.{AsksAll, BecomesForAll, Covers, GoesForAll}
 use Rattle.rfb_session.specs.HopEnds.{IsRelay, IsLinked, IsBehind, ShowsSame, Becomes}
 use Rattle.rfb_session.specs.Hops.{Moment, GoesBelow, over}
 use Rattle.rfb_session.specs.InFlight.{Flies}
@@ -37,7 +39,8 @@ use Rattle.rfb_session.proofs.HopEndLemmas.{is_seen, one_viewer, over_screen, st
 -- ---- calls of the share's viewer
 
 -- the seat is as it was, over the screen as it was
-stays_linked : (f : Ends) (old new : Share) (k : ℕ) (viewer : Viewer) (sends gets : List ℕ) (o : Option LinkState) →
+stays_linked : (f : Ends) (old new : Share) (k : ℕ) (viewer : Viewer) (sends gets : List ℕ) (o : Option
+    LinkState) →
     screen_of new ≡ screen_of old → StaysWatched old k new → IsLinked f old k viewer sends gets o →
     IsLinked f new k viewer sends gets o
 stays_linked f old new k viewer sends gets None screen stays linked = tt
@@ -58,7 +61,8 @@ relay_called : (e f : Ends) (old new : Share) (now : Viewer) (has to_server to_v
       server_has = has;
       server_gets = to_server ++ bytes;
     }) →
-    Becomes e f m new has (to_server ++ bytes) to_viewer k viewer sends gets
+    (b : Becomes e f m new has (to_server ++ bytes) to_viewer k viewer sends gets)
+    × (AsksAll e event → GoesForAll e m.above b.next.above)
 relay_called e f old new now has to_server to_viewer bytes k viewer sends gets m message v event r there screen stays
     behind step stands flies =
     let n : Network = record m.above { link = calls None m.above.link v message } in
@@ -74,24 +78,28 @@ relay_called e f old new now has to_server to_viewer bytes k viewer sends gets m
         stands = stands;
         flies = flies;
       };
-    } in
-    record {
-      next = next;
-      goes = record {
-        above = inr (inl (event, step));
-        seen = is_seen e new has (to_server ++ bytes) to_viewer next relay;
-        below = stays_below f m.screen m.below;
-      };
-      server = record { screen = refl; session = refl };
-      relay = relay;
-      behind = stays_linked f old new k viewer sends gets m.below screen stays behind;
-    }
+    } in (
+      record {
+        next = next;
+        goes = record {
+          above = inr (inl (event, step));
+          seen = is_seen e new has (to_server ++ bytes) to_viewer next relay;
+          below = stays_below f m.screen m.below;
+        };
+        server = record { screen = refl; session = refl };
+        relay = relay;
+        behind = stays_linked f old new k viewer sends gets m.below screen stays behind;
+      },
+      λ all. inr (inl (event, all, step)),
+    )
 
 pub relay_requested : (e f : Ends) (old new : Share) (was : Viewer) (incremental : Bool) (rect : Rect)
-    (before after has to_server to_viewer : List ℕ) (k : ℕ) (viewer : Viewer) (sends gets : List ℕ) (m : Moment) →
+    (before after has to_server to_viewer : List ℕ) (k : ℕ) (viewer : Viewer) (sends gets : List ℕ)
+    (m : Moment) →
     viewer_of old ≡ Some was → MakesOn old was (Request incremental rect) before (Ok tt) after new →
     IsRelay e old has to_server to_viewer m → IsBehind f old k viewer sends gets m →
-    Becomes e f m new has (to_server ++ request_message incremental rect) to_viewer k viewer sends gets
+    (b : Becomes e f m new has (to_server ++ request_message incremental rect) to_viewer k viewer sends gets)
+    × (Covers e rect → GoesForAll e m.above b.next.above)
 relay_requested e f old new was incremental rect before after has to_server to_viewer k viewer sends gets m there makes
     r behind =
     let l = m.above.link in
@@ -110,7 +118,7 @@ relay_requested e f old new was incremental rect before after has to_server to_v
     (reached_holds e m.above r.fed.reached).phase ready.1 r.fed.flies r.fed.flies.to_viewer makes.makes.spelled)
 
 -- a call that is not noted waits for the handshake alone
-plain_refusal : (s : ViewerState) (prefix : List ℕ) (call : Call) → is_noted call ≡ false →
+pub plain_refusal : (s : ViewerState) (prefix : List ℕ) (call : Call) → is_noted call ≡ false →
     refusal_for s prefix call ≡ call_refusal s
 plain_refusal s prefix (Request incremental rect) plain = absurd (let e = plain in cc)
 plain_refusal s prefix (SetFormat format) plain = absurd (let e = plain in cc)
@@ -119,12 +127,30 @@ plain_refusal s prefix (Key down key) plain = refl
 plain_refusal s prefix (Pointer buttons x y) plain = refl
 plain_refusal s prefix (CutText text) plain = refl
 
+-- a message that changes nothing of the viewer asks for nothing
+plain_asks : (e : Ends) (event : Event) (message : ClientMessage) → plain_message event ≡ Some message →
+    AsksAll e event
+plain_asks e (Happens.Fill rect colour) message is = tt
+plain_asks e (Happens.Put x y row) message is = tt
+plain_asks e (Happens.Copy rect sx sy) message is = tt
+plain_asks e (Happens.Hint rect sx sy) message is = tt
+plain_asks e (Happens.Request incremental rect) message is = absurd (let one = is in cc)
+plain_asks e (Happens.SetFormat form) message is = tt
+plain_asks e (Happens.SetEncodings encodings) message is = tt
+plain_asks e (Happens.Key down key) message is = tt
+plain_asks e (Happens.Pointer buttons x y) message is = tt
+plain_asks e (Happens.CutText text) message is = tt
+plain_asks e Happens.Compose message is = tt
+plain_asks e (Happens.ToServer count) message is = tt
+plain_asks e (Happens.ToViewer count) message is = tt
+
 pub relay_sent : (e f : Ends) (old new : Share) (was : Viewer) (call : Call) (event : Event)
-    (before after has to_server to_viewer : List ℕ) (k : ℕ) (viewer : Viewer) (sends gets : List ℕ) (m : Moment) →
+    (before after has to_server to_viewer : List ℕ) (k : ℕ) (viewer : Viewer) (sends gets : List ℕ)
+    (m : Moment) →
     viewer_of old ≡ Some was → MakesOn old was call before (Ok tt) after new → is_noted call ≡ false →
     plain_message event ≡ Some (message_of call) → IsRelay e old has to_server to_viewer m →
     IsBehind f old k viewer sends gets m →
-    Becomes e f m new has (to_server ++ message_bytes call) to_viewer k viewer sends gets
+    BecomesForAll e f m new has (to_server ++ message_bytes call) to_viewer k viewer sends gets
 relay_sent e f old new was call event before after has to_server to_viewer k viewer sends gets m there makes plain is r
     behind =
     let l = m.above.link in
@@ -135,13 +161,15 @@ relay_sent e f old new was call event before after has to_server to_viewer k vie
     ∙ plain_refusal l.viewer r.fed.has call plain in
     let ready = call_ready l.viewer.point none in
     let message = message_of call in
-    relay_called e f old new makes.now has to_server to_viewer (message_bytes call) k viewer sends gets m message
-    l.viewer event r makes.is_there makes.screen (watched_made old new was call before (Ok tt) after k makes) behind
+    let one = relay_called e f old new makes.now has to_server to_viewer (message_bytes call) k viewer sends gets m
+    message l.viewer event r makes.is_there makes.screen (watched_made old new was call before (Ok tt) after k makes)
+    behind
     (plain_steps e message event is m.above (record m.above { link = calls None l l.viewer message }) refl
     (ap (λ (o : Option CallFault). calls o l l.viewer message) none))
     (subst (λ (v : Viewer). ViewerStandsFor e.viewing v l.viewer r.fed.has) (sym (makes.makes.unnoted plain)) stands)
     (called_flies e l _ ready.0 l.viewer message (message_bytes call)
-    (reached_holds e m.above r.fed.reached).phase ready.1 r.fed.flies r.fed.flies.to_viewer makes.makes.spelled)
+    (reached_holds e m.above r.fed.reached).phase ready.1 r.fed.flies r.fed.flies.to_viewer makes.makes.spelled) in
+    record { becomes = one.0; for_all = one.1 (plain_asks e event message is) }
 
 -- ---- what is done at the seats
 

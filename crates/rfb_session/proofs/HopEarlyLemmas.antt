@@ -1,5 +1,6 @@
 -- The end of an update is told of one that the server has composed.
-use Rattle.std.proofs.Common.{◌≡◌, ◌⊎◌, ◌==◌, ◌&&◌, ℕ, Bool, true, false, List, [], ◌∷◌, ◌++◌, map}
+use Rattle.std.proofs.Common.{◌≡◌, ◌⊎◌, ◌==◌, ◌&&◌, ℕ, Bool, true, false, List, [], ◌∷◌}
+use Rattle.std.proofs.Common.{◌++◌, map}
 use Rattle.std.proofs.Common.{Option, Some, None, inl, inr, refl, sym, ap, subst}
 use Rattle.std.proofs.Common.{if◌then◌else◌}
 use Rattle.rfb_pixel.specs.declared.colour.Colour.{Colour}
@@ -92,7 +93,8 @@ called_early : (o : Option CallFault) (l : LinkState) (v : ViewerState) (message
 called_early (Some fault) l v message early = early
 called_early None l v message early = early
 
-same_early : (old new : LinkState) → new.to_viewer ≡ old.to_viewer → new.latest ≡ old.latest → IsEarly old → IsEarly new
+same_early : (old new : LinkState) → new.to_viewer ≡ old.to_viewer → new.latest ≡ old.latest →
+    IsEarly old → IsEarly new
 same_early old new queue latest (inl steps) = inl (subst (λ (q : List FromServer). AreSteps q) (sym queue) steps)
 same_early old new queue latest (inr some) = inr (subst (λ (o : Option Composing). AnswersSome o) (sym latest) some)
 

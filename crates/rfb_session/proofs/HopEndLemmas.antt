@@ -16,7 +16,7 @@ use Rattle.rfb_session.specs.declared.share.Share.{Share}
 use Rattle.rfb_session.specs.declared.share.screen.Screen.{Screen}
 use Rattle.rfb_session.specs.declared.share.screen.Screen.TheVariants.{Drawn, Seen}
 use Rattle.rfb_session.specs.declared.share.seat.ShareSeat.{ShareSeat}
-use Rattle.rfb_session.specs.HopEnds.{IsFed, IsRelay, opened, IsLinked, IsBehind, Becomes}
+use Rattle.rfb_session.specs.HopEnds.{IsFed, IsRelay, opened, IsLinked, IsBehind}
 use Rattle.rfb_session.specs.Hops.{Moment, GoesBelow, GoesTo, IsSeen, over}
 use Rattle.rfb_session.specs.InFlight.{AreMade, Flies, viewer_reply}
 use Rattle.rfb_session.specs.Link.{Ends, LinkState}
@@ -32,15 +32,14 @@ use Rattle.rfb_wire.specs.stream.End.{FedBy}
 use Rattle.std.proofs.Common.{append-nil}
 use Rattle.rfb_viewer.specs.Told.{UpdateDone}
 use Rattle.rfb_viewer.specs.Viewer.{viewer as viewer_end}
-use Rattle.rfb_session.specs.HopEnds.{OpensAs}
+use Rattle.rfb_session.specs.HopAreas.{BecomesForAll, OpensForAll, RenewsForAll}
 use Rattle.rfb_session.proofs.HopFedLemmas.{fed_next}
-use Rattle.rfb_session.specs.HopEnds.{RenewsAs}
 use Rattle.rfb_session.specs.ShareMirrors.{ShowsOther}
 use Rattle.rfb_session.proofs.HopSeatLemmas.{watched_other}
 
 -- ---- what a share shows
 
-shown_is : (x : Screen) (viewer : Viewer) → viewer_on x ≡ Some viewer → picture_of viewer ≡ Some (shown_on x)
+pub shown_is : (x : Screen) (viewer : Viewer) → viewer_on x ≡ Some viewer → picture_of viewer ≡ Some (shown_on x)
 shown_is (Drawn picture) viewer is = absurd (let e = is in cc)
 shown_is (Seen mirror) viewer is =
     let same : mirror.viewer ≡ viewer = cc in
@@ -64,7 +63,7 @@ is_seen e share has to_server to_viewer m r = record {
 pub relay_opens : (e : Ends) (share : Share) (old new : Viewer) (bytes has to_server to_viewer later : List ℕ)
     (n : Network) → AreMade e → to_viewer ≡ bytes ++ later →
     FedBy (viewer_end e.viewing) (ViewerStandsFor e.viewing) old bytes (Some UpdateDone) new →
-    viewer_of share ≡ Some new → IsFed e old has to_server to_viewer n → OpensAs e n share has to_server later
+    viewer_of share ≡ Some new → IsFed e old has to_server to_viewer n → OpensForAll e n share has to_server later
 relay_opens e share old new bytes has to_server to_viewer later n made is fed there f =
     let one = fed_next e old new bytes (Some UpdateDone) has to_server to_viewer later n made is fed f in
     let ended = one.1 refl in
@@ -76,14 +75,17 @@ relay_opens e share old new bytes has to_server to_viewer later n made is fed th
       fed = subst (λ (q : List ℕ). IsFed e new has q later one.0.next) (append-nil to_server) one.0.fed;
     } in
     record {
-      next = one.0.next;
-      goes = one.0.goes;
       opens = record {
-        update = record { reached = one.0.fed.reached; quiet = ended.0; some = ended.1 };
-        seen = is_seen e share has to_server later (opened share one.0.next) relay;
-        none = refl;
+        next = one.0.next;
+        goes = one.0.goes;
+        opens = record {
+          update = record { reached = one.0.fed.reached; quiet = ended.0; some = ended.1 };
+          seen = is_seen e share has to_server later (opened share one.0.next) relay;
+          none = refl;
+        };
+        relay = relay;
       };
-      relay = relay;
+      for_all = one.2;
     }
 
 pub stays_below : (f : Ends) (screen : Grid Colour) (o : Option LinkState) → GoesBelow f screen o screen o
@@ -150,13 +152,14 @@ pub relay_heard : (e f : Ends) (old new : Share) (bytes : List ℕ) (told : Fed 
     (has to_server to_viewer later : List ℕ) (k : ℕ) (viewer : Viewer) (sends gets : List ℕ) (m : Moment) →
     AreMade e → FeedsOn old bytes told new → to_viewer ≡ take told.used bytes ++ later →
     IsRelay e old has to_server to_viewer m → IsBehind f old k viewer sends gets m →
-    Becomes e f m new has (to_server ++ viewer_reply (seen told.event)) later k viewer sends gets
+    BecomesForAll e f m new has (to_server ++ viewer_reply (seen told.event)) later k viewer sends gets
 relay_heard e f old new bytes told has to_server to_viewer later k viewer sends gets m made feeds is r behind =
     let was : IsFed e feeds.was has to_server to_viewer m.above =
     subst (λ (v : Viewer). IsFed e v has to_server to_viewer m.above)
     (one_viewer (viewer_of old) r.viewer feeds.was r.is_there feeds.was_there) r.fed in
-    let one = (fed_next e feeds.was feeds.mid (take told.used bytes) (seen told.event) has to_server to_viewer later
-    m.above made is (feeds.takes.fed_by e.viewing) was).0 in
+    let both = fed_next e feeds.was feeds.mid (take told.used bytes) (seen told.event) has to_server to_viewer later
+    m.above made is (feeds.takes.fed_by e.viewing) was in
+    let one = both.0 in
     let below = below_told f old new k viewer sends gets m.below
     (λ o w. watched_fed f old new bytes told k viewer sends gets o feeds w) behind in
     let next : Moment = record { above = one.next; screen = screen_of new; below = below.0 } in
@@ -173,15 +176,19 @@ relay_heard e f old new bytes told has to_server to_viewer later k viewer sends 
       };
     } in
     record {
-      next = next;
-      goes = record {
-        above = one.goes;
-        seen = is_seen e new has (to_server ++ viewer_reply (seen told.event)) later next relay;
-        below = subst (λ (g : Grid Colour). GoesBelow f g m.below (screen_of new) below.0) (sym r.screen_is) below.1;
+      becomes = record {
+        next = next;
+        goes = record {
+          above = one.goes;
+          seen = is_seen e new has (to_server ++ viewer_reply (seen told.event)) later next relay;
+          below = subst (λ (g : Grid Colour). GoesBelow f g m.below (screen_of new) below.0) (sym r.screen_is)
+              below.1;
+        };
+        server = record { screen = one.screen; session = one.session };
+        relay = relay;
+        behind = below.2;
       };
-      server = record { screen = one.screen; session = one.session };
-      relay = relay;
-      behind = below.2;
+      for_all = both.2;
     }
 
 pub relay_never : (e : Ends) (old new : Share) (bytes : List ℕ) (fault : ViewerFault)
@@ -203,7 +210,7 @@ pub relay_renews : (e f : Ends) (old new : Share) (was other : Viewer) (bytes ha
     to_viewer ≡ bytes ++ later →
     FedBy (viewer_end e.viewing) (ViewerStandsFor e.viewing) was bytes (Some UpdateDone) other →
     ShowsOther old other new → IsFed e was has to_server to_viewer n → m.screen ≡ screen_of old →
-    IsBehind f old k viewer sends gets m → RenewsAs e f m n new has to_server later k viewer sends gets
+    IsBehind f old k viewer sends gets m → RenewsForAll e f m n new has to_server later k viewer sends gets
 relay_renews e f old new was other bytes has to_server to_viewer later k viewer sends gets m n made is fed shows have
     screen behind =
     let one = fed_next e was other bytes (Some UpdateDone) has to_server to_viewer later n made is fed have in
@@ -219,13 +226,16 @@ relay_renews e f old new was other bytes has to_server to_viewer later k viewer 
       fed = subst (λ (q : List ℕ). IsFed e other has q later one.0.next) (append-nil to_server) one.0.fed;
     } in
     record {
-      next = next;
-      goes = one.0.goes;
       renews = record {
-        update = record { reached = one.0.fed.reached; quiet = ended.0; some = ended.1 };
-        seen = is_seen e new has to_server later next relay;
-        below = subst (λ (g : Grid Colour). GoesBelow f g m.below (screen_of new) below.0) (sym screen) below.1;
+        next = next;
+        goes = one.0.goes;
+        renews = record {
+          update = record { reached = one.0.fed.reached; quiet = ended.0; some = ended.1 };
+          seen = is_seen e new has to_server later next relay;
+          below = subst (λ (g : Grid Colour). GoesBelow f g m.below (screen_of new) below.0) (sym screen) below.1;
+        };
+        relay = relay;
+        behind = below.2;
       };
-      relay = relay;
-      behind = below.2;
+      for_all = one.2;
     }

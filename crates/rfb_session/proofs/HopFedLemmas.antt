@@ -1,7 +1,8 @@
 -- A viewer and its server before a share shows the picture: what comes to the viewer, its requests, and the end of an
 -- update.
 use Rattle.std.proofs.Common.{◌≡◌, ◌+◌, ◌≤◌, ℕ, Bool, false, List, [], ◌++◌, length}
-use Rattle.std.proofs.Common.{Option, Some, None, inl, inr, refl, sym, ap, subst, ◌∙◌, length-append, append_assoc}
+use Rattle.std.proofs.Common.{Option, Some, None, inl, inr, refl, sym, ap, subst, ◌∙◌, length-append}
+use Rattle.std.proofs.Common.{append_assoc}
 use Rattle.std.proofs.Common.{arith}
 use Rattle.rfb_pixel.specs.declared.colour.Colour.{Colour}
 use Rattle.rfb_picture.specs.Grid.{Grid}
@@ -21,6 +22,7 @@ use Rattle.rfb_viewer.specs.Viewer.{ViewerState, first_viewer, viewer as viewer_
 use Rattle.rfb_viewer.proofs.ViewerLaws.{viewer_machine}
 use Rattle.rfb_session.specs.declared.event.Event.TheVariants.{Request as OfRequest, ToViewer as OfViewer}
 use Rattle.rfb_session.specs.Headline.{AnswersSome}
+use Rattle.rfb_session.specs.HopAreas.{Covers, GoesForAll}
 use Rattle.rfb_session.specs.HopEnds.{IsFed, GoesFed}
 use Rattle.rfb_session.specs.InFlight.{AreMade, Flight, viewer_reply}
 use Rattle.rfb_session.specs.Link.{Ends, Composing, LinkState}
@@ -45,7 +47,8 @@ same_session e old new n moves = ap (λ (l : LinkState). l.session) moves.result
 same_latest : (e : Ends) (old new : LinkState) (n : ℕ) → MovesToViewer e old n new → new.latest ≡ old.latest
 same_latest e old new n moves = ap (λ (l : LinkState). l.latest) moves.result
 
-pub fed_first : (e : Ends) (screen : Grid Colour) (viewer : Viewer) → ViewerStandsFor e.viewing viewer first_viewer [] →
+pub fed_first : (e : Ends) (screen : Grid Colour) (viewer : Viewer) →
+    ViewerStandsFor e.viewing viewer first_viewer [] →
     screen.width ≡ e.serving.hello.width → screen.height ≡ e.serving.hello.height →
     IsFed e viewer [] [] (version_text e.serving.hello.offer) (fresh_over e screen)
 fed_first e screen viewer stands wide high = record {
@@ -60,6 +63,7 @@ pub fed_next : (e : Ends) (old new : Viewer) (bytes : List ℕ) (event : Option 
     FedBy (viewer_end e.viewing) (ViewerStandsFor e.viewing) old bytes event new →
     IsFed e old has to_server to_viewer n → (g : GoesFed e n new has (to_server ++ viewer_reply event) later)
     × (event ≡ Some UpdateDone → (g.next.link.viewer.outstanding ≡ false) × AnswersSome g.next.link.latest)
+    × GoesForAll e n g.next
 fed_next e old new bytes event has to_server to_viewer later n made is fed f =
     let l = n.link in
     let flight : Flight =
@@ -97,6 +101,7 @@ fed_next e old new bytes event has to_server to_viewer later n made is fed f =
                 (composed (reached_early e n f.reached)
                 (λ steps. last.1 (subst (λ (q : List FromServer). AreSteps q) d.queue_is steps))),
           ),
+      inr (inl (OfViewer (length bytes), tt, step)),
     )
   where
     composed : IsEarly n.link → (AreSteps n.link.to_viewer → ⊥) → AnswersSome n.link.latest
@@ -106,7 +111,8 @@ fed_next e old new bytes event has to_server to_viewer later n made is fed f =
 pub fed_requested : (e : Ends) (old new : Viewer) (incremental : Bool) (rect : Rect)
     (bytes has to_server to_viewer : List ℕ) (n : Network) → Requests e rect old new →
     SpellsClientMessage (FramebufferUpdateRequest incremental rect) bytes →
-    IsFed e old has to_server to_viewer n → GoesFed e n new has (to_server ++ bytes) to_viewer
+    IsFed e old has to_server to_viewer n →
+    (g : GoesFed e n new has (to_server ++ bytes) to_viewer) × (Covers e rect → GoesForAll e n g.next)
 fed_requested e old new incremental rect bytes has to_server to_viewer n asks spelled f =
     let l = n.link in
     let none = asks.taken l.viewer f.has f.stands in
@@ -114,17 +120,19 @@ fed_requested e old new incremental rect bytes has to_server to_viewer n asks sp
     let message = FramebufferUpdateRequest incremental rect in
     let next : Network = record n { link = calls None l (requested l.viewer) message } in
     let step : Steps e n (OfRequest incremental rect) next =
-    (refl, ap (λ (o : Option CallFault). calls o l (requested l.viewer) message) none) in
-    record {
-      next = next;
-      goes = inr (inl (OfRequest incremental rect, step));
-      screen = refl;
-      session = refl;
-      fed = record {
-        reached = reached_step e n next (OfRequest incremental rect) f.reached step;
-        has = f.has;
-        stands = asks.stands l.viewer f.has f.stands;
-        flies = called_flies e l _ ready.0 (requested l.viewer) message bytes
-            (reached_holds e n f.reached).phase ready.1 f.flies f.flies.to_viewer spelled;
-      };
-    }
+    (refl, ap (λ (o : Option CallFault). calls o l (requested l.viewer) message) none) in (
+      record {
+        next = next;
+        goes = inr (inl (OfRequest incremental rect, step));
+        screen = refl;
+        session = refl;
+        fed = record {
+          reached = reached_step e n next (OfRequest incremental rect) f.reached step;
+          has = f.has;
+          stands = asks.stands l.viewer f.has f.stands;
+          flies = called_flies e l _ ready.0 (requested l.viewer) message bytes
+              (reached_holds e n f.reached).phase ready.1 f.flies f.flies.to_viewer spelled;
+        };
+      },
+      λ covers. inr (inl (OfRequest incremental rect, covers, step)),
+    )

@@ -28,7 +28,8 @@ pub data Links (e : Ends) (old new : Network) : Type 0 where
   Same : new.link ≡ old.link → Links e old new
   Does : (event : LinkEvent) → LinkSteps e old.screen old.link event new.link → Links e old new
 
-drawn_links : (e : Ends) (Inside : Type 0) (screen : Grid Colour) (old new : Network) → Draws Inside screen old new →
+drawn_links : (e : Ends) (Inside : Type 0) (screen : Grid Colour) (old new : Network) →
+    Draws Inside screen old new →
     Links e old new
 drawn_links e Inside screen old new (inl (inside, is)) = Same (ap (λ (n : Network). n.link) is)
 drawn_links e Inside screen old new (inr (outside, is)) = Same (ap (λ (n : Network). n.link) is)
@@ -82,7 +83,8 @@ latest_link e screen old new OfComposing (inr idle) = inl (ap (λ (l : LinkState
 latest_link e screen old new (OfServer count) moves = inl (ap (λ (l : LinkState). l.latest) moves.result)
 latest_link e screen old new (OfViewer count) moves = inl (ap (λ (l : LinkState). l.latest) moves.result)
 
-pub goes_latest : (e : Ends) (old new : Network) → Goes e old new → IsNext old.screen old.link.latest new.link.latest
+pub goes_latest : (e : Ends) (old new : Network) → Goes e old new →
+    IsNext old.screen old.link.latest new.link.latest
 goes_latest e old new goes = by (goes_links e old new goes)
   where
     by : Links e old new → IsNext old.screen old.link.latest new.link.latest

@@ -41,7 +41,8 @@ made_lives serving old new was call before result after k heard taken makes live
   lives = subst (λ (g : Grid Colour). Lives serving g lives.seat heard taken) (sym makes.screen) lives.lives;
 }
 
-pub fault_keeps : (old new : Share) (bytes : List ℕ) (fault : ViewerFault) (k : ℕ) → FailsOn old bytes fault new →
+pub fault_keeps : (old new : Share) (bytes : List ℕ) (fault : ViewerFault) (k : ℕ) →
+    FailsOn old bytes fault new →
     OnSlot (λ a b. KeepsShareSeat a b × Follows (screen_of new) (session_at b)) (seat_in old k) (seat_in new k)
 fault_keeps old new bytes fault k fails =
     by (seat_in old k) (seat_in new k) refl (keeps_copies old fails.mid new k fails.relays)

@@ -1,5 +1,6 @@
 -- What a viewer shows outside of updates is the screen as its server composed one of it.
-use Rattle.std.proofs.Common.{◌≡◌, ◌⊎◌, ◌<◌, ℕ, Bool, true, false, List, [], ◌∷◌, ◌++◌, map, Option, Some, None}
+use Rattle.std.proofs.Common.{◌≡◌, ◌⊎◌, ◌<◌, ℕ, Bool, true, false, List, [], ◌∷◌, ◌++◌}
+use Rattle.std.proofs.Common.{map, Option, Some, None}
 use Rattle.std.proofs.Common.{inl, inr, refl, sym, ap, subst, ◌∙◌, append-nil, arith}
 use Rattle.rfb_pixel.specs.declared.colour.Colour.{Colour}
 use Rattle.rfb_picture.specs.Grid.{Grid}
@@ -171,7 +172,8 @@ to_viewer e screen old new c n h moves s = by moves.done refl
     left_is : new.to_viewer ≡ moves.left
     left_is = ap (λ (l : LinkState). l.to_viewer) moves.result
 
-    viewer_is : (done : List FromServer) → moves.done ≡ done → new.viewer ≡ acts (viewer e.viewing) old.viewer done
+    viewer_is : (done : List FromServer) → moves.done ≡ done →
+        new.viewer ≡ acts (viewer e.viewing) old.viewer done
     viewer_is done is = ap (λ (l : LinkState). l.viewer) moves.result
         ∙ ap (λ (q : List FromServer). acts (viewer e.viewing) old.viewer q) is
 

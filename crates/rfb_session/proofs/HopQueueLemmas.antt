@@ -1,5 +1,6 @@
 -- What is left of an update on its way to a viewer, item by item.
-use Rattle.std.proofs.Common.{◌≡◌, ◌⊎◌, ◌<◌, ◌-◌, suc, List, [], ◌∷◌, ◌++◌, map, length, inl, inr, refl, sym, ap}
+use Rattle.std.proofs.Common.{◌≡◌, ◌⊎◌, ◌<◌, ◌-◌, suc, List, [], ◌∷◌, ◌++◌, map}
+use Rattle.std.proofs.Common.{length, inl, inr, refl, sym, ap}
 use Rattle.std.proofs.Common.{◌∙◌, arith}
 use Rattle.rfb_wire.specs.ServerMessage.{FramebufferUpdate}
 use Rattle.rfb_wire.specs.stream.Sequel.{First, Second, past_in}
@@ -17,11 +18,13 @@ use Rattle.rfb_session.proofs.PhaseLemmas.{first_is, none_first}
 -- nothing; or a whole update, outside of one; or as many rectangles as are left of one
 pub data IsLeft (p : UpdatePoint) (queue : List FromServer) : Type 0 where
   Nothing : queue ≡ [] → IsLeft p queue
-  Whole : p.left ≡ 0 → (sent : List SentRect) → queue ≡ map (λ item. Second item) (update_of sent) → IsLeft p queue
+  Whole : p.left ≡ 0 → (sent : List SentRect) → queue ≡ map (λ item. Second item) (update_of sent) →
+      IsLeft p queue
   Part : (s : SentRect) → (sent : List SentRect) → p.left ≡ suc (length sent) →
       queue ≡ map (λ item. Second item) (map item_of (s ∷ sent)) → IsLeft p queue
 
-pub left_same : (p q : UpdatePoint) (queue : List FromServer) → q.left ≡ p.left → IsLeft p queue → IsLeft q queue
+pub left_same : (p q : UpdatePoint) (queue : List FromServer) → q.left ≡ p.left → IsLeft p queue →
+    IsLeft q queue
 left_same p q queue same (Nothing none) = Nothing none
 left_same p q queue same (Whole none sent is) = Whole (same ∙ none) sent is
 left_same p q queue same (Part s sent some is) = Part s sent (same ∙ some) is
@@ -77,7 +80,8 @@ some_shown e v p item (next ∷ done) left at is =
 
 -- ---- a server after the handshake answers nothing
 
-no_answer : (e : Ends) (at : ClientAt) (item : FromClient) → at ≡ Second tt → server_answers e.serving at item ≡ []
+no_answer : (e : Ends) (at : ClientAt) (item : FromClient) → at ≡ Second tt →
+    server_answers e.serving at item ≡ []
 no_answer e at (First step) is = ap (λ (p : ClientAt). server_answers e.serving p (First step)) is
 no_answer e at (Second message) is = ap (λ (p : ClientAt). server_answers e.serving p (Second message)) is
 

@@ -1,5 +1,6 @@
 -- The moments of a relay: what its screen shows of the server's, and what is passed on of that.
-use Rattle.std.proofs.Common.{◌≡◌, ◌⊎◌, ℕ, List, [], ◌∷◌, Option, Some, None, inl, inr, refl, sym, ap, subst, ◌∙◌}
+use Rattle.std.proofs.Common.{◌≡◌, ◌⊎◌, ℕ, List, [], ◌∷◌, Option, Some, None, inl, inr, refl}
+use Rattle.std.proofs.Common.{sym, ap, subst, ◌∙◌}
 use Rattle.rfb_pixel.specs.declared.colour.Colour.{Colour}
 use Rattle.rfb_pixel.specs.Format.{seen_through}
 use Rattle.rfb_picture.specs.Grid.{Grid}
@@ -82,7 +83,8 @@ more_above e f m before earlier goes was =
     by : (c : Composing) → ((c ≡ was.composing) ⊎ (m.above.link.latest ≡ Some c)) →
         Once (m ∷ before ∷ earlier) (λ at sooner. HasComposed c at sooner)
     by c (inl same) = once_later (λ at sooner. HasComposed c at sooner) m (before ∷ earlier)
-        (subst (λ (d : Composing). Once (before ∷ earlier) (λ at sooner. HasComposed d at sooner)) (sym same) was.once)
+        (subst (λ (d : Composing). Once (before ∷ earlier) (λ at sooner. HasComposed d at sooner)) (sym same)
+        was.once)
     by c (inr latest) = once_now (λ at sooner. HasComposed c at sooner) m (before ∷ earlier) latest
 
 -- a server's update has come

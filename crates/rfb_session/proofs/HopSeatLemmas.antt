@@ -1,5 +1,6 @@
 -- A seat of a share whose screen is a viewer's picture goes on as a link does while the picture changes.
-use Rattle.std.proofs.Common.{◌≡◌, ℕ, ◌+◌, ◌-◌, ◌*◌, ◌<◌, true, List, ◌++◌, length, Some, inr, inl, refl, sym, ap, ◌∙◌}
+use Rattle.std.proofs.Common.{◌≡◌, ℕ, ◌+◌, ◌-◌, ◌*◌, ◌<◌, true, List, ◌++◌, length}
+use Rattle.std.proofs.Common.{Some, inr, inl, refl, sym, ap, ◌∙◌}
 use Rattle.std.proofs.Common.{subst, arith, Result}
 use Rattle.std.proofs.lemmas.Bool.Decides.{nat_tests}
 use Rattle.std.proofs.lemmas.List.{get_or_default}
@@ -50,7 +51,8 @@ whole_drawn old places whole size =
     let at : y * old.width + x < length places = omega (arith, size, place_below old.width old.height x y p q) in
     rw (inside, column, row) (get_or_default places (y * old.width + x) d (at_or old x y d) at))
 
-is_whole : (old new : Grid Colour) → IsGrid old → IsGrid new → new.width ≡ old.width → new.height ≡ old.height →
+is_whole : (old new : Grid Colour) → IsGrid old → IsGrid new → new.width ≡ old.width →
+    new.height ≡ old.height →
     IsInside old (whole_of new) × (new ≡ drawn_by (whole_of new) old)
 is_whole old new whole_old whole_new wide high = (
   ((omega (arith, wide), omega (arith, high)), whole_new),

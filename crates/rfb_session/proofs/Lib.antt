@@ -46,6 +46,7 @@ pub mod ShareFeedLemmas
 pub mod ShareLawLemmas
 pub mod RelayLemmas
 pub mod RelayStepLemmas
+pub mod RelayBeginLemmas
 pub mod RelayShowLemmas
 pub mod ShareViewerLemmas
 pub mod ShareUpdateLemmas
@@ -129,3 +130,18 @@ pub mod ConsoleStepLemmas
 pub mod SeatLifeLemmas
 pub mod SeatHistoryLemmas
 pub mod LineHistoryLemmas
+pub mod RelayTakeLemmas
+pub mod RelaySendLemmas
+pub mod RelayCallLemmas
+pub mod RelayKeepLemmas
+pub mod RelayOrderLemmas
+pub mod RelayComeLemmas
+pub mod RelayHearLemmas
+pub mod RelayPassLemmas
+pub mod RelayTurnLemmas
+pub mod RelayBesideLemmas
+pub mod RelayHappenLemmas
+pub mod RelayGoneLemmas
+pub mod RelayLeaveLemmas
+pub mod RelayHistoryLemmas
+pub mod HopRelayLemmas

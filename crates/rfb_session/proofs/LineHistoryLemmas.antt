@@ -57,7 +57,8 @@ room_text None a b room =
     ([], ap (λ (d : Desk). lines_of d) (room.none refl) ∙ sym (append-nil (lines_of a)))
 room_text (Some k) a b room = let goes = (room.one k refl).2 in (cond goes.0 (leave_line k) [], goes.1.lines)
 
-heard_tells : (h : Happening) (k : ℕ) (bytes : List ℕ) (used ended : ℕ) (event : Option SeatEvent) (a b : Desk) →
+heard_tells : (h : Happening) (k : ℕ) (bytes : List ℕ) (used ended : ℕ) (event : Option SeatEvent)
+    (a b : Desk) →
     left_in 9 h ≡ [] → HearsAt a k bytes used ended event b → Tells h (lines_of a) (lines_of b)
 heard_tells h k bytes used ended event a b none (Took heard is gone event_is hears progress told guests lines rules) =
     tells_more h (lines_of a) (lines_of b) _ none lines

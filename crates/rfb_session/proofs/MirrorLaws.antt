@@ -21,7 +21,8 @@ one_stands viewing viewer s prefix stands = ∣ one ∣₁
     one : StandsOrFailed viewer
     one going = record { viewing = viewing; state = s; prefix = prefix; stands = stands }
 
-pub one_failed : (viewer : Viewer) (fault : ViewerFault) → fault_of viewer ≡ Some fault → ∥ StandsOrFailed viewer ∥₁
+pub one_failed : (viewer : Viewer) (fault : ViewerFault) → fault_of viewer ≡ Some fault →
+    ∥ StandsOrFailed viewer ∥₁
 one_failed viewer fault fails = ∣ one ∣₁
   where
     one : StandsOrFailed viewer

@@ -1,5 +1,6 @@
 -- A viewer whose picture is shown to others: what its calls leave.
-use Rattle.std.proofs.Common.{◌≡◌, ◌≢◌, ◌⊎◌, ◌≤◌, ◌<◌, ◌++◌, ℕ, List, take, length, Option, Some, None, Result}
+use Rattle.std.proofs.Common.{◌≡◌, ◌≢◌, ◌⊎◌, ◌≤◌, ◌<◌, ◌++◌, ℕ, List, take}
+use Rattle.std.proofs.Common.{length, Option, Some, None, Result}
 use Rattle.std.proofs.Common.{Ok, Err, IfOk, IfErr, inl, inr, refl, sym, ap, subst, ◌∙◌, false, Bool}
 use Rattle.std.proofs.Math.Logic.{∥∥₁_elim, ∥∥₁_map}
 use Rattle.std.proofs.lemmas.Bool.{cases_eq}
@@ -54,15 +55,18 @@ colour_stable (Some a) (Some b) not =
 
 -- ---- a viewer that has not failed stands for something
 
-not_nothing : (viewer : Viewer) → ∥ StandsOrFailed viewer ∥₁ → fault_of viewer ≡ None → (IsViewing viewer → ⊥) → ⊥
-not_nothing viewer stands going none = ∥∥₁_elim stands (λ x y. absurd x) (λ (s : StandsOrFailed viewer). none (s going))
+not_nothing : (viewer : Viewer) → ∥ StandsOrFailed viewer ∥₁ → fault_of viewer ≡ None →
+    (IsViewing viewer → ⊥) → ⊥
+not_nothing viewer stands going none = ∥∥₁_elim stands (λ x y. absurd x) (λ (s : StandsOrFailed viewer).
+    none (s going))
 
 fault_or : (o : Option ViewerFault) → (o ≡ None) ⊎ ((fault : ViewerFault) × (o ≡ Some fault))
 fault_or None = inl refl
 fault_or (Some fault) = inr (fault, refl)
 
 -- outside of its damage its picture is as it was
-pub same_outside : (old new : Viewer) (result : Result (Fed ViewerEvent) ViewerFault) → ∥ StandsOrFailed old ∥₁ →
+pub same_outside : (old new : Viewer) (result : Result (Fed ViewerEvent) ViewerFault) →
+    ∥ StandsOrFailed old ∥₁ →
     ((viewing : Viewing) (s : ViewerState) (prefix : List ℕ) → StandsFor viewing old s prefix →
     IsSameOutside (damage_of new) (picture_of old) (picture_of new)) →
     StaysFailed (fault_of old) old result new →
@@ -96,12 +100,14 @@ sized_stable w h (Some g) not = (
 
 pub feed_sized : (w h : ℕ) (old new : Viewer) (bytes : List ℕ) (result : Result (Fed ViewerEvent) ViewerFault) →
     ∥ StandsOrFailed old ∥₁ → StaysFailed (fault_of old) old result new →
-    IfOk result (λ fed. (viewing : Viewing) → FedBy (viewer_end viewing) (StandsFor viewing) old (take fed.used bytes)
+    IfOk result (λ fed. (viewing : Viewing) → FedBy (viewer_end viewing) (StandsFor viewing) old (take fed.used
+    bytes)
     (seen fed.event) new) → IfErr result (λ fault. fault_of old ≡ None → KeepsPicture fault old bytes new) →
     IsSized w h (picture_of old) → IsSized w h (picture_of new)
 feed_sized w h old new bytes result stands failed fed keeps sized = by (fault_or (fault_of old))
   where
-    at : (r : Result (Fed ViewerEvent) ViewerFault) → IfOk r (λ fed. (viewing : Viewing) → FedBy (viewer_end viewing)
+    at : (r : Result (Fed ViewerEvent) ViewerFault) → IfOk r (λ fed. (viewing : Viewing) →
+        FedBy (viewer_end viewing)
         (StandsFor viewing) old (take fed.used bytes) (seen fed.event) new) →
         IfErr r (λ fault. fault_of old ≡ None → KeepsPicture fault old bytes new) → fault_of old ≡ None →
         IsViewing old → IsSized w h (picture_of new)
@@ -111,7 +117,8 @@ feed_sized w h old new bytes result stands failed fed keeps sized = by (fault_or
     at (Err fault) fed keeps going one =
         refused_sized w h one.viewing old new bytes fault one.state one.prefix one.stands (keeps going) sized
 
-    by : ((fault_of old ≡ None) ⊎ ((fault : ViewerFault) × (fault_of old ≡ Some fault))) → IsSized w h (picture_of new)
+    by : ((fault_of old ≡ None) ⊎ ((fault : ViewerFault) × (fault_of old ≡ Some fault))) →
+        IsSized w h (picture_of new)
     by (inl going) = sized_stable w h (picture_of new) (λ not.
         not_nothing old stands going (λ one. not (at result fed keeps going one)))
     by (inr (fault, is)) = subst (λ (v : Viewer). IsSized w h (picture_of v)) (sym (failed fault is).1) sized
@@ -120,7 +127,8 @@ feed_sized w h old new bytes result stands failed fed keeps sized = by (fault_or
 
 pub feed_stands : (old new : Viewer) (bytes : List ℕ) (result : Result (Fed ViewerEvent) ViewerFault) →
     ∥ StandsOrFailed old ∥₁ → StaysFailed (fault_of old) old result new →
-    IfOk result (λ fed. (viewing : Viewing) → FedBy (viewer_end viewing) (StandsFor viewing) old (take fed.used bytes)
+    IfOk result (λ fed. (viewing : Viewing) → FedBy (viewer_end viewing) (StandsFor viewing) old (take fed.used
+    bytes)
     (seen fed.event) new) → IfErr result (λ fault. fault_of new ≡ Some fault) → ∥ StandsOrFailed new ∥₁
 feed_stands old new bytes (Ok told) stands failed fed fails = ∥∥₁_map stands (λ has going.
     let one = has (not_failed (fault_of old) refl) in
@@ -152,7 +160,8 @@ shown_kept old new same shown = same ∙ shown ∙ ap (λ (o : Option (Grid Colo
 
 -- a call that is made keeps it, and one that is refused changes nothing
 pub call_stands : (old new : Viewer) (call : Call) (result : Result (Unit {0}) AppendFault) →
-    IfOk result (λ done. (viewing : Viewing) (s : ViewerState) (prefix : List ℕ) → StandsFor viewing old s prefix →
+    IfOk result (λ done. (viewing : Viewing) (s : ViewerState) (prefix : List ℕ) →
+    StandsFor viewing old s prefix →
     StandsFor viewing new (called call s) prefix) → IfErr result (λ fault. new ≡ old) →
     fault_of new ≡ fault_of old → ∥ StandsOrFailed old ∥₁ → ∥ StandsOrFailed new ∥₁
 call_stands old new call (Ok done) goes same fault stands = ∥∥₁_map stands (λ has going.
@@ -169,9 +178,11 @@ call_stands old new call (Err refusal) goes same fault stands =
 -- ---- bytes
 
 pub takes : (old new : Viewer) (bytes : List ℕ) (result : Result (Fed ViewerEvent) ViewerFault) →
-    IfOk result (λ fed. fed.used ≤ length bytes) → IfOk result (λ fed. fed.event ≡ None → fed.used ≡ length bytes) →
+    IfOk result (λ fed. fed.used ≤ length bytes) → IfOk result (λ fed. fed.event ≡ None →
+    fed.used ≡ length bytes) →
     IfOk result (λ fed. 0 < length bytes → 0 < fed.used) →
-    IfOk result (λ fed. (viewing : Viewing) → FedBy (viewer_end viewing) (StandsFor viewing) old (take fed.used bytes)
+    IfOk result (λ fed. (viewing : Viewing) → FedBy (viewer_end viewing) (StandsFor viewing) old (take fed.used
+    bytes)
     (seen fed.event) new) →
     IfOk result (λ fed. (viewing : Viewing) → FedBy (damaging viewing) (IsDamaged viewing) old (take fed.used bytes)
     (seen fed.event) new) →
@@ -201,7 +212,8 @@ pub fails_at : (old new : Viewer) (bytes : List ℕ) (result : Result (Fed Viewe
     IfErr result (λ fault. fault_of old ≡ None → KeepsDamage fault old bytes new) →
     IfErr result (λ fault. fault_of old ≡ None → KeepsMoved fault old bytes new) →
     IfErr result (λ fault. fault_of old ≡ None → KeepsReason fault old bytes new) →
-    IfErr result (λ fault. fault_of old ≡ None → CountsTo fault old bytes new) → making_of new ≡ making_of old →
+    IfErr result (λ fault. fault_of old ≡ None → CountsTo fault old bytes new) →
+    making_of new ≡ making_of old →
     IfErr result (λ fault. FailsAt old bytes fault new)
 fails_at old new bytes (Ok fed) fails again refused wants picture damage moved reason counted made = tt
 fails_at old new bytes (Err fault) fails again refused wants picture damage moved reason counted made = record {

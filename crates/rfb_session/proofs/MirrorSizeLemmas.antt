@@ -1,26 +1,23 @@
 -- A viewer's picture keeps its size, whatever the server sends.
-use Rattle.std.proofs.Common.{◌≡◌, ◌≢◌, ◌⊎◌, ℕ, List, [], ◌∷◌, ◌++◌, Option, Some, None, inl, inr, refl, sym}
+use Rattle.std.proofs.Common.{◌≡◌, ℕ, List, [], ◌∷◌, ◌++◌, Option, Some}
+use Rattle.std.proofs.Common.{None, inl, inr, sym}
 use Rattle.std.proofs.Common.{ap, subst, ◌∙◌}
 use Rattle.rfb_pixel.specs.declared.colour.Colour.{Colour}
 use Rattle.rfb_pixel.specs.Format.{PixelFormat}
 use Rattle.rfb_picture.specs.declared.rect.Rect.{Rect}
 use Rattle.rfb_picture.specs.Grid.{Grid}
 use Rattle.rfb_wire.specs.declared.encoding.Encoding.{Encoding}
-use Rattle.rfb_wire.specs.stream.Reading.{Got}
 use Rattle.rfb_wire.specs.stream.Grammar.{ReadsAll}
 use Rattle.rfb_wire.specs.stream.Sequel.{First, Second, past_in}
 use Rattle.rfb_wire.specs.stream.End.{acts, FedBy}
-use Rattle.rfb_codec.specs.Front.{ShowsFront, shown}
-use Rattle.rfb_codec.specs.UpdateStream.{UpdatePoint}
-use Rattle.rfb_codec.specs.Effect.{effect}
+use Rattle.rfb_codec.specs.Front.{ShowsFront}
 use Rattle.rfb_codec.proofs.EffectLaws.{effect_picture}
-use Rattle.rfb_hello.specs.ServerHandshake.{ServerPoint, AwaitsVersion, AwaitsSecurity, AwaitsResult, AwaitsInit}
-use Rattle.rfb_hello.specs.ServerHandshake.{AwaitsName, Begun, ServerItem, ProtocolVersion, SecurityNone, SecurityTypes}
+use Rattle.rfb_hello.specs.ServerHandshake.{AwaitsVersion, AwaitsSecurity, AwaitsResult, AwaitsInit}
+use Rattle.rfb_hello.specs.ServerHandshake.{AwaitsName, Begun, ProtocolVersion, SecurityNone, SecurityTypes}
 use Rattle.rfb_hello.specs.ServerHandshake.{SecurityResult, ServerInit, Name}
 use Rattle.rfb_viewer.specs.declared.fault.ViewerFault.{ViewerFault}
 use Rattle.rfb_viewer.specs.declared.viewer.Viewer.{Viewer}
-use Rattle.rfb_viewer.specs.Failing.{ShowsLast, EndsAt, KeepsPicture}
-use Rattle.rfb_viewer.specs.Progress.{IsScreenAt}
+use Rattle.rfb_viewer.specs.Failing.{ShowsLast, KeepsPicture}
 use Rattle.rfb_viewer.specs.ServerBytes.{ServerAt, FromServer, server_two, server_bytes, server_bytes_say}
 use Rattle.rfb_viewer.specs.Showing.{ShowsAt}
 use Rattle.rfb_viewer.specs.Standing.{StandsFor}
@@ -36,11 +33,12 @@ abbrev pub IsSized : ℕ → ℕ → Option (Grid Colour) → Type 0
 IsSized w h None = ⊥
 IsSized w h (Some g) = (g.width ≡ w) × (g.height ≡ h)
 
-some_sized : (w h : ℕ) (o : Option (Grid Colour)) (g : Grid Colour) → o ≡ Some g → g.width ≡ w → g.height ≡ h →
+pub some_sized : (w h : ℕ) (o : Option (Grid Colour)) (g : Grid Colour) → o ≡ Some g → g.width ≡ w →
+    g.height ≡ h →
     IsSized w h o
 some_sized w h o g is wide high = subst (λ (k : Option (Grid Colour)). IsSized w h k) (sym is) (wide, high)
 
-sized_some : (w h : ℕ) (o : Option (Grid Colour)) (g : Grid Colour) → o ≡ Some g → IsSized w h o →
+pub sized_some : (w h : ℕ) (o : Option (Grid Colour)) (g : Grid Colour) → o ≡ Some g → IsSized w h o →
     (g.width ≡ w) × (g.height ≡ h)
 sized_some w h o g is sized = subst (λ (k : Option (Grid Colour)). IsSized w h k) is sized
 
@@ -56,7 +54,8 @@ module _ (w h : ℕ) where
         ap (λ (g : Grid Colour). g.height) is ∙ shown_rows f rect s.front before,
       )
 
-  stored_there : (at : ServerAt) (g stored : Option (Grid Colour)) (prefix : List ℕ) → ShowsAt at g prefix stored →
+  stored_there : (at : ServerAt) (g stored : Option (Grid Colour)) (prefix : List ℕ) →
+      ShowsAt at g prefix stored →
       IsSized w h stored → IsSized w h g
   stored_there (First p) g stored prefix shows sized = subst (λ (k : Option (Grid Colour)). IsSized w h k) shows sized
   stored_there (Second q) g stored prefix (inl shows) sized =
@@ -67,7 +66,8 @@ module _ (w h : ℕ) where
       let two = sized_some w h stored now is sized in
       some_sized w h g before was (sym size.0 ∙ two.0) (sym size.1 ∙ two.1)
 
-  there_stored : (at : ServerAt) (g stored : Option (Grid Colour)) (prefix : List ℕ) → ShowsAt at g prefix stored →
+  pub there_stored : (at : ServerAt) (g stored : Option (Grid Colour)) (prefix : List ℕ) →
+      ShowsAt at g prefix stored →
       IsSized w h g → IsSized w h stored
   there_stored (First p) g stored prefix shows sized =
       subst (λ (k : Option (Grid Colour)). IsSized w h k) (sym shows) sized
@@ -163,7 +163,8 @@ module _ (w h : ℕ) where
 
   -- ---- a viewer that is fed keeps it
 
-  pub fed_sized : (viewing : Viewing) (old new : Viewer) (bytes : List ℕ) (event : Option ViewerTold) (s : ViewerState)
+  pub fed_sized : (viewing : Viewing) (old new : Viewer) (bytes : List ℕ) (event : Option ViewerTold)
+      (s : ViewerState)
       (prefix : List ℕ) → StandsFor viewing old s prefix →
       FedBy (viewer viewing) (StandsFor viewing) old bytes event new →
       IsSized w h old.picture → IsSized w h new.picture

@@ -1,5 +1,6 @@
 -- Calls of a server's viewer whose picture a share has, and what a relay makes of them.
-use Rattle.std.proofs.Common.{◌≡◌, ◌≤◌, ◌++◌, ◌∙◌, ℕ, List, Option, Some, None, Result, Ok, Err, IfSome, IfOk, IfErr}
+use Rattle.std.proofs.Common.{◌≡◌, ◌≤◌, ◌++◌, ◌∙◌, ℕ, List, Option, Some, None, Result, Ok}
+use Rattle.std.proofs.Common.{Err, IfSome, IfOk, IfErr}
 use Rattle.std.proofs.Common.{refl, sym, ap, length, drop, arith}
 use Rattle.std.proofs.Math.Logic.{∥∥₁_map}
 use Rattle.std.proofs.lemmas.List.{drop-append-le, length-append}
@@ -21,7 +22,8 @@ use Rattle.rfb_session.specs.relay.Desk.{CallsShare, NoViewer, Calls}
 
 module _ (k : ℕ) (before : List ℕ) (within : k ≤ length before) where
   sent_behind : (result : Result (Unit {0}) AppendFault) (after message : List ℕ) →
-      IfOk result (λ done. after ≡ before ++ message) → IfOk result (λ done. drop k after ≡ drop k before ++ message)
+      IfOk result (λ done. after ≡ before ++ message) →
+      IfOk result (λ done. drop k after ≡ drop k before ++ message)
   sent_behind (Ok done) after message is =
       ap (λ (l : List ℕ). drop k l) is ∙ drop-append-le k before message within
   sent_behind (Err fault) after message is = is
@@ -31,7 +33,8 @@ module _ (k : ℕ) (before : List ℕ) (within : k ≤ length before) where
   kept_behind (Ok done) after is = is
   kept_behind (Err fault) after is = ap (λ (l : List ℕ). drop k l) is
 
-  makes_behind : (was : Viewer) (call : Call) (result : Result (Unit {0}) AppendFault) (after : List ℕ) (now : Viewer) →
+  makes_behind : (was : Viewer) (call : Call) (result : Result (Unit {0}) AppendFault) (after : List ℕ)
+      (now : Viewer) →
       MakesCall was call before result after now → MakesCall was call (drop k before) result (drop k after) now
   makes_behind was call result after now makes = record {
     sent = sent_behind result after (message_bytes call) makes.sent;
@@ -52,7 +55,8 @@ module _ (k : ℕ) (before : List ℕ) (within : k ≤ length before) where
   -- a call of the viewer's, whose message waits behind what waits
   pub calls_behind : (old : Share) (call : Call) (result : Result (Unit {0}) AppendFault) (after : List ℕ)
       (new : Share) →
-      (viewer_of old ≡ None → result ≡ Err (Refused NotReady)) → (viewer_of old ≡ None → after ≡ before) →
+      (viewer_of old ≡ None → result ≡ Err (Refused NotReady)) → (viewer_of old ≡ None →
+      after ≡ before) →
       (viewer_of old ≡ None → new ≡ old) →
       IfSome (viewer_of old) (λ viewer. MakesOn old viewer call before result after new) →
       CallsShare old call (drop k before) result (drop k after) new

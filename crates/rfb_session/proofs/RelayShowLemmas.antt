@@ -71,14 +71,16 @@ module _ {S : Type 0} where
   }) beside
 
   -- the same from where nothing had changed yet
-  pub anew_kept : (old mid : Relay S) (share : Share) (new : Relay S) → KeepsHere old mid → OpensAnew mid share new →
+  pub anew_kept : (old mid : Relay S) (share : Share) (new : Relay S) → KeepsHere old mid →
+      OpensAnew mid share new →
       OpensAnew old share new
   anew_kept old mid share new here (OpenedAnew a m b is begins tells there outcome presence beside) =
       OpenedAnew a m b (sym here.desk ∙ is) begins (rw (← here.server.name) tells) there (outcome ∙ here.outcome)
       presence (beside_here old mid new here beside)
   anew_kept old mid share new here (NoRoomForLines ran) = NoRoomForLines ran
 
-  pub opens_kept : (old mid : Relay S) (now : Viewer) (new : Relay S) → KeepsHere old mid → mid.given ≡ old.given →
+  pub opens_kept : (old mid : Relay S) (now : Viewer) (new : Relay S) → KeepsHere old mid →
+      mid.given ≡ old.given →
       Opens mid now new → Opens old now new
   opens_kept old mid now new here given (Opened desk none there share over presence beside) =
       Opened desk (sym here.desk ∙ none) there (rw (← given, ← here.server.name, ← here.side.stays.rules) share)

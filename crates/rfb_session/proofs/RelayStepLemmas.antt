@@ -1,15 +1,12 @@
 -- What a relay does, one call after the other.
-use Rattle.std.proofs.Common.{◌≡◌, ◌≢◌, ◌<◌, ◌+◌, ◌-◌, ◌++◌, ◌∙◌, ◌⊎◌, ℕ, List, Bool, true, false, Option, Some, None}
-use Rattle.std.proofs.Common.{Result, Ok, Err, OnOk, refl, sym, ap, subst, inl, inr, nat_lt, cond, is_some, not, ◌||◌}
-use Rattle.std.proofs.Common.{length, append_assoc, arith}
-use Rattle.std.specs.Result.{is_err}
+use Rattle.std.proofs.Common.{◌≡◌, ◌≢◌, ◌+◌, ◌-◌, ◌∙◌, ◌⊎◌, ℕ}
+use Rattle.std.proofs.Common.{List, Bool, true, false, Option, Some, None}
+use Rattle.std.proofs.Common.{Result, refl, sym, ap, subst, inl, inr, nat_lt, cond, is_some, not}
+use Rattle.std.proofs.Common.{◌||◌}
+use Rattle.std.proofs.Common.{length, arith}
 use Rattle.rfb_hello.specs.declared.fed.Fed.{Fed}
-use Rattle.rfb_picture.specs.Rect.{rect}
 use Rattle.rfb_wire.specs.stream.Placing.{counted_on}
 use Rattle.rfb_viewer.specs.declared.event.ViewerEvent.{ViewerEvent}
-use Rattle.rfb_viewer.specs.declared.viewer.Viewer.{Viewer}
-use Rattle.rfb_viewer.specs.Calls.{requested}
-use Rattle.rfb_viewer.specs.Messages.{request_message}
 use Rattle.rfb_viewer.specs.declared.fault.AppendFault.{AppendFault}
 use Rattle.rfb_session.specs.declared.console.Console.{Console}
 use Rattle.rfb_session.specs.declared.console.Outcome.{Outcome}
@@ -20,19 +17,18 @@ use Rattle.rfb_session.specs.declared.relay.gone.Gone.{Gone}
 use Rattle.rfb_session.specs.console.Console.{KeepsSide, OpensRooms}
 use Rattle.rfb_session.specs.declared.console.plan.Rules.{Rules}
 use Rattle.rfb_session.specs.declared.share.event.SeatEvent.{SeatEvent}
-use Rattle.rfb_session.specs.LinkBytes.{IsCalled}
 use Rattle.rfb_session.specs.console.Console.{HearsBytes}
 use Rattle.rfb_session.specs.relay.Desk.{AsksFrom, FeedsDesk, LosesDesk, TellsSome, told_of_server}
-use Rattle.rfb_session.specs.relay.Calls.{Asks, ended_by, Queues, Queued, NoRoom, Passes, passed}
+use Rattle.rfb_session.specs.relay.Calls.{Asks, ended_by, Passes, passed}
 use Rattle.rfb_session.specs.console.Time.{IsBy}
 use Rattle.rfb_session.specs.relay.Presence.{is_gone, is_shown, call_time, planned, WakesToCall}
 use Rattle.rfb_session.specs.declared.relay.presence.Presence.{Presence}
 use Rattle.rfb_session.specs.declared.relay.presence.Presence.TheVariants.{Coming, Shown, Gone as Lost}
-use Rattle.rfb_session.specs.relay.Doors.{CountsPassed, KeepsAllButRooms, KeepsButName, KeepsButWaits, KeepsDeskBy}
+use Rattle.rfb_session.specs.relay.Doors.{CountsPassed, KeepsAllButRooms}
 use Rattle.rfb_session.specs.relay.Doors.{KeepsServer, OpensDoors, SparesUpTo, passed_at, room_of_server}
-use Rattle.rfb_session.specs.relay.Doors.{room_of_viewer, space_at_door}
-use Rattle.rfb_session.specs.relay.Server.{BadSize, Begins, Begun, EndsFor, Fed_on, HearsShown, Heeds, IsToldGone}
-use Rattle.rfb_session.specs.relay.Server.{NoRoomToAsk, NoRoomToTell, PlansCall, WakesFor, planned_for}
+use Rattle.rfb_session.specs.relay.Doors.{space_at_door}
+use Rattle.rfb_session.specs.relay.Server.{EndsFor, Fed_on, HearsShown, Heeds, IsToldGone}
+use Rattle.rfb_session.specs.relay.Server.{NoRoomToTell, PlansCall, WakesFor, planned_for}
 use Rattle.rfb_session.specs.relay.Relay.{HearsViewer}
 
 pub none_of : {X : Type 0} (o : Option X) → is_some o ≡ false → o ≡ None
@@ -58,7 +54,8 @@ same_value x y same = cc
 -- ---- asking
 
 kept : (o : Option Outcome) (a : Option Desk) (d e : Desk) (asked : Result (Unit {0}) AppendFault)
-    (old new : List ℕ) → is_some o ≡ false → a ≡ Some d → AsksFrom d asked old new e → ended_by asked None ≡ None →
+    (old new : List ℕ) → is_some o ≡ false → a ≡ Some d → AsksFrom d asked old new e →
+    ended_by asked None ≡ None →
     Asks true o a (Some e) old new o
 kept None a d e asked old new none is asks ends =
     subst (λ (x : Option Desk). Asks true None x (Some e) old new None) (sym is) (e, asked, refl, asks, sym ends)
@@ -128,7 +125,8 @@ ends_then (Some pause) None n how mid new same is was (inl stays) =
 ends_then (Some pause) None n how mid new same is was (inr ran) = inr ran
 
 pub told_then : (shown : Bool) (o n : Option Outcome) (how : Gone) (was a b : Option Desk) (ends : Option Outcome) →
-    n ≡ o → is_some n ≡ false → a ≡ was → IsToldGone shown None how a b ends → IsToldGone shown o how was b ends
+    n ≡ o → is_some n ≡ false → a ≡ was → IsToldGone shown None how a b ends →
+    IsToldGone shown o how was b ends
 told_then shown (Some ended) n how was a b ends same is desk told =
     true_not (sym (ap (λ (x : Option Outcome). is_some x) same) ∙ is)
 told_then shown None n how was a b ends same is desk told =
@@ -230,61 +228,7 @@ wakes_so None o q t next is by = tt
 wakes_so (Some pause) (Some ended) q t next is by = tt
 wakes_so (Some pause) None q t next is by = subst (λ (x : Option ℕ). WakesToCall x next) is (wakes t next by)
 
--- ---- a viewer that is ready
-
-pub ok_of : {A E : Type 0} (r : Result A E) (P : Type 0) → is_err r ≡ false → OnOk r P → P
-ok_of (Ok a) P none p = p
-ok_of (Err e) P none p = absurd (true_not none)
-  where
-    true_not : true ≡ false → ⊥
-    true_not e = cc e
-
 module _ {S : Type 0} where
-  pub begins_named : (old named : Relay S) (now : Viewer) (reply : List ℕ) (width height : ℕ) (new : Relay S) →
-      KeepsButName old named → Begins named now reply width height new → Begins old now reply width height new
-  begins_named old named now reply width height new keeps (Begun asked stands noted) =
-      Begun asked (record {
-        coming = stands.coming;
-        waits = subst (λ (l : List ℕ). Queues l (reply ++ request_message false (rect 0 0 width height))
-            new.to_server new.console.outcome) keeps.waits stands.waits;
-        presence = stands.presence ∙ keeps.presence;
-        keeps = record {
-          desk = stands.keeps.desk ∙ ap (λ (c : Console S). c.desk) keeps.console;
-          goes_on = subst (λ (c : Console S). (new.console.outcome ≡ c.outcome)
-              ⊎ (new.console.outcome ≡ Some NoMemory)) keeps.console stands.keeps.goes_on;
-          side = subst (λ (c : Console S). KeepsSide c new.console) keeps.console stands.keeps.side;
-        };
-      }) noted
-  begins_named old named now reply width height new keeps (BadSize size mid queues loses) =
-      BadSize size mid (subst (λ (l : List ℕ). Queues l reply mid.to_server mid.console.outcome) keeps.waits queues)
-      loses
-  begins_named old named now reply width height new keeps (NoRoomToAsk ends) = NoRoomToAsk ends
-
-  -- it answers, and asks for the whole screen after that
-  pub begun_so : (old mid : Relay S) (now asked : Viewer) (reply : List ℕ) (width height : ℕ) (new : Relay S) →
-      Queues old.to_server reply mid.to_server mid.console.outcome → KeepsDeskBy old mid → KeepsButWaits old mid →
-      new.to_server ≡ mid.to_server ++ request_message false (rect 0 0 width height) → new.coming ≡ Some asked →
-      new.presence ≡ mid.presence → new.console ≡ mid.console → IsCalled (λ s. requested s) now asked →
-      Begins old now reply width height new
-  begun_so old mid now asked reply width height new (NoRoom same ends) keeps waits sent coming gone console called =
-      NoRoomToAsk (ap (λ (c : Console S). c.outcome) console ∙ ends)
-  begun_so old mid now asked reply width height new (Queued is) keeps waits sent coming gone console called =
-      Begun asked (record {
-        coming = coming;
-        waits = Queued (sent ∙ ap (λ (l : List ℕ). l ++ request_message false (rect 0 0 width height)) is
-            ∙ append_assoc old.to_server reply (request_message false (rect 0 0 width height)));
-        presence = gone ∙ waits.presence;
-        keeps = subst (λ (c : Console S). (c.desk ≡ old.console.desk)
-            × ((c.outcome ≡ old.console.outcome) ⊎ (c.outcome ≡ Some NoMemory)) × KeepsSide old.console c
-            → KeepsDeskBy old new) (sym console)
-            (λ one. record {
-              desk = ap (λ (c : Console S). c.desk) console ∙ one.0;
-              goes_on = subst (λ (c : Console S). (c.outcome ≡ old.console.outcome) ⊎ (c.outcome ≡ Some NoMemory))
-                  (sym console) one.1;
-              side = subst (λ (c : Console S). KeepsSide old.console c) (sym console) one.2;
-            }) (rw console (keeps.desk, keeps.goes_on, keeps.side));
-      }) called.stands
-
   -- ---- bytes of a server whose picture is shown
 
   pub shown_so : (old mid : Relay S) (a m : Desk) (bytes : List ℕ) (fed : Fed ViewerEvent) (new : Relay S) →
@@ -312,7 +256,8 @@ module _ {S : Type 0} where
       (old.console.outcome ≢ None → event ≡ None) → (old.console.desk ≡ None → event ≡ None) →
       KeepsSide old.console heard →
       Passes (passed (heard.rules.view_only || not (is_shown old.presence)) event) heard.desk mid.console.desk
-      old.to_server mid.to_server heard.outcome mid.console.outcome → mid.passed ≡ old.passed → mid.coming ≡ old.coming → mid.presence ≡ old.presence →
+      old.to_server mid.to_server heard.outcome mid.console.outcome → mid.passed ≡ old.passed →
+      mid.coming ≡ old.coming → mid.presence ≡ old.presence →
       before ≡ length old.to_server → CountsPassed mid k before new → HearsViewer old k bytes used new
   viewed_so old mid new k bytes used before heard event hears ended nobody side passes same coming gone was counts =
       record {
@@ -322,11 +267,13 @@ module _ {S : Type 0} where
         ended = λ one. elim one [ inl over ↦ ended over | inr none ↦ nobody none ];
         side = side;
         passes = rw (counts.console, counts.waits) (subst (λ (r : Rules). Passes
-            (passed (r.view_only || not (is_shown old.presence)) event) heard.desk mid.console.desk old.to_server mid.to_server heard.outcome mid.console.outcome) side.stays.rules passes);
+            (passed (r.view_only || not (is_shown old.presence)) event) heard.desk mid.console.desk old.to_server
+            mid.to_server heard.outcome mid.console.outcome) side.stays.rules passes);
         counted = counts.count
             ∙ ap (λ (n : ℕ). counted_on n (length mid.to_server - before)) (rw same refl)
             ∙ ap (λ (n : ℕ). counted_on (passed_at old k) (length mid.to_server - n)) was
-            ∙ ap (λ (l : List ℕ). counted_on (passed_at old k) (length l - length old.to_server)) (sym counts.waits);
+            ∙ ap (λ (l : List ℕ). counted_on (passed_at old k) (length l - length old.to_server))
+            (sym counts.waits);
         others = λ j other. counts.others j other ∙ rw same refl;
         coming = counts.coming ∙ coming;
         presence = counts.presence ∙ gone;

@@ -1,6 +1,8 @@
 -- What the seats of a share are told of a viewer's picture.
-use Rattle.std.proofs.Common.{◌≡◌, ◌⊎◌, ◌<◌, ◌≤◌, ◌+◌, ◌*◌, ◌&&◌, nat_lt, ℕ, Bool, true, false, List, [], ◌∷◌, ◌++◌}
-use Rattle.std.proofs.Common.{if◌then◌else◌, length, Option, Some, None, inl, inr, refl, sym, ap, subst, ◌∙◌, arith}
+use Rattle.std.proofs.Common.{◌≡◌, ◌⊎◌, ◌<◌, ◌≤◌, ◌+◌, ◌*◌, ◌&&◌, nat_lt, ℕ}
+use Rattle.std.proofs.Common.{Bool, true, false, List, [], ◌∷◌, ◌++◌}
+use Rattle.std.proofs.Common.{if◌then◌else◌, length, Option, Some, None, inl, inr, refl, sym, ap, subst}
+use Rattle.std.proofs.Common.{◌∙◌, arith}
 use Rattle.std.proofs.lemmas.Bool.Decides.{nat_tests}
 use Rattle.std.proofs.lemmas.List.{get_or_default}
 use Rattle.rfb_pixel.specs.declared.colour.Colour.{Colour}
@@ -102,7 +104,8 @@ move_told screen move notice a b inside is told =
 -- ---- a change
 
 -- what is said of two pictures is said of their colours
-same_colour : (before after : Grid Colour) (x y : ℕ) → IsAlike after before → x < before.width → y < before.height →
+same_colour : (before after : Grid Colour) (x y : ℕ) → IsAlike after before → x < before.width →
+    y < before.height →
     (if nat_lt x after.width && nat_lt y after.height then Some (at_or after x y black) else None)
     ≡ (if nat_lt x before.width && nat_lt y before.height then Some (at_or before x y black) else None) →
     at_or after x y black ≡ at_or before x y black
@@ -166,7 +169,8 @@ change_none screen seat whole = record {
       (sym (none_same before screen follows.whole whole alike outside)) follows;
 }
 
-pub change_some : (screen : Grid Colour) (area : Rect) (notice : Notice) (a b : ShareSeat) → hint_told notice ≡ None →
+pub change_some : (screen : Grid Colour) (area : Rect) (notice : Notice) (a b : ShareSeat) →
+    hint_told notice ≡ None →
     ((before : Grid Colour) → IsAlike screen before → IsSameOutside (Some area) (Some before) (Some screen) →
     IsTold notice before screen) →
     IsNotifiedIn notice a b → GetsChange screen (Some area) a b

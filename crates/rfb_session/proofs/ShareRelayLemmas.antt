@@ -1,5 +1,6 @@
 -- A share of the picture that a viewer has: its seats follow it.
-use Rattle.std.proofs.Common.{◌≡◌, ◌≢◌, ◌≤◌, ℕ, Bool, true, false, List, [], ◌∷◌, ◌==◌, Option, Some, None, All}
+use Rattle.std.proofs.Common.{◌≡◌, ◌≢◌, ◌≤◌, ℕ, Bool, true, false, List, [], ◌∷◌}
+use Rattle.std.proofs.Common.{◌==◌, Option, Some, None, All}
 use Rattle.std.proofs.Common.{refl, sym, ap, subst, ◌∙◌, ◌+◌, ◌<◌, length, IfSome, arith}
 use Rattle.std.proofs.lemmas.Bool.Decides.{nat_tests}
 use Rattle.std.specs.Option.{ForSome, is_some}
@@ -70,7 +71,8 @@ quiet screen damage moves slots whole none empty k = by (seat_at k slots)
         (subst (λ (ms : List Move). IsRelayed screen None ms seat seat) (sym empty) (one seat))
 
 pub quiet_rests : (before screen : Grid Colour) (old new : List (Option ShareSeat)) (bits : ℕ) →
-    AllFollow (λ seat. seat.session) before old → ((k : ℕ) → seat_at k new ≡ seat_at k old) → IsGrid screen →
+    AllFollow (λ seat. seat.session) before old → ((k : ℕ) → seat_at k new ≡ seat_at k old) →
+    IsGrid screen →
     IsAlike screen before → IsSameOutside None (Some before) (Some screen) → OthersRest before old bits →
     OthersRest screen new bits
 quiet_rests before screen old new bits follow same whole alike outside rest k seat clear is =

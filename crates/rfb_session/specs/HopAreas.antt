@@ -14,6 +14,10 @@ use Rattle.rfb_server.specs.Drawing.{Stroke}
 use Rattle.rfb_server.specs.Server.{black}
 use Rattle.rfb_session.specs.declared.event.Event.{Event}
 use Rattle.rfb_session.specs.declared.event.Event.TheVariants.{Request}
+use Rattle.rfb_viewer.specs.declared.viewer.Viewer.{Viewer}
+use Rattle.rfb_session.specs.declared.relay.Relay.{Relay}
+use Rattle.rfb_session.specs.declared.share.Share.{Share}
+use Rattle.rfb_session.specs.HopEnds.{GoesFed, OpensAs, RenewsAs, Becomes}
 use Rattle.rfb_session.specs.Hops.{Moment, Once, IsBetween, IsFresh, IsAnswered}
 use Rattle.rfb_session.specs.Link.{Ends, Composing, LinkState}
 use Rattle.rfb_session.specs.Network.{Network, Steps, Strokes}
@@ -33,6 +37,40 @@ abbrev pub GoesForAll : Ends → Network → Network → Type 0
 GoesForAll e old new =
     (new ≡ old) ⊎ ((event : Event) × AsksAll e event × Steps e old event new)
     ⊎ ((s : Stroke) × Strokes s old new)
+
+-- so it is of what a relay does on its first hop: as its viewer is fed, as its share opens, as the picture of another
+-- server's viewer is shown there, and from one moment to the next
+pub record FedForAll (e : Ends) (old : Network) (viewer : Viewer) (has to_server to_viewer : List ℕ)
+    : Type 0 where
+  pub goes : GoesFed e old viewer has to_server to_viewer
+  pub for_all : GoesForAll e old goes.next
+
+pub record OpensForAll (e : Ends) (old : Network) (share : Share) (has to_server to_viewer : List ℕ)
+    : Type 0 where
+  pub opens : OpensAs e old share has to_server to_viewer
+  pub for_all : GoesForAll e old opens.next
+
+pub record RenewsForAll (e f : Ends) (m : Moment) (n : Network) (share : Share)
+    (has to_server to_viewer : List ℕ) (k : ℕ) (viewer : Viewer) (sends gets : List ℕ)
+    : Type 0 where
+  pub renews : RenewsAs e f m n share has to_server to_viewer k viewer sends gets
+  pub for_all : GoesForAll e n renews.next.above
+
+pub record BecomesForAll (e f : Ends) (m : Moment) (share : Share) (has to_server to_viewer : List ℕ)
+    (k : ℕ) (viewer : Viewer) (sends gets : List ℕ) : Type 0 where
+  pub becomes : Becomes e f m share has to_server to_viewer k viewer sends gets
+  pub for_all : GoesForAll e m.above becomes.next.above
+
+module _ {S : Type 0} where
+  -- the handshake of a relay's viewer is done, and it has asked
+  pub record BeginsForAll (e : Ends) (old : Network) (relay : Relay S) (has to_server to_viewer : List ℕ)
+      : Type 0 where
+    pub asked : Viewer
+    pub coming : relay.coming ≡ Some asked
+    pub mid : Network
+    pub hears : GoesForAll e old mid
+    pub goes : GoesFed e mid asked has to_server to_viewer
+    pub asks : GoesForAll e mid goes.next
 
 -- the requests among these items ask for all
 abbrev pub AreForAll : Ends → List FromClient → Type 0

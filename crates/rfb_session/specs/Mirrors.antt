@@ -1,5 +1,6 @@
 -- A viewer whose picture is shown to others: what it shows, and what it stands for.
-use Rattle.std.specs.Prelude.{◌≡◌, ◌≢◌, ◌≤◌, ◌<◌, List, [], ◌++◌, ℕ, length, take, Option, Some, None, false}
+use Rattle.std.specs.Prelude.{◌≡◌, ◌≢◌, ◌≤◌, ◌<◌, List, [], ◌++◌, ℕ, length, take}
+use Rattle.std.specs.Prelude.{Option, Some, None, false}
 use Rattle.std.specs.Prelude.{Result, Err, IfOk, IfErr}
 use Rattle.rfb_pixel.specs.declared.colour.Colour.{Colour}
 use Rattle.rfb_picture.specs.Grid.{Grid, uniform}

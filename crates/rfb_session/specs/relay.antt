@@ -6,3 +6,4 @@ pub mod Calls
 pub mod Doors
 pub mod Server
 pub mod Relay
+pub mod History

@@ -27,6 +27,7 @@ ghost use Rattle.rfb_session.specs.declared.told.Told.{Told};
 ghost use Rattle.rfb_session.specs.InFlight.{AreMade, Flight, Flies, first_flight};
 ghost use Rattle.rfb_session.specs.InFlight.{ReachesViewer, ReachesServer};
 
+pub mod asking;
 pub mod hops;
 pub mod messages;
 pub mod pictures;

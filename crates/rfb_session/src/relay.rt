@@ -27,6 +27,7 @@ mod entrances;
 mod gone;
 mod hearing;
 mod hosting;
+pub mod laws;
 pub(crate) mod lines;
 mod losing;
 mod passing;

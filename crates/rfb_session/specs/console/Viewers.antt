@@ -1,5 +1,6 @@
 -- What becomes of the viewers of a desk: who is let go, what they send, and who comes.
-use Rattle.std.specs.Prelude.{◌≡◌, ◌<◌, ◌≤◌, ◌-◌, ℕ, suc, Bool, true, false, ◌&&◌, not, nat_eq, nat_le, nat_lt}
+use Rattle.std.specs.Prelude.{◌≡◌, ◌<◌, ◌≤◌, ◌-◌, ℕ, suc, Bool, true, false, ◌&&◌, not}
+use Rattle.std.specs.Prelude.{nat_eq, nat_le, nat_lt}
 use Rattle.std.specs.Prelude.{cond, length}
 use Rattle.std.specs.Prelude.{List, [], ◌++◌, Option, Some, None, IfSome}
 use Rattle.rfb_picture.specs.Places.{has_bit}
@@ -179,7 +180,8 @@ progress_failed progress = cond (is_over progress) progress Failing
 
 -- they were taken at the seat's session, and what its viewer did is told, and is the event; or that session
 -- has ended, or there is none, and it is told once that it failed
-pub data HearsAt (old : Desk) (k : ℕ) (bytes : List ℕ) (used ended : ℕ) (event : Option SeatEvent) (new : Desk) : Type 0
+pub data HearsAt (old : Desk) (k : ℕ) (bytes : List ℕ) (used ended : ℕ) (event : Option SeatEvent)
+    (new : Desk) : Type 0
   where
     Took : (heard : Heard) → used ≡ heard.used → ended ≡ heard.ended → event ≡ heard.event →
         HearsBy (not old.rules.always_shared) old.share k bytes heard new.share →
@@ -190,7 +192,8 @@ pub data HearsAt (old : Desk) (k : ℕ) (bytes : List ℕ) (used ended : ℕ) (e
         lines_of new ≡ lines_of old
         ++ (leave_lines (tells_in old heard.ended) 8 ++ told_line old.rules.view_only k heard.event) →
         KeepsRules old new → HearsAt old k bytes used ended event new
-    Refused : (fault : ShareFault) → used ≡ length bytes → ((j : ℕ) → has_bit ended j ≡ false) → event ≡ None →
+    Refused : (fault : ShareFault) → used ≡ length bytes → ((j : ℕ) → has_bit ended j ≡ false) →
+        event ≡ None →
         RefusesAs old.share k bytes fault new.share → TellsFault old k new →
         (guest_at new k).progress ≡ progress_failed (guest_at old k).progress →
         OtherGuests old k new → KeepsRules old new →

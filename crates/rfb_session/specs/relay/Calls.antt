@@ -3,7 +3,13 @@ use Rattle.std.specs.Prelude.{◌≡◌, ℕ, Bool, true, false, nat_lt, ◌&&�
 use Rattle.std.specs.Prelude.{List, [], ◌∷◌, ◌++◌, Option, Some, None, Result, Ok, Err, take}
 use Rattle.rfb_viewer.specs.declared.fault.AppendFault.{AppendFault}
 use Rattle.rfb_viewer.specs.declared.fault.AppendFault.TheVariants.{Refused, NoMemory as NoRoomFor}
-use Rattle.rfb_viewer.specs.Messages.{key_message, pointer_message, text_message}
+use Rattle.rfb_picture.specs.declared.rect.Rect.{Rect}
+use Rattle.rfb_wire.specs.ClientMessage.{FramebufferUpdateRequest, SpellsClientMessage}
+use Rattle.rfb_viewer.specs.Calls.{request_refusal, requested}
+use Rattle.rfb_viewer.specs.Messages.{key_message, pointer_message, request_message, text_message}
+use Rattle.rfb_viewer.specs.Standing.{StandsFor}
+use Rattle.rfb_viewer.specs.Viewer.{Viewing, ViewerState}
+use Rattle.rfb_viewer.specs.declared.viewer.Viewer.{Viewer}
 use Rattle.rfb_viewer.specs.declared.call.Call.{Call}
 use Rattle.rfb_viewer.specs.Call.{message_bytes, is_noted}
 use Rattle.rfb_session.specs.declared.console.Outcome.{Outcome}
@@ -19,6 +25,14 @@ use Rattle.rfb_session.specs.relay.Desk.{AsksFrom, CallsDesk}
 pub data Queues (old bytes new : List ℕ) (ends : Option Outcome) : Type 0 where
   Queued : new ≡ old ++ bytes → Queues old bytes new ends
   NoRoom : new ≡ old → ends ≡ Some NoMemory → Queues old bytes new ends
+
+-- a viewer takes a request for an area: it does not refuse it, the message spells it, and it is noted
+pub record TakesRequest (incremental : Bool) (area : Rect) (old new : Viewer) : Type 0 where
+  pub taken : (viewing : Viewing) (s : ViewerState) (prefix : List ℕ) → StandsFor viewing old s prefix →
+      None ≡ request_refusal s area
+  pub spelled : SpellsClientMessage (FramebufferUpdateRequest incremental area) (request_message incremental area)
+  pub noted : (viewing : Viewing) (s : ViewerState) (prefix : List ℕ) → StandsFor viewing old s prefix →
+      StandsFor viewing new (requested s) prefix
 
 -- a screen of which sessions can be
 abbrev pub is_shown_size : ℕ → ℕ → Bool
@@ -52,7 +66,8 @@ pub data PassesOn (message : List ℕ) (a b : Option Desk) (old new : List ℕ) 
     NoDesk : a ≡ None → b ≡ None → new ≡ old → ends ≡ before → PassesOn message a b old new before ends
     Made : (call : Call) → message_bytes call ≡ message → is_noted call ≡ false →
         (d e : Desk) (result : Result (Unit {0}) AppendFault) → a ≡ Some d → b ≡ Some e →
-        CallsDesk d call old result new e → ends ≡ ended_by result before → PassesOn message a b old new before ends
+        CallsDesk d call old result new e → ends ≡ ended_by result before →
+        PassesOn message a b old new before ends
 
 abbrev pub Passes : Option (List ℕ) → Option Desk → Option Desk → List ℕ → List ℕ → Option Outcome →
     Option Outcome → Type 0
@@ -62,7 +77,8 @@ Passes (Some message) a b old new before ends = PassesOn message a b old new bef
 -- ---- updates that the server is asked for
 
 -- where the server's picture is shown and all goes on it asks; there may be no memory for it, and all ends
-abbrev pub Asks : Bool → Option Outcome → Option Desk → Option Desk → List ℕ → List ℕ → Option Outcome → Type 0
+abbrev pub Asks : Bool → Option Outcome → Option Desk → Option Desk → List ℕ → List ℕ →
+    Option Outcome → Type 0
 Asks false ended a b old new ends = (b ≡ a) × (new ≡ old) × (ends ≡ ended)
 Asks true (Some ended) a b old new ends = (b ≡ a) × (new ≡ old) × (ends ≡ Some ended)
 Asks true None None b old new ends = (b ≡ None) × (new ≡ old) × (ends ≡ None)

@@ -1,5 +1,6 @@
 -- What waits at the doors of a relay, how much is taken at each, and what stays there.
-use Rattle.std.specs.Prelude.{◌≡◌, ◌<◌, ◌≤◌, ◌⊎◌, ℕ, ◌+◌, ◌-◌, ◌==◌, Bool, false, nat_lt, nat_eq}
+use Rattle.std.specs.Prelude.{◌≡◌, ◌<◌, ◌≤◌, ◌⊎◌, ℕ, ◌+◌, ◌-◌, ◌==◌, Bool}
+use Rattle.std.specs.Prelude.{false, nat_lt, nat_eq}
 use Rattle.std.specs.Prelude.{cond, ◌&&◌, not}
 use Rattle.std.specs.Prelude.{List, drop, slice_index_or, Some, None}
 use Rattle.std.specs.Prelude.{length, is_some, if◌then◌else◌}

@@ -1,5 +1,6 @@
 -- What happens at the doors of a relay, and who comes.
-use Rattle.std.specs.Prelude.{◌≡◌, ◌≢◌, ◌<◌, ◌⊎◌, ℕ, ◌+◌, ◌-◌, Bool, true, false, nat_eq}
+use Rattle.std.specs.Prelude.{◌≡◌, ◌≢◌, ◌<◌, ◌⊎◌, ℕ, ◌+◌, ◌-◌, Bool, true, false}
+use Rattle.std.specs.Prelude.{nat_eq}
 use Rattle.std.specs.Prelude.{◌&&◌, ◌||◌, not}
 use Rattle.std.specs.Prelude.{List, [], Option, Some, None}
 use Rattle.std.specs.Prelude.{length, take, is_some}
@@ -17,11 +18,11 @@ use Rattle.rfb_session.specs.console.Console.{HearsBytes, KeepsSide, KeepsButRoo
 use Rattle.rfb_session.specs.console.Console.{Stays, Steps, TurnsDesk}
 use Rattle.rfb_session.specs.console.Console.{OpensAs, DeclinesAs}
 use Rattle.rfb_session.specs.relay.Calls.{passed, Passes, Asks}
-use Rattle.rfb_session.specs.relay.Presence.{is_shown, is_called, planned}
+use Rattle.rfb_session.specs.relay.Presence.{is_shown, is_called}
 use Rattle.rfb_session.specs.relay.Setup.{viewing_by}
 use Rattle.rfb_session.specs.relay.Doors.{Arrives, KeepsAllButRooms, KeepsButDesk, KeepsServer, OpensDoors, passed_at}
 use Rattle.rfb_session.specs.relay.Doors.{room_of_server, space_at_door}
-use Rattle.rfb_session.specs.relay.Server.{ForgetsServer, HearsServer, LosesServer, WakesFor, planned_for}
+use Rattle.rfb_session.specs.relay.Server.{HearsServer, LosesServer, WakesFor, planned_for}
 
 -- what happens at the server's door, or at a seat's, or at another
 pub record AtDoor (door : ℕ) (server : Type 0) (seat : ℕ → Type 0) (other : Type 0) : Type 0 where
@@ -70,6 +71,7 @@ module _ {S : Type 0} where
     pub keeps : KeepsButDesk old asked
     pub mid : Console S
     pub turns : TurnsDesk asked.console now mid
+    pub stays : Stays asked.console mid
     pub asks : Asks (is_shown old.presence) mid.outcome mid.desk new.console.desk asked.to_server new.to_server
         new.console.outcome
     pub coming : new.coming ≡ old.coming
@@ -79,7 +81,8 @@ module _ {S : Type 0} where
 
   abbrev pub DoesRelay : Relay S → Event → Relay S → Type 0
   DoesRelay old (Received door bytes) new =
-      Then (λ mid. (all : List ℕ) × (used : ℕ) × (bytes ≡ take used all) × HearsAtDoor old door all used mid) new
+      Then (λ mid. (all : List ℕ) × (used : ℕ) × (bytes ≡ take used all) ×
+      HearsAtDoor old door all used mid) new
   DoesRelay old (Ended door) new =
       AtDoor door (Then (λ mid. LosesServer old Closed mid) new)
       (λ k. StepsBeside old (Ended door) new) (StepsBeside old (Ended door) new)

@@ -1,6 +1,5 @@
 -- What a relay does with its server: how that comes, is shown, goes away and is called again.
-use Rattle.std.specs.Prelude.{◌≡◌, ◌≢◌, ◌<◌, ◌⊎◌, ℕ, ◌+◌, ◌-◌, Bool, true, false}
-use Rattle.std.specs.Prelude.{not}
+use Rattle.std.specs.Prelude.{◌≡◌, ◌≢◌, ◌<◌, ◌⊎◌, ℕ, Bool, true, false}
 use Rattle.std.specs.Prelude.{List, [], ◌++◌, Option, Some, None}
 use Rattle.std.specs.Prelude.{length}
 use Rattle.rfb_hello.specs.declared.fed.Fed.{Fed}
@@ -9,10 +8,9 @@ use Rattle.rfb_viewer.specs.declared.event.ViewerEvent.{ViewerEvent}
 use Rattle.rfb_viewer.specs.declared.event.ViewerEvent.TheVariants as Said
 use Rattle.rfb_viewer.specs.declared.fault.ViewerFault.{ViewerFault}
 use Rattle.rfb_viewer.specs.declared.viewer.Viewer.{Viewer}
-use Rattle.rfb_viewer.specs.Calls.{requested}
 use Rattle.rfb_viewer.specs.Messages.{request_message}
 use Rattle.rfb_viewer.specs.Standing.{StandsFor}
-use Rattle.rfb_viewer.specs.Viewer.{Viewing, ViewerState, first_viewer}
+use Rattle.rfb_viewer.specs.Viewer.{first_viewer}
 use Rattle.rfb_session.specs.declared.console.Outcome.{Outcome}
 use Rattle.rfb_session.specs.declared.console.Outcome.TheVariants.{NoMemory, ServerGone}
 use Rattle.rfb_session.specs.declared.console.desk.Desk.{Desk}
@@ -28,7 +26,7 @@ use Rattle.rfb_session.specs.Mirrors.{TakesBytes, FailsAt}
 use Rattle.rfb_session.specs.Share.{viewer_of}
 use Rattle.rfb_session.specs.console.Console.{IsFreshConsole, KeepsSide}
 use Rattle.rfb_session.specs.console.Console.{KeepsButNext}
-use Rattle.rfb_session.specs.relay.Calls.{Queues, is_shown_size, passed}
+use Rattle.rfb_session.specs.relay.Calls.{Queues, TakesRequest, is_shown_size}
 use Rattle.rfb_session.specs.relay.Desk.{IsShareOf, IsOver, FeedsDesk, FailsDesk, HoldsWithin, LosesDesk, TellsSome}
 use Rattle.rfb_session.specs.relay.Desk.{told_of_server, ShowsAgain, BeginsAnew, TellsServer, up_of}
 use Rattle.rfb_session.specs.relay.Presence.{is_gone, is_shown, call_time, planned, WakesToCall}
@@ -47,7 +45,8 @@ IsToldGone false ended how a b ends = b ≡ a
 IsToldGone true (Some ended) how a b ends = b ≡ a
 IsToldGone true None how None b ends = b ≡ None
 IsToldGone true None how (Some a) b ends =
-    (desk : Desk) × (b ≡ Some desk) × (desk.share ≡ a.share) × (LosesDesk a how desk ⊎ (ends ≡ Some NoMemory))
+    (desk : Desk) × (b ≡ Some desk) × (desk.share ≡ a.share) × (LosesDesk a how desk ⊎
+    (ends ≡ Some NoMemory))
 
 -- a call is planned where there is a pause before it, and all goes on
 abbrev pub planned_for : Option ℕ → Option Outcome → ℕ → Presence → Presence
@@ -128,16 +127,15 @@ module _ {S : Type 0} where
     pub presence : new.presence ≡ old.presence
     pub keeps : KeepsDeskBy old new
 
-  -- its handshake is done: what is owed waits, and after it a request for the whole screen, which its viewer has
-  -- noted; or the screen is none that can be shown
+  -- its handshake is done: what is owed waits, and after it a request for the whole screen, which its viewer does not
+  -- refuse; or the screen is none that can be shown
   pub data Begins (old : Relay S) (now : Viewer) (reply : List ℕ) (width height : ℕ) (new : Relay S) : Type 0
     where
       Begun : (asked : Viewer) → Stands old asked (reply ++ request_message false (rect 0 0 width height)) new →
-          ((viewing : Viewing) (s : ViewerState) (prefix : List ℕ) → StandsFor viewing now s prefix →
-          StandsFor viewing asked (requested s) prefix) → Begins old now reply width height new
+          TakesRequest false (rect 0 0 width height) now asked → Begins old now reply width height new
       BadSize : is_shown_size width height ≡ false → (mid : Relay S) →
-          Queues old.to_server reply mid.to_server mid.console.outcome → LosesServer mid (Size width height) new →
-          Begins old now reply width height new
+          Queues old.to_server reply mid.to_server mid.console.outcome → mid.presence ≡ old.presence →
+          KeepsDeskBy old mid → LosesServer mid (Size width height) new → Begins old now reply width height new
       NoRoomToAsk : new.console.outcome ≡ Some NoMemory → Begins old now reply width height new
 
   -- its picture is shown from here on: a line tells it, and a sentence; or memory for a line was wanting
@@ -165,7 +163,8 @@ module _ {S : Type 0} where
         KeepsBeside old new → Opens old now new
     OpenedAgain : (a mid b : Desk) → old.console.desk ≡ Some a → ShowsAgain a now mid →
         TellsServer mid (up_of mid.share old.server_name.items) b → new.console.desk ≡ Some b →
-        new.console.outcome ≡ old.console.outcome → new.presence ≡ Shown → KeepsBeside old new → Opens old now new
+        new.console.outcome ≡ old.console.outcome → new.presence ≡ Shown → KeepsBeside old new →
+        Opens old now new
     OpenedOther : (share : Share) →
         IsShareOf now (name_by old.given old.server_name.items) old.console.rules.text_limit share →
         OpensAnew old share new → Opens old now new
@@ -199,12 +198,13 @@ module _ {S : Type 0} where
         new.console.outcome ≡ old.console.outcome → KeepsServer old new → HearsShown old bytes used new
     FailedOn : (a : Desk) (mid : Relay S) (b : Desk) (fault : ViewerFault) → old.console.desk ≡ Some a →
         mid.console.desk ≡ Some b → FailsDesk a bytes fault b → used ≡ length bytes →
-        mid.presence ≡ old.presence → LosesServer mid (OfFault fault) new → HearsShown old bytes used new
+        KeepsServer old mid → LosesServer mid (OfFault fault) new → HearsShown old bytes used new
     NoRoomToTell : new.console.outcome ≡ Some NoMemory → HearsShown old bytes used new
 
   -- bytes of the server's, of which so many are taken: after the end, or once it has gone, nothing is done
   pub data HearsServer (old : Relay S) (bytes : List ℕ) (used : ℕ) (new : Relay S) : Type 0 where
-    Ignored : (old.console.outcome ≢ None) ⊎ (is_gone old.presence ≡ true) → used ≡ length bytes → new ≡ old →
+    Ignored : (old.console.outcome ≢ None) ⊎ (is_gone old.presence ≡ true) → used ≡ length bytes →
+        new ≡ old →
         HearsServer old bytes used new
     Comes : (was : Viewer) → old.coming ≡ Some was → (mid : Relay S) → TakesViewer old mid →
         HearsComing mid was bytes used new → HearsServer old bytes used new

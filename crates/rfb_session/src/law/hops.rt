@@ -44,12 +44,12 @@ ghost use Rattle.rfb_session.specs.ShareViewers.{Requests, plain_message};
 /// latest update is the relay's screen at that composing, through its own format; so it shows the
 /// server's screen through both.
 pub fn a_viewer_behind_a_relay_shows_the_servers_screen()
-    ensures above { (e f : Ends) (m : Moment) (earlier : List Moment) → IsRun e f (m ∷ earlier) →
-        IsHeadline e m.above.link }
+    ensures above { (e f : Ends) (m : Moment) (earlier : List Moment) →
+        IsRun e f (m ∷ earlier) → IsHeadline e m.above.link }
     ensures below { (e f : Ends) (m : Moment) (earlier : List Moment) (l : LinkState) →
         IsRun e f (m ∷ earlier) → m.below ≡ Some l → IsHeadline f l }
-    ensures seen { (e f : Ends) (m : Moment) (earlier : List Moment) → IsRun e f (m ∷ earlier) →
-        IsBetween m →
+    ensures seen { (e f : Ends) (m : Moment) (earlier : List Moment) →
+        IsRun e f (m ∷ earlier) → IsBetween m →
         Once (m ∷ earlier) (λ at before. ShowsServers m at before) }
     ensures passed { (e f : Ends) (m : Moment) (earlier : List Moment) (l : LinkState)
         (c : Composing) → IsRun e f (m ∷ earlier) → m.below ≡ Some l → l.latest ≡ Some c →
@@ -64,8 +64,8 @@ pub fn a_relay_that_asks_for_all_shows_all()
     ensures goes { (e : Ends) (old new : Network) → IsReached e old → GoesForAll e old new →
         HasAskedAll e old.link → HasAskedAll e new.link }
     ensures answers { (e : Ends) (l : LinkState) → HasAskedAll e l → AnswersAll l }
-    ensures seen { (e f : Ends) (m : Moment) (earlier : List Moment) → IsRun e f (m ∷ earlier) →
-        AllAnswerAll (m ∷ earlier) → IsBetween m →
+    ensures seen { (e f : Ends) (m : Moment) (earlier : List Moment) →
+        IsRun e f (m ∷ earlier) → AllAnswerAll (m ∷ earlier) → IsBetween m →
         Once (m ∷ earlier) (λ at before. ShowsAll m at before) }
     ensures passed { (e f : Ends) (m : Moment) (earlier : List Moment) (l : LinkState)
         (c : Composing) → IsRun e f (m ∷ earlier) → AllAnswerAll (m ∷ earlier) →

@@ -118,7 +118,8 @@ impl<S: Speaker + Drop> Relay<S> {
     pub(crate) fn open_server(&mut self)
         ensures keeps { KeepsAllButRooms self.old self.new }
         ensures room { space_at_door self.new 0 ≡ room_of_server self.old }
-        ensures others { (k : ℕ) → space_at_door self.new (k + 1) ≡ space_at_door self.old (k + 1) }
+        ensures others { (k : ℕ) →
+            space_at_door self.new (k + 1) ≡ space_at_door self.old (k + 1) }
         ensures given { self.new.given ≡ self.old.given }
     {
         let is_open = !self.presence.is_gone() && self.console.outcome.is_none();

@@ -12,7 +12,7 @@ use crate::relay::{Gone, Relay};
 use crate::slots::{SLOTS, empty};
 
 impl<S: Speaker + Drop> Relay<S> {
-    /// The server has gone away, and all ends, unless it is called again. A sentence tells it, once,
+    /// The server has gone away, and all ends, unless it is called again. A sentence tells it once,
     /// and a line if its picture was shown. What waits for it is forgotten. The sessions of the
     /// seats are as they were.
     pub(crate) fn lose_server(&mut self, gone: Gone)

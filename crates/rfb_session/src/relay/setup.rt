@@ -5,10 +5,10 @@ ghost use Rattle.rfb_viewer.specs.Standing.{StandsFor};
 ghost use Rattle.rfb_viewer.specs.Viewer.{first_viewer};
 
 use crate::console::Rules;
+use crate::link::copy_of;
 use crate::relay::NAME_MAX;
 use arrayvec::ArrayVec;
 use rfb_viewer::{Viewer, ViewerSetup};
-use rfb_wire::Encoding;
 use std::alloc::Global;
 
 /// What a relay is made with.
@@ -78,15 +78,5 @@ impl Given {
             setup.max_places,
             setup.text_limit,
         )
-    }
-}
-
-fn copy_of(encodings: &ArrayVec<Encoding, 4>) -> ArrayVec<Encoding, 4>
-    ensures { result.items ≡ encodings.now.items }
-{
-    let mut copy = ArrayVec::new();
-    match copy.try_extend_from_slice(encodings.as_slice()) {
-        Ok(()) => copy,
-        Err(_) => unreachable!(),
     }
 }

@@ -8,10 +8,10 @@ returns c = record {
   fed = λ e old new bytes event has to_server to_viewer later n made is fed f.
       (fed_next e old new bytes event has to_server to_viewer later n made is fed f).0;
   requested = λ e old new incremental rect bytes has to_server to_viewer n asks spelled f.
-      fed_requested e old new incremental rect bytes has to_server to_viewer n asks spelled f;
+      (fed_requested e old new incremental rect bytes has to_server to_viewer n asks spelled f).0;
   opens = λ e share old new bytes has to_server to_viewer later n made is fed there f.
-      relay_opens e share old new bytes has to_server to_viewer later n made is fed there f;
+      (relay_opens e share old new bytes has to_server to_viewer later n made is fed there f).opens;
   renews = λ e f old new was other bytes has to_server to_viewer later k viewer sends gets m n made is fed shows have
-      screen behind. relay_renews e f old new was other bytes has to_server to_viewer later k viewer sends gets m n
-      made is fed shows have screen behind;
+      screen behind. (relay_renews e f old new was other bytes has to_server to_viewer later k viewer sends gets m n
+      made is fed shows have screen behind).renews;
 }

@@ -5,12 +5,15 @@ use Rattle.rfb_viewer.specs.Messages.{request_message}
 use Rattle.rfb_session.specs.Mirrors.{StandsOrFailed}
 use Rattle.rfb_session.specs.relay.Server.{BadSize}
 use Rattle.rfb_session.proofs.RelayLemmas.{called_stands}
-use Rattle.rfb_session.proofs.RelayStepLemmas.{ok_of, same_value, begun_so}
+use Rattle.rfb_session.proofs.RelayBeginLemmas.{ok_of, begun_so, takes_request}
+use Rattle.rfb_session.proofs.RelayStepLemmas.{same_value}
 use Rattle.rfb_session.proofs.relay.Relay.begin.Goals as goal
 
 pub returns-then-not-is_shown_size-clause-begins : goal.returns-then-not-is_shown_size-clause-begins
 returns-then-not-is_shown_size-clause-begins g c =
-    BadSize (sym c.if-not-is_shown_size.ensures) c.send.new.self c.send.ensures.waits c.lose_server.ensures.loses
+    let sends = c.send.ensures in
+    BadSize (sym c.if-not-is_shown_size.ensures) c.send.new.self sends.waits sends.server.presence sends.keeps
+    c.lose_server.ensures.loses
 
 pub invariant_of-self-2 : goal.invariant_of-self-2
 invariant_of-self-2 g c = record {
@@ -29,4 +32,5 @@ returns-clause-begins g c =
     c.args.height _ c.send.ensures.waits c.send.ensures.keeps c.send.ensures.server
     (subst (λ (r : Rect). c.send_call.new.self ≡ c.send.new.self.to_server ++ request_message false r)
     c.whole.ensures (ok_of c.send_call.result _ went call.sent)) c.seat_in.ensures refl refl
-    (ok_of c.send_call.result _ went call.called)
+    (takes_request c.args.viewer c.send_call.new.viewer _ _ c.send_call.result c.whole.ensures went call.refusal
+    (ok_of c.send_call.result _ went call.spelled) (ok_of c.send_call.result _ went call.called))

@@ -22,7 +22,8 @@ returns-in-Some-Err-clause-hears g c =
     FailedOn c.in-Some.desk _ c.hear_server.new.self c.in-Some-Err.fault c.in-Some.is refl
     (subst (λ (r : Result (Fed ViewerEvent) ViewerFault). IfErr r (λ fault.
     FailsDesk c.in-Some.desk c.args.bytes.now fault c.hear_server.new.self)) c.in-Some-Err.field-0-is
-    c.in-Some-Err.ensures.fails) refl refl c.lose_server.ensures.loses
+    c.in-Some-Err.ensures.fails) refl
+    (record { coming = refl; waits = refl; presence = refl; name = refl; passed = refl }) c.lose_server.ensures.loses
 
 pub returns-in-None-clause-hears : goal.returns-in-None-clause-hears
 returns-in-None-clause-hears g c =

@@ -1,6 +1,6 @@
 use Rattle.std.proofs.Common.{List, ℕ, subst}
 use Rattle.rfb_session.specs.relay.Server.{Begins}
-use Rattle.rfb_session.proofs.RelayStepLemmas.{begins_named}
+use Rattle.rfb_session.proofs.RelayBeginLemmas.{begins_named}
 use Rattle.rfb_session.proofs.relay.Relay.meet.Goals as goal
 
 pub returns-in-Some-Ready-clause-meets : goal.returns-in-Some-Ready-clause-meets

@@ -29,7 +29,8 @@ returns-in-Ok-clause-opens g c =
       empty = share.empty;
       made = share.made ∙ ap (λ (n : List ℕ). serving_with V38 (screen_of c.in-Ok.share).width
           (screen_of c.in-Ok.share).height n c.args.self.now.console.rules.text_limit)
-          (c.name-name.ensures.value ∙ ap (λ (l : List ℕ). name_by c.args.self.now.given l) c.as_slice.ensures.value);
+          (c.name-name.ensures.value ∙ ap (λ (l : List ℕ). name_by c.args.self.now.given l)
+          c.as_slice.ensures.value);
     }) (anew_kept c.args.self.now _ c.in-Ok.share c.begin_anew.new.self (record {
       desk = refl;
       outcome = refl;

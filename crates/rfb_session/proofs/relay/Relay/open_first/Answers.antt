@@ -31,7 +31,8 @@ returns-in-Ok-over-clause-opens g c =
     let told = c.as_slice-told.ensures.value in
     let given = c.args.self.now.given in
     Opened desk c.requires.none c.seat_in.ensures
-    (subst (λ (s : Share). IsShareOf c.args.viewer (name_by given c.args.self.now.server_name.items) rules.text_limit s)
+    (subst (λ (s : Share). IsShareOf c.args.viewer (name_by given c.args.self.now.server_name.items)
+    rules.text_limit s)
     (sym over.share_is) (record {
       viewer_is = share.viewer;
       empty = share.empty;

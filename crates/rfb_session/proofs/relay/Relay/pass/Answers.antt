@@ -5,7 +5,8 @@ use Rattle.rfb_session.proofs.relay.Relay.pass.Goals as goal
 
 pub returns-in-Some-Key-clause-passes : goal.returns-in-Some-Key-clause-passes
 returns-in-Some-Key-clause-passes g c =
-    rw (c.if-self.false, sym c.if-not-is_shown.ensures, c.in-Some-Key.is, c.in-Some-Key.field-0-is) c.pass_call.ensures.passes
+    rw (c.if-self.false, sym c.if-not-is_shown.ensures, c.in-Some-Key.is, c.in-Some-Key.field-0-is)
+    c.pass_call.ensures.passes
 
 pub returns-in-Some-Pointer-clause-passes : goal.returns-in-Some-Pointer-clause-passes
 returns-in-Some-Pointer-clause-passes g c =
