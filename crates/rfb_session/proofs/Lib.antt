@@ -100,6 +100,14 @@ pub mod NumberLemmas
 pub mod ArgumentLaws
 pub mod EncodingLemmas
 pub mod DrawingLineLemmas
+pub mod KeyNameLemmas
+pub mod KeyLemmas
+pub mod TypingLemmas
+pub mod NearLemmas
+pub mod CompareLemmas
+pub mod DriveArgumentLemmas
+pub mod CharacterLemmas
+pub mod CutLemmas
 pub mod OwnerKeywordLemmas
 pub mod OwnerLineLemmas
 pub mod OwnerReaderLemmas
@@ -145,3 +153,12 @@ pub mod RelayGoneLemmas
 pub mod RelayLeaveLemmas
 pub mod RelayHistoryLemmas
 pub mod HopRelayLemmas
+pub mod SendingLemmas
+pub mod LookingLemmas
+pub mod InputLemmas
+pub mod DriverLemmas
+pub mod DriverStepLemmas
+pub mod DriverLineLemmas
+pub mod DriveLawLemmas
+pub mod DriveEventLemmas
+pub mod DriveHistoryLemmas

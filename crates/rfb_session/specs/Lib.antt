@@ -48,6 +48,7 @@ pub mod HopEnds
 pub mod HopAreas
 pub mod language
 pub mod owner
+pub mod drive
 pub mod Turns
 pub mod ServeOrder
 pub mod ViewEngine

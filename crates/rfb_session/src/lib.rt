@@ -32,6 +32,7 @@
 mod channel;
 pub mod console;
 pub mod doors;
+pub mod drive;
 mod engine;
 mod event;
 mod hub;

@@ -1,0 +1,9 @@
+use Rattle.std.proofs.Common.{◌∙◌, [], ◌∷◌, sym, append-nil}
+use Rattle.rfb_session.specs.drive.driver.Sending.{OfKey, act_bytes, spelled}
+use Rattle.rfb_session.proofs.SendingLemmas.{grown}
+use Rattle.rfb_session.proofs.drive.driver.sending.spell_key.Goals as goal
+
+pub returns : goal.returns
+returns c =
+    grown c.extend_from_slice.result _ _ _ (spelled (OfKey c.args.event ∷ [])) c.extend_from_slice.ensures.items
+    (c.as_slice.ensures.value ∙ c.spell.ensures.value ∙ sym (append-nil (act_bytes (OfKey c.args.event))))

@@ -1,0 +1,10 @@
+pub mod Characters
+pub mod KeyNames
+pub mod Keys
+pub mod Typing
+pub mod Near
+pub mod Compare
+pub mod Keywords
+pub mod Arguments
+pub mod DriveLines
+pub mod driver

@@ -1,0 +1,12 @@
+pub mod Rigs
+pub mod Input
+pub mod Sending
+pub mod Looking
+pub mod Tasks
+pub mod DriveTelling
+pub mod Driver
+pub mod Running
+pub mod Turning
+pub mod Steps
+pub mod DriveHistory
+pub mod DriveLaws
