@@ -9,8 +9,8 @@ use Rattle.rfb_session.specs.doors.Tenants.{Happening, Told}
 use Rattle.rfb_session.specs.console.Console.{Stays}
 use Rattle.rfb_session.specs.console.History.{left_in}
 use Rattle.rfb_session.specs.relay.Doors.{KeepsAllButRooms, KeepsServer}
-use Rattle.rfb_session.specs.relay.History.{Sent, all_bytes, Sends}
-use Rattle.rfb_session.specs.relay.History.{IsInOrder, HasSent, HasGone}
+use Rattle.rfb_session.specs.relay.History.{Sends, HasSent, HasGone}
+use Rattle.rfb_session.specs.relay.Sent.{Sent, all_bytes, IsInOrder}
 use Rattle.rfb_session.specs.relay.Presence.{is_gone}
 use Rattle.rfb_session.specs.relay.Relay.{StepsBeside}
 use Rattle.rfb_session.proofs.ConsoleMoveLemmas.{if_other}
@@ -85,7 +85,9 @@ module _ {S : Type 0} where
     here = still_has old new has.viewer has.shown
         (record { coming = keeps.coming; presence = keeps.presence; desk = desk }) has.here;
     stands = has.stands;
-    order = subst (λ (l : List Sent). IsInOrder old.console.rules.view_only has.shown has.state.point l)
+    order = subst
+        (λ (l : List Sent).
+        IsInOrder old.console.rules.view_only has.shown has.state.point has.state.outstanding l)
         (sym (append-nil sent)) has.order;
   }
 

@@ -25,7 +25,7 @@ use Rattle.rfb_session.specs.ShareAsking.{SomeAsked}
 use Rattle.rfb_session.specs.relay.Calls.{Asks, Passes, NoDesk, Made, ended_by}
 use Rattle.rfb_session.specs.relay.Desk.{AsksFrom, NobodyWaits, SomeWait, CallsShare, NoViewer, Calls, ask_call}
 use Rattle.rfb_session.specs.relay.Desk.{whole_of}
-use Rattle.rfb_session.specs.relay.History.{bytes_in}
+use Rattle.rfb_session.specs.relay.Sent.{bytes_in}
 use Rattle.rfb_session.proofs.HopCallLemmas.{plain_refusal}
 use Rattle.rfb_session.proofs.HopEndLemmas.{one_viewer}
 use Rattle.rfb_session.proofs.ConsoleMoveLemmas.{none_some}

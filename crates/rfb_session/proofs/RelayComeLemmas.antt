@@ -26,8 +26,8 @@ use Rattle.rfb_session.specs.Mirrors.{TakesBytes}
 use Rattle.rfb_session.specs.Share.{viewer_of}
 use Rattle.rfb_session.specs.relay.Calls.{Queues, Queued, NoRoom}
 use Rattle.rfb_session.specs.relay.Doors.{TakesViewer}
-use Rattle.rfb_session.specs.relay.History.{Sent, Answer, Ask, all_bytes, answers_to, Answers, IsInOrder, HasViewer}
-use Rattle.rfb_session.specs.relay.History.{Comes as ComesThere, IsComing, HasGone, Says}
+use Rattle.rfb_session.specs.relay.History.{Answers, HasViewer, Comes as ComesThere, IsComing, HasGone, Says}
+use Rattle.rfb_session.specs.relay.Sent.{Sent, Answer, Ask, Updated, all_bytes, answers_to, IsInOrder}
 use Rattle.rfb_session.specs.relay.Presence.{is_gone}
 use Rattle.rfb_session.specs.relay.Server.{Stands, Begins, Begun, BadSize, NoRoomToAsk, Opens, Opened, OpenedAgain}
 use Rattle.rfb_session.specs.relay.Server.{OpenedOther, NoPicture, NoRoomToShow, OpenedAnew, NoRoomForLines}
@@ -37,6 +37,7 @@ use Rattle.rfb_session.proofs.ConsoleMoveLemmas.{none_some}
 use Rattle.rfb_session.proofs.RelayOrderLemmas.{order_answered, order_asked, order_waits, order_opens}
 use Rattle.rfb_session.proofs.RelayOrderLemmas.{not_gone, loses_gone}
 use Rattle.rfb_session.proofs.RelayTakeLemmas.{Shakes, GoesOn, Ends, shakes, GoesFurther, further}
+use Rattle.rfb_session.proofs.RelayTakeLemmas.{out_told, outstanding_after}
 use Rattle.rfb_session.proofs.RelaySendLemmas.{has_place}
 
 -- where all goes on these bytes wait, after what waited
@@ -53,7 +54,8 @@ module _ {S : Type 0} where
     Stays : (more : List Sent) → Answers old part more → new.to_server ≡ old.to_server ++ all_bytes more →
         (viewer : Viewer) (shown : Bool) (state : ViewerState) (prefix : List ℕ) → HasViewer new viewer shown →
         StandsFor (viewing_by old.given.viewer) viewer state prefix →
-        IsInOrder old.console.rules.view_only shown state.point (sent ++ more) → AfterBytes old sent part new
+        IsInOrder old.console.rules.view_only shown state.point state.outstanding (sent ++ more) →
+        AfterBytes old sent part new
     Leaves : HasGone new → AfterBytes old sent part new
 
   module _ (old mid new : Relay S) (sent : List Sent) (part bytes : List ℕ) (goes : new.console.outcome ≡ None)
@@ -63,11 +65,11 @@ module _ {S : Type 0} where
     module _ (was now : Viewer) (fed : Fed ViewerEvent) (here : IsComing old was) (takes : TakesBytes was bytes fed now)
         (part_is : part ≡ take fed.used bytes) (t : ViewerState) (rest : List ℕ)
         (stands : StandsFor (viewing_by old.given.viewer) now t rest) where
-      says : (event : Option ViewerEvent) → fed.event ≡ event → Says old part event
+      says : (event : Option ViewerEvent) → fed.event ≡ event → Says old false part event
       says event is = record {
         was = was;
         now = now;
-        is_there = here.coming;
+        here = here;
         bytes = bytes;
         fed = fed;
         takes = takes;
@@ -78,7 +80,7 @@ module _ {S : Type 0} where
       -- its viewer stays, and its answer waits
       stays : (event : Option ViewerEvent) (answer : List ℕ) → fed.event ≡ event → Stands mid now answer new →
           all_bytes (answers_to event) ≡ answer →
-          IsInOrder old.console.rules.view_only false t.point (sent ++ answers_to event) →
+          IsInOrder old.console.rules.view_only false t.point t.outstanding (sent ++ answers_to event) →
           AfterBytes old sent part new
       stays event answer is so all order =
           Stays (answers_to event) (ComesThere event (says event is) refl)
@@ -91,7 +93,8 @@ module _ {S : Type 0} where
       begins : (event : Option ViewerEvent) (reply : List ℕ) (width height : ℕ) → fed.event ≡ event →
           answers_to event ≡ Answer reply ∷ Ask false width height ∷ [] → Begins mid now reply width height new →
           (p : UpdatePoint) → t.point ≡ Second p →
-          (0 < width → 0 < height → IsInOrder old.console.rules.view_only false t.point (sent ++ answers_to event)) →
+          (0 < width → 0 < height →
+          IsInOrder old.console.rules.view_only false t.point true (sent ++ answers_to event)) →
           AfterBytes old sent part new
       begins event reply width height is answers (Begun asked so asks) p at order =
           let some = has_place t.point p t.outstanding width height at
@@ -115,9 +118,10 @@ module _ {S : Type 0} where
       opened : (desk : Desk) → fed.event ≡ Some Said.UpdateDone → new.console.desk ≡ Some desk →
           viewer_of desk.share ≡ Some now → new.presence ≡ Shown → new.coming ≡ mid.coming →
           new.to_server ≡ mid.to_server →
-          IsInOrder old.console.rules.view_only true t.point (sent ++ []) → AfterBytes old sent part new
+          IsInOrder old.console.rules.view_only true t.point t.outstanding (sent ++ Updated ∷ []) →
+          AfterBytes old sent part new
       opened desk is there seen presence coming waits order =
-          Stays [] (ComesThere (Some Said.UpdateDone) (says (Some Said.UpdateDone) is) refl)
+          Stays (Updated ∷ []) (ComesThere (Some Said.UpdateDone) (says (Some Said.UpdateDone) is) refl)
           (waits ∙ taken.waits ∙ sym (append-nil old.to_server)) now true t rest
           (record {
             presence = presence;
@@ -128,7 +132,8 @@ module _ {S : Type 0} where
           }) stands order
 
       opens : fed.event ≡ Some Said.UpdateDone → Opens mid now new →
-          IsInOrder old.console.rules.view_only true t.point (sent ++ []) → AfterBytes old sent part new
+          IsInOrder old.console.rules.view_only true t.point t.outstanding (sent ++ Updated ∷ []) →
+          AfterBytes old sent part new
       opens is (Opened desk none there share over presence beside) order =
           opened desk is there share.viewer_is presence beside.coming beside.waits order
       opens is (OpenedAgain a m b there shows tells now_there outcome presence beside) order =
@@ -147,7 +152,7 @@ module _ {S : Type 0} where
     -- bytes of its viewer's
     pub comes_so : (was : Viewer) (s : ViewerState) (prefix : List ℕ) → IsComing old was →
         StandsFor (viewing_by old.given.viewer) was s prefix →
-        IsInOrder old.console.rules.view_only false s.point sent → (used : ℕ) → part ≡ take used bytes →
+        IsInOrder old.console.rules.view_only false s.point s.outstanding sent → (used : ℕ) → part ≡ take used bytes →
         HearsComing mid was bytes used new → AfterBytes old sent part new
     comes_so was s prefix here stood order used part_is (FailedAt now fault fails used_is loses) =
         Leaves (loses_gone mid _ new
@@ -169,12 +174,13 @@ module _ {S : Type 0} where
             AfterBytes old sent part new
         at_first point at None is (GoesOn next to shaking) so =
             stays was now fed here takes parts one.0 one.1 one.2 None [] is so refl
-            (order_answered view s.point one.0.point point next sent [] at to tt order)
+            (order_answered view s.point one.0.point point next s.outstanding one.0.outstanding sent [] at to tt order)
         at_first point at None is (Ends p b n k to told) so = absurd (no_answer _ told)
         at_first point at (Some (Said.Reply reply)) is (GoesOn next to shaking) so =
             stays was now fed here takes parts one.0 one.1 one.2 (Some (Said.Reply reply)) reply.items is so
             (append-nil reply.items)
-            (order_answered view s.point one.0.point point next sent (Answer reply.items ∷ []) at to tt order)
+            (order_answered view s.point one.0.point point next s.outstanding one.0.outstanding sent
+            (Answer reply.items ∷ []) at to tt order)
         at_first point at (Some (Said.Reply reply)) is (Ends p b n k to told) so = absurd (let e = told in cc)
         at_first point at (Some (Said.Ready reply w h name n)) is (GoesOn next to shaking) so = absurd shaking
         at_first point at (Some (Said.Ready reply w h name n)) is (Ends p b m k to told) so =
@@ -183,7 +189,7 @@ module _ {S : Type 0} where
             begins was now fed here takes parts one.0 one.1 one.2 (Some (Said.Ready reply w h name n)) reply.items
             w h is refl so p to
             (λ columns rows. rw (wide, high)
-            (order_asked view s.point one.0.point point p sent reply.items at to (rw (← wide) columns)
+            (order_asked view s.point one.0.point point p s.outstanding sent reply.items at to (rw (← wide) columns)
             (rw (← high) rows) order))
         at_first point at (Some Said.UpdateDone) is (GoesOn next to shaking) so = absurd shaking
         at_first point at (Some Said.UpdateDone) is (Ends p b n k to told) so = absurd (let e = told in cc)
@@ -194,29 +200,39 @@ module _ {S : Type 0} where
         at_first point at (Some Said.ColourMapSkipped) is (GoesOn next to shaking) so = absurd shaking
         at_first point at (Some Said.ColourMapSkipped) is (Ends p b n k to told) so = absurd (let e = told in cc)
 
+        -- whether a request is outstanding
+        out_so : (p : UpdatePoint) → s.point ≡ Second p → (event : Option ViewerEvent) → fed.event ≡ event →
+            one.0.outstanding ≡ out_told (seen event) s.outstanding
+        out_so p at event is =
+            outstanding_after (viewing_by old.given.viewer) s p prefix (take fed.used bytes) (seen fed.event) one.0
+            one.1 at one.3 ∙ ap (λ (o : Option ViewerEvent). out_told (seen o) s.outstanding) is
+
         -- it reported no answer
         plain_stays : (p : UpdatePoint) → s.point ≡ Second p → (event : Option ViewerEvent) → fed.event ≡ event →
-            answers_to event ≡ [] → GoesFurther p one.0.point (seen event) → Stands mid now [] new →
-            AfterBytes old sent part new
-        plain_stays p at event is none far so =
+            answers_to event ≡ [] → one.0.outstanding ≡ s.outstanding → GoesFurther p one.0.point (seen event) →
+            Stands mid now [] new → AfterBytes old sent part new
+        plain_stays p at event is none same far so =
             stays was now fed here takes parts one.0 one.1 one.2 event [] is so
             (ap (λ (l : List Sent). all_bytes l) none)
-            (subst (λ (l : List Sent). IsInOrder view false one.0.point (sent ++ l)) (sym none)
-            (order_waits view s.point one.0.point p far.to sent at far.at_is far.wide far.high order))
+            (subst (λ (l : List Sent). IsInOrder view false one.0.point one.0.outstanding (sent ++ l)) (sym none)
+            (order_waits view s.point one.0.point p far.to s.outstanding one.0.outstanding sent at far.at_is far.wide
+            far.high same order))
 
         at_second : (p : UpdatePoint) → s.point ≡ Second p → (event : Option ViewerEvent) → fed.event ≡ event →
             GoesFurther p one.0.point (seen event) → Meets mid now event new → AfterBytes old sent part new
-        at_second p at None is far so = plain_stays p at None is refl far so
+        at_second p at None is far so = plain_stays p at None is refl (out_so p at None is) far so
         at_second p at (Some (Said.Reply reply)) is far so = absurd far.plain
         at_second p at (Some (Said.Ready reply w h name n)) is far so = absurd far.plain
         at_second p at (Some Said.UpdateDone) is far so =
             opens was now fed here takes parts one.0 one.1 one.2 is so
-            (order_opens view s.point one.0.point p far.to sent at far.at_is far.wide far.high order)
-        at_second p at (Some Said.Bell) is far so = plain_stays p at (Some Said.Bell) is refl far so
+            (order_opens view s.point one.0.point p far.to s.outstanding one.0.outstanding sent at far.at_is far.wide
+            far.high (out_so p at (Some Said.UpdateDone) is) order)
+        at_second p at (Some Said.Bell) is far so =
+            plain_stays p at (Some Said.Bell) is refl (out_so p at (Some Said.Bell) is) far so
         at_second p at (Some (Said.CutText kept n)) is far so =
-            plain_stays p at (Some (Said.CutText kept n)) is refl far so
+            plain_stays p at (Some (Said.CutText kept n)) is refl (out_so p at (Some (Said.CutText kept n)) is) far so
         at_second p at (Some Said.ColourMapSkipped) is far so =
-            plain_stays p at (Some Said.ColourMapSkipped) is refl far so
+            plain_stays p at (Some Said.ColourMapSkipped) is refl (out_so p at (Some Said.ColourMapSkipped) is) far so
 
         by : (at : ServerAt) → s.point ≡ at → AfterBytes old sent part new
         by (First point) at = at_first point at fed.event refl

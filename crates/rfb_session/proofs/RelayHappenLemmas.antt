@@ -9,8 +9,8 @@ use Rattle.rfb_session.specs.declared.relay.Relay.{Relay}
 use Rattle.rfb_session.specs.doors.Events.{Event, Received, Ended, Failed, Wrote, Turned}
 use Rattle.rfb_session.specs.doors.Tenants.{Told, Opened, Declined}
 use Rattle.rfb_session.specs.relay.Doors.{KeepsAllButRooms}
-use Rattle.rfb_session.specs.relay.History.{Sent, Passes, Asks, passes_of, is_muted}
-use Rattle.rfb_session.specs.relay.History.{IsInOrder, HasViewer, HasSent}
+use Rattle.rfb_session.specs.relay.History.{Passes, Asks, is_muted, HasViewer, HasSent}
+use Rattle.rfb_session.specs.relay.Sent.{Sent, passes_of, IsInOrder}
 use Rattle.rfb_session.specs.relay.Relay.{RelaySteps, OpensRelay, DeclinesRelay, HearsViewer, TurnsRelay}
 use Rattle.rfb_session.specs.relay.Relay.{ForServer, ForViewer, OpensFor}
 use Rattle.rfb_session.specs.relay.Setup.{viewing_by}
@@ -31,7 +31,7 @@ module _ {S : Type 0} where
       (shown : Bool) (s : ViewerState) (prefix : List ℕ) → old.console.outcome ≡ None →
       mid.console.outcome ≡ None → (hears : HearsViewer old k bytes used mid) → HasViewer old viewer shown →
       StandsFor (viewing_by old.given.viewer) viewer s prefix →
-      IsInOrder old.console.rules.view_only shown s.point sent →
+      IsInOrder old.console.rules.view_only shown s.point s.outstanding sent →
       Waits old sent (passes_of (is_muted old) k hears.event) mid
   viewer_waits old mid sent k bytes used viewer false s prefix going goes hears here stood order =
       heard_coming old mid sent k bytes used going goes hears viewer s prefix here stood order
@@ -176,7 +176,7 @@ module _ {S : Type 0} where
     turned_waits : (now : ℕ) (viewer : Viewer) (shown : Bool) (s : ViewerState) (prefix : List ℕ) →
         TurnsRelay old now new → HasViewer old viewer shown →
         StandsFor (viewing_by old.given.viewer) viewer s prefix →
-        IsInOrder old.console.rules.view_only shown s.point sent →
+        IsInOrder old.console.rules.view_only shown s.point s.outstanding sent →
         (more : List Sent) × Asks old more new × Waits old sent more new
     turned_waits now viewer false s prefix turns here stood order =
         let one = turned_coming old now new turns goes sent viewer s prefix here stood order in ([], one.0, one.1)

@@ -11,8 +11,8 @@ use Rattle.rfb_session.specs.declared.relay.setup.RelaySetup.{RelaySetup}
 use Rattle.rfb_session.specs.doors.Events.{left}
 use Rattle.rfb_session.specs.doors.Tenants.{Happening, Told, Opened, Declined, IsKept, events_in}
 use Rattle.rfb_session.specs.console.History.{left_in}
-use Rattle.rfb_session.specs.relay.History.{Sent, all_bytes, all_sent, Lasts, HasSent, HasGone, SendsEach}
-use Rattle.rfb_session.specs.relay.History.{SendsAll}
+use Rattle.rfb_session.specs.relay.History.{Lasts, HasSent, HasGone, SendsEach, SendsAll}
+use Rattle.rfb_session.specs.relay.Sent.{Sent, all_bytes, all_sent}
 use Rattle.rfb_session.specs.relay.Presence.{is_gone}
 use Rattle.rfb_session.specs.relay.Relay.{OpensRelay, OpensFor, ForServer, ForViewer, IsCalledAgain}
 use Rattle.rfb_session.specs.relay.Server.{IsFreshRelay}

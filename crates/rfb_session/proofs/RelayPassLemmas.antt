@@ -8,13 +8,13 @@ use Rattle.rfb_session.specs.declared.relay.Relay.{Relay}
 use Rattle.rfb_session.specs.declared.relay.presence.Presence.{Presence}
 use Rattle.rfb_session.specs.declared.relay.presence.Presence.TheVariants.{Coming, Shown, Gone as Lost}
 use Rattle.rfb_session.specs.relay.Calls.{Passes as PassesNow, passed}
-use Rattle.rfb_session.specs.relay.History.{Sent, all_bytes, passes_of, IsInOrder, HasViewer, IsComing}
-use Rattle.rfb_session.specs.relay.History.{IsShowing, HasGone, Passes, is_muted}
+use Rattle.rfb_session.specs.relay.History.{HasViewer, IsComing, IsShowing, HasGone, Passes, is_muted}
+use Rattle.rfb_session.specs.relay.Sent.{Sent, all_bytes, passes_of, IsInOrder}
 use Rattle.rfb_session.specs.relay.Presence.{is_gone, is_shown}
 use Rattle.rfb_session.specs.relay.Relay.{HearsViewer}
 use Rattle.rfb_session.specs.relay.Setup.{viewing_by}
 use Rattle.rfb_session.proofs.RelayKeepLemmas.{hears_seen}
-use Rattle.rfb_session.proofs.RelayOrderLemmas.{order_does, shown_past, doings_passed}
+use Rattle.rfb_session.proofs.RelayOrderLemmas.{after_passed, order_does, shown_past, doings_passed}
 use Rattle.rfb_session.proofs.RelayCallLemmas.{passes_on, passed_so}
 use Rattle.rfb_session.proofs.RelaySendLemmas.{passes_bytes, muted_none, muted_sends, or_true, or_false}
 
@@ -28,7 +28,7 @@ module _ {S : Type 0} where
     pub prefix : List ℕ
     pub here : HasViewer new viewer shown
     pub stands : StandsFor (viewing_by old.given.viewer) viewer state prefix
-    pub order : IsInOrder old.console.rules.view_only shown state.point (sent ++ more)
+    pub order : IsInOrder old.console.rules.view_only shown state.point state.outstanding (sent ++ more)
 
   -- ---- bytes of a viewer
 
@@ -65,7 +65,7 @@ module _ {S : Type 0} where
 
     pub heard_coming : (viewer : Viewer) (s : ViewerState) (prefix : List ℕ) → IsComing old viewer →
         StandsFor (viewing_by old.given.viewer) viewer s prefix →
-        IsInOrder old.console.rules.view_only false s.point sent →
+        IsInOrder old.console.rules.view_only false s.point s.outstanding sent →
         Waits old sent (passes_of (is_muted old) k hears.event) new
     heard_coming viewer s prefix here stood order =
         let none = unpassed (ap (λ (p : Presence). is_shown p) here.presence) in
@@ -78,19 +78,19 @@ module _ {S : Type 0} where
           prefix = prefix;
           here = record { presence = hears.presence ∙ here.presence; coming = hears.coming ∙ here.coming };
           stands = stood;
-          order = subst (λ (l : List Sent). IsInOrder old.console.rules.view_only false s.point l)
+          order = subst (λ (l : List Sent). IsInOrder old.console.rules.view_only false s.point s.outstanding l)
               (sym (append-nil sent) ∙ ap (λ (l : List Sent). sent ++ l) (sym none.1)) order;
         }
 
     pub heard_shown : (viewer : Viewer) (s : ViewerState) (prefix : List ℕ) → IsShowing old viewer →
         StandsFor (viewing_by old.given.viewer) viewer s prefix →
-        IsInOrder old.console.rules.view_only true s.point sent →
+        IsInOrder old.console.rules.view_only true s.point s.outstanding sent →
         Waits old sent (passes_of (is_muted old) k hears.event) new
     heard_shown viewer s prefix here stood order =
         let view = old.console.rules.view_only in
         let some : is_muted old ≡ view =
         ap (λ (p : Presence). view || not (is_shown p)) here.presence ∙ or_false view in
-        let at = shown_past view s.point sent order in
+        let at = shown_past view s.point s.outstanding sent order in
         let kept = hears_seen old.console here.desk k bytes used hears.event hears.mid going
         (passes_on _ _ _ _ _ _ _ hears.passes goes) here.desk_is hears.hears in
         let one = passed_so (viewing_by old.given.viewer) viewer s prefix at.point (passed (is_muted old) hears.event)
@@ -110,8 +110,10 @@ module _ {S : Type 0} where
             seen = one.2;
           };
           stands = stood;
-          order = order_does view s.point s.point at.point at.point sent (passes_of (is_muted old) k hears.event)
-              at.at_is at.at_is refl refl (doings_passed view at.point (is_muted old) k hears.event some) order;
+          order = order_does view s.point s.point at.point at.point s.outstanding s.outstanding sent
+              (passes_of (is_muted old) k hears.event) at.at_is at.at_is refl refl
+              (doings_passed view at.point s.outstanding (is_muted old) k hears.event some)
+              (sym (after_passed s.outstanding (is_muted old) k hears.event)) order;
         }
 
     pub heard_gone : HasGone old → HasGone new

@@ -26,7 +26,7 @@ use Rattle.rfb_session.specs.declared.share.event.SeatEvent.{SeatEvent}
 use Rattle.rfb_session.specs.declared.share.event.SeatEvent.TheVariants.{Ready, Key, Pointer, CutText}
 use Rattle.rfb_session.specs.Share.{screen_of, viewer_of}
 use Rattle.rfb_session.specs.relay.Calls.{passed}
-use Rattle.rfb_session.specs.relay.History.{Sent, all_bytes, bytes_in, bytes_of, passes_of}
+use Rattle.rfb_session.specs.relay.Sent.{Sent, all_bytes, bytes_in, bytes_of, passes_of}
 use Rattle.rfb_session.proofs.HopEndLemmas.{shown_is}
 use Rattle.rfb_session.proofs.MirrorSizeLemmas.{IsSized, some_sized, sized_some, there_stored}
 use Rattle.rfb_session.proofs.ConsoleMoveLemmas.{none_some}

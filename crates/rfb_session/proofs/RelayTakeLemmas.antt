@@ -1,6 +1,6 @@
 -- How far the viewer of a relay's server is after bytes that it took, and what it reported of them.
 use Rattle.std.proofs.Common.{◌≡◌, ◌==◌, ℕ, zero, suc, Bool, true, false, List, [], ◌∷◌, Option, Some, None}
-use Rattle.std.proofs.Common.{refl, sym, subst, ◌∙◌}
+use Rattle.std.proofs.Common.{refl, sym, ap, subst, ◌∙◌, if◌then◌else◌}
 use Rattle.rfb_wire.specs.ServerMessage.{FramebufferUpdate, SetColorMapEntries, Bell as BellMessage, ServerCutText}
 use Rattle.rfb_wire.specs.stream.End.{Takes, EndsWith, acts}
 use Rattle.rfb_wire.specs.stream.Sequel.{First, Second, past_in}
@@ -10,8 +10,8 @@ use Rattle.rfb_hello.specs.ServerHandshake.{AwaitsName, Begun, ProtocolVersion, 
 use Rattle.rfb_hello.specs.ServerHandshake.{SecurityResult, ServerInit, Name}
 use Rattle.rfb_viewer.specs.ServerBytes.{ServerAt, FromServer, server_two}
 use Rattle.rfb_viewer.specs.Told.{ViewerTold, Reply, Ready, UpdateDone, Bell, CutText, ColourMapSkipped, done_told}
-use Rattle.rfb_viewer.specs.Told.{item_told}
-use Rattle.rfb_viewer.specs.Viewer.{Viewing, ViewerState, viewer, shows, told_at}
+use Rattle.rfb_viewer.specs.Told.{is_last, item_told}
+use Rattle.rfb_viewer.specs.Viewer.{Viewing, ViewerState, viewer, ends_update, shows, told_at}
 
 -- ---- what is reported
 
@@ -102,8 +102,8 @@ shakes_all viewing s point (item ∷ next ∷ items) event at (quiet, ends) =
         ((after : ServerPoint) → (shows viewing s item).point ≡ First after →
         Shakes (acts (viewer viewing) s (item ∷ next ∷ items)).point event) →
         Shakes (acts (viewer viewing) s (item ∷ next ∷ items)).point event
-    by (GoesOn after is shaking) then = then after is
-    by (Ends p bytes name n is told) then = absurd (no_end _ _ quiet told)
+    by (GoesOn after is shaking) more = more after is
+    by (Ends p bytes name n is told) more = absurd (no_end _ _ quiet told)
 
 pub shakes : (viewing : Viewing) (s : ViewerState) (point : ServerPoint) (prefix bytes : List ℕ)
     (event : Option ViewerTold) (t : ViewerState) (rest : List ℕ) → s.point ≡ First point →
@@ -172,3 +172,55 @@ pub further : (viewing : Viewing) (s : ViewerState) (p : UpdatePoint) (prefix by
 further viewing s p prefix bytes event t rest at takes =
     subst (λ (x : ViewerState). GoesFurther p x.point event) (sym takes.state)
     (further_all viewing s p takes.items event at takes.ends)
+
+-- ---- requests
+
+-- a whole update answers the one that is outstanding, and nothing else does
+abbrev pub out_told : Option ViewerTold → Bool → Bool
+out_told None out = out
+out_told (Some (Reply bytes)) out = out
+out_told (Some (Ready bytes width height name n)) out = out
+out_told (Some UpdateDone) out = false
+out_told (Some Bell) out = out
+out_told (Some (CutText kept n)) out = out
+out_told (Some ColourMapSkipped) out = out
+
+done_out : (done out : Bool) → (if done then false else out) ≡ out_told (done_told done) out
+done_out true out = refl
+done_out false out = refl
+
+item_out : (limit : ℕ) (p : UpdatePoint) (item : UpdateItem) (out : Bool) →
+    (if is_last p item then false else out) ≡ out_told (item_told limit p item) out
+item_out limit p (Message (FramebufferUpdate rectangles)) out = done_out (rectangles == 0) out
+item_out limit p (Message (SetColorMapEntries first colors)) out = refl
+item_out limit p (Message BellMessage) out = refl
+item_out limit p (Message (ServerCutText text)) out = refl
+item_out limit p (Rectangle head body) out = done_out (p.left == 1) out
+
+one_out : (viewing : Viewing) (at : ServerAt) (p : UpdatePoint) (item : FromServer) (out : Bool) → at ≡ Second p →
+    (if ends_update at item then false else out) ≡ out_told (told_at viewing at item) out
+one_out viewing at p item out is = rw is (by item)
+  where
+    by : (item : FromServer) →
+        (if ends_update (Second p) item then false else out) ≡ out_told (told_at viewing (Second p) item) out
+    by (First step) = refl
+    by (Second item) = item_out viewing.hello.text_limit p item out
+
+out_all : (viewing : Viewing) (s : ViewerState) (p : UpdatePoint) (items : List FromServer)
+    (event : Option ViewerTold) → s.point ≡ Second p → EndsWith (viewer viewing) s items event →
+    (acts (viewer viewing) s items).outstanding ≡ out_told event s.outstanding
+out_all viewing s p [] event at ends = ap (λ (o : Option ViewerTold). out_told o s.outstanding) (sym ends)
+out_all viewing s p (item ∷ []) event at ends =
+    one_out viewing s.point p item s.outstanding at ∙ ap (λ (o : Option ViewerTold). out_told o s.outstanding) ends
+out_all viewing s p (item ∷ next ∷ items) event at (quiet, ends) =
+    let one : GoesFurther p (shows viewing s item).point (told_at viewing s.point item) =
+    rw at (one_further viewing p item) in
+    out_all viewing (shows viewing s item) one.to (next ∷ items) event one.at_is ends
+    ∙ ap (λ (b : Bool). out_told event b)
+    (one_out viewing s.point p item s.outstanding at ∙ ap (λ (o : Option ViewerTold). out_told o s.outstanding) quiet)
+
+pub outstanding_after : (viewing : Viewing) (s : ViewerState) (p : UpdatePoint) (prefix bytes : List ℕ)
+    (event : Option ViewerTold) (t : ViewerState) (rest : List ℕ) → s.point ≡ Second p →
+    Takes (viewer viewing) s prefix bytes event t rest → t.outstanding ≡ out_told event s.outstanding
+outstanding_after viewing s p prefix bytes event t rest at takes =
+    ap (λ (x : ViewerState). x.outstanding) takes.state ∙ out_all viewing s p takes.items event at takes.ends

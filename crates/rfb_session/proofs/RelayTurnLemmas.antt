@@ -17,8 +17,8 @@ use Rattle.rfb_session.specs.Share.{screen_of, seat_in, viewer_of}
 use Rattle.rfb_session.specs.ShareAsking.{HasAskedIn, SomeAsked}
 use Rattle.rfb_session.specs.relay.Calls.{Asks as AsksNow}
 use Rattle.rfb_session.specs.relay.Desk.{whole_of}
-use Rattle.rfb_session.specs.relay.History.{Sent, Ask, all_bytes, IsInOrder, IsComing}
-use Rattle.rfb_session.specs.relay.History.{IsShowing, HasGone, Asks, NotAsked, AskedOnce, SomeWait}
+use Rattle.rfb_session.specs.relay.History.{IsComing, IsShowing, HasGone, Asks, NotAsked, AskedOnce, SomeWait}
+use Rattle.rfb_session.specs.relay.Sent.{Sent, Ask, all_bytes, IsInOrder}
 use Rattle.rfb_session.specs.relay.Presence.{is_gone, is_shown}
 use Rattle.rfb_session.specs.relay.Relay.{TurnsRelay}
 use Rattle.rfb_session.specs.relay.Server.{planned_for}
@@ -77,7 +77,7 @@ module _ {S : Type 0} where
 
     pub turned_coming : (sent : List Sent) (viewer : Viewer) (s : ViewerState) (prefix : List ℕ) →
         IsComing old viewer → StandsFor (viewing_by old.given.viewer) viewer s prefix →
-        IsInOrder old.console.rules.view_only false s.point sent → Asks old [] new × Waits old sent [] new
+        IsInOrder old.console.rules.view_only false s.point s.outstanding sent → Asks old [] new × Waits old sent [] new
     turned_coming sent viewer s prefix here stood order = (
       NotAsked refl (λ now_seen there waits. absurd (hidden_not new.presence
           (turns.presence
@@ -96,7 +96,7 @@ module _ {S : Type 0} where
           coming = turns.coming ∙ here.coming;
         };
         stands = stood;
-        order = subst (λ (l : List Sent). IsInOrder old.console.rules.view_only false s.point l)
+        order = subst (λ (l : List Sent). IsInOrder old.console.rules.view_only false s.point s.outstanding l)
             (sym (append-nil sent)) order;
       },
     )
@@ -116,12 +116,12 @@ module _ {S : Type 0} where
 
     module _ (sent : List Sent) (viewer : Viewer) (s : ViewerState) (prefix : List ℕ) (here : IsShowing old viewer)
         (going : old.console.outcome ≡ None) (stood : StandsFor (viewing_by old.given.viewer) viewer s prefix)
-        (order : IsInOrder old.console.rules.view_only true s.point sent) where
+        (order : IsInOrder old.console.rules.view_only true s.point s.outstanding sent) where
       abbrev viewing : Viewing
       viewing = viewing_by old.given.viewer
 
       at : IsPast s.point
-      at = shown_past old.console.rules.view_only s.point sent order
+      at = shown_past old.console.rules.view_only s.point s.outstanding sent order
 
       up : is_shown old.presence ≡ true
       up = ap (λ (p : Presence). is_shown p) here.presence
@@ -160,8 +160,8 @@ module _ {S : Type 0} where
           prefix = prefix;
           here = showing viewer d is seen;
           stands = stood;
-          order = order_does old.console.rules.view_only s.point s.point at.point at.point sent [] at.at_is at.at_is
-              refl refl tt order;
+          order = order_does old.console.rules.view_only s.point s.point at.point at.point s.outstanding s.outstanding
+              sent [] at.at_is at.at_is refl refl tt refl order;
         },
       )
 
@@ -187,8 +187,8 @@ module _ {S : Type 0} where
               prefix = prefix;
               here = showing w d is seen;
               stands = stands;
-              order = order_does old.console.rules.view_only s.point s.point at.point at.point sent more at.at_is
-                  at.at_is refl refl (refl, size.0, size.1, tt) order;
+              order = order_does old.console.rules.view_only s.point s.point at.point at.point s.outstanding true sent
+                  more at.at_is at.at_is refl refl (refl, size.0, size.1, quiet, tt) refl order;
             },
           )
 

@@ -6,4 +6,5 @@ pub mod Calls
 pub mod Doors
 pub mod Server
 pub mod Relay
+pub mod Sent
 pub mod History

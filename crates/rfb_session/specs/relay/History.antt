@@ -1,24 +1,17 @@
 -- What goes from a relay to its server over all that happens since that was called: the answers of its viewer,
 -- requests for updates, and what the relay's viewers do. Each is sent once, in the order in which they came.
-use Rattle.std.specs.Prelude.{◌≡◌, ◌⊎◌, ◌<◌, ℕ, Bool, true, false, ◌||◌, not, List, [], ◌∷◌, ◌++◌, length, take, drop}
+use Rattle.std.specs.Prelude.{◌≡◌, ◌⊎◌, ℕ, Bool, true, false, ◌||◌, not, List, [], ◌∷◌, ◌++◌, length, take, drop}
 use Rattle.std.specs.Prelude.{Option, Some, None}
 use Rattle.rfb_hello.specs.declared.fed.Fed.{Fed}
-use Rattle.rfb_picture.specs.Rect.{rect}
-use Rattle.rfb_wire.specs.stream.Sequel.{First, Second}
-use Rattle.rfb_codec.specs.UpdateStream.{UpdatePoint}
 use Rattle.rfb_viewer.specs.declared.event.ViewerEvent.{ViewerEvent}
-use Rattle.rfb_viewer.specs.declared.event.ViewerEvent.TheVariants as Said
 use Rattle.rfb_viewer.specs.declared.viewer.Viewer.{Viewer}
-use Rattle.rfb_viewer.specs.Messages.{request_message}
-use Rattle.rfb_viewer.specs.ServerBytes.{ServerAt}
 use Rattle.rfb_viewer.specs.Standing.{StandsFor}
-use Rattle.rfb_viewer.specs.Viewer.{Viewing, ViewerState}
+use Rattle.rfb_viewer.specs.Viewer.{ViewerState}
 use Rattle.rfb_session.specs.declared.console.Console.{Console}
 use Rattle.rfb_session.specs.declared.console.desk.Desk.{Desk}
 use Rattle.rfb_session.specs.declared.relay.Relay.{Relay}
 use Rattle.rfb_session.specs.declared.relay.presence.Presence.TheVariants.{Coming, Shown}
 use Rattle.rfb_session.specs.declared.share.event.SeatEvent.{SeatEvent}
-use Rattle.rfb_session.specs.declared.share.event.SeatEvent.TheVariants.{Ready, Key, Pointer, CutText}
 use Rattle.rfb_session.specs.doors.Events.{Received, Ended, Failed, Wrote, Turned, left}
 use Rattle.rfb_session.specs.doors.Tenants.{Happening, Told, Opened, Declined, events_in, Goes}
 use Rattle.rfb_session.specs.Mirrors.{TakesBytes}
@@ -26,97 +19,11 @@ use Rattle.rfb_session.specs.Share.{viewer_of}
 use Rattle.rfb_session.specs.ShareAsking.{SomeAsked}
 use Rattle.rfb_session.specs.console.Console.{HearsBytes}
 use Rattle.rfb_session.specs.console.History.{left_in}
-use Rattle.rfb_session.specs.relay.Calls.{passed}
 use Rattle.rfb_session.specs.relay.Presence.{is_gone, is_shown}
 use Rattle.rfb_session.specs.relay.Relay.{AtDoor, RelaySteps, OpensRelay, DeclinesRelay}
 use Rattle.rfb_session.specs.relay.Setup.{viewing_by}
-
--- ---- what is sent
-
--- an answer of the handshake; a request for the whole screen of this size, RFC 6143 section 7.5.3, or for what has
--- changed of it; what the viewer of a seat did, sections 7.5.4 to 7.5.6
-pub data Sent : Type 0 where
-  Answer : (bytes : List ℕ) → Sent
-  Ask : (incremental : Bool) → (width height : ℕ) → Sent
-  Pass : (seat : ℕ) → (event : SeatEvent) → Sent
-
--- the bytes of a message, if there is one
-abbrev pub bytes_in : Option (List ℕ) → List ℕ
-bytes_in None = []
-bytes_in (Some message) = message
-
-abbrev pub bytes_of : Sent → List ℕ
-bytes_of (Answer bytes) = bytes
-bytes_of (Ask incremental width height) = request_message incremental (rect 0 0 width height)
-bytes_of (Pass seat event) = bytes_in (passed false (Some event))
-
--- those of all, one after the other
-abbrev pub all_bytes : List Sent → List ℕ
-all_bytes [] = []
-all_bytes (one ∷ more) = bytes_of one ++ all_bytes more
-
--- what was sent by several things
-abbrev pub all_sent : List (List Sent) → List Sent
-all_sent [] = []
-all_sent (sent ∷ more) = sent ++ all_sent more
-
--- to what a server's viewer reports before its picture is shown: its answer, and after the last of these a request
--- for the whole screen
-abbrev pub answers_to : Option ViewerEvent → List Sent
-answers_to None = []
-answers_to (Some (Said.Reply reply)) = Answer reply.items ∷ []
-answers_to (Some (Said.Ready reply width height name name_length)) =
-    Answer reply.items ∷ Ask false width height ∷ []
-answers_to (Some Said.UpdateDone) = []
-answers_to (Some Said.Bell) = []
-answers_to (Some (Said.CutText kept text_length)) = []
-answers_to (Some Said.ColourMapSkipped) = []
-
--- of what the viewer of a seat did: a key, a pointer or a text, unless viewers are muted
-abbrev pub passes_of : Bool → ℕ → Option SeatEvent → List Sent
-passes_of muted k None = []
-passes_of muted k (Some (Ready shared)) = []
-passes_of true k (Some (Key down key)) = []
-passes_of false k (Some (Key down key)) = Pass k (Key down key) ∷ []
-passes_of true k (Some (Pointer buttons x y)) = []
-passes_of false k (Some (Pointer buttons x y)) = Pass k (Pointer buttons x y) ∷ []
-passes_of true k (Some (CutText kept text_length)) = []
-passes_of false k (Some (CutText kept text_length)) = Pass k (CutText kept text_length) ∷ []
-
--- ---- in which order
-
--- answers alone
-abbrev pub AreAnswers : List Sent → Type 0
-AreAnswers [] = Unit {0}
-AreAnswers (Answer bytes ∷ more) = AreAnswers more
-AreAnswers (Ask incremental width height ∷ more) = ⊥
-AreAnswers (Pass seat event ∷ more) = ⊥
-
--- requests for what has changed of a screen, and what viewers did, unless they only view
-abbrev pub AreDoings : Bool → UpdatePoint → List Sent → Type 0
-AreDoings view_only p [] = Unit {0}
-AreDoings view_only p (Answer bytes ∷ more) = ⊥
-AreDoings view_only p (Ask incremental width height ∷ more) =
-    (incremental ≡ true) × (width ≡ p.width) × (height ≡ p.height) × AreDoings view_only p more
-AreDoings view_only p (Pass seat event ∷ more) = (view_only ≡ false) × AreDoings view_only p more
-
--- the answers of a handshake; once it is done, on a screen that has a place, a request for the whole of it after
--- them; and once the picture is shown, doings after that
-abbrev pub IsInOrder : Bool → Bool → ServerAt → List Sent → Type 0
-IsInOrder view_only true (First point) sent = ⊥
-IsInOrder view_only false (First point) sent = AreAnswers sent
-IsInOrder view_only false (Second p) sent =
-    (answers : List Sent) × AreAnswers answers × (sent ≡ answers ++ Ask false p.width p.height ∷ [])
-    × (0 < p.width) × (0 < p.height)
-IsInOrder view_only true (Second p) sent =
-    (answers : List Sent) × (doings : List Sent) × AreAnswers answers × AreDoings view_only p doings
-    × (sent ≡ answers ++ Ask false p.width p.height ∷ doings) × (0 < p.width) × (0 < p.height)
-
--- a request is outstanding at a viewer, or none is
-abbrev pub HasOut : Viewer → Bool → Type 0
-HasOut viewer out =
-    (viewing : Viewing) (s : ViewerState) (prefix : List ℕ) → StandsFor viewing viewer s prefix →
-    s.outstanding ≡ out
+use Rattle.rfb_session.specs.relay.Sent.{Sent, Ask, all_bytes, all_sent, answers_to, updates_in, passes_of}
+use Rattle.rfb_session.specs.relay.Sent.{IsInOrder, HasOut}
 
 module _ {S : Type 0} where
   -- ---- what happens
@@ -152,21 +59,23 @@ module _ {S : Type 0} where
 
   -- ---- what one thing sends
 
-  -- its server's viewer reported this of bytes that came, before its picture is shown
-  pub record Says (old : Relay S) (part : List ℕ) (event : Option ViewerEvent) : Type 0 where
+  -- its server's viewer reported this of bytes that came, before its picture is shown or after that
+  pub record Says (old : Relay S) (shown : Bool) (part : List ℕ) (event : Option ViewerEvent) : Type 0 where
     pub was : Viewer
     pub now : Viewer
-    pub is_there : old.coming ≡ Some was
+    pub here : HasViewer old was shown
     pub bytes : List ℕ
     pub fed : Fed ViewerEvent
     pub takes : TakesBytes was bytes fed now
     pub part_is : part ≡ take fed.used bytes
     pub event_is : fed.event ≡ event
 
-  -- that is answered; and nothing once its picture is shown
+  -- before that it is answered, and after it a whole update is marked
   pub data Answers (old : Relay S) (part : List ℕ) (sent : List Sent) : Type 0 where
-    Comes : (event : Option ViewerEvent) → Says old part event → sent ≡ answers_to event → Answers old part sent
-    IsShown : old.coming ≡ None → sent ≡ [] → Answers old part sent
+    Comes : (event : Option ViewerEvent) → Says old false part event → sent ≡ answers_to event →
+        Answers old part sent
+    IsShown : (event : Option ViewerEvent) → Says old true part event → sent ≡ updates_in event →
+        Answers old part sent
 
   -- the session of a seat reported this of bytes that came from its viewer
   pub record Reports (old : Relay S) (k : ℕ) (part : List ℕ) (event : Option SeatEvent) : Type 0 where
@@ -220,7 +129,7 @@ module _ {S : Type 0} where
     pub state : ViewerState
     pub prefix : List ℕ
     pub stands : StandsFor (viewing_by relay.given.viewer) viewer state prefix
-    pub order : IsInOrder relay.console.rules.view_only shown state.point sent
+    pub order : IsInOrder relay.console.rules.view_only shown state.point state.outstanding sent
 
   -- the server has gone away, and nothing waits for it
   pub record HasGone (relay : Relay S) : Type 0 where

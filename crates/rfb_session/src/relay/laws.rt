@@ -7,16 +7,18 @@ ghost use Rattle.rfb_session.specs.declared.relay.Relay.{Relay as ARelay};
 ghost use Rattle.rfb_session.specs.declared.relay.setup.RelaySetup.{RelaySetup};
 ghost use Rattle.rfb_session.specs.doors.Events.{left};
 ghost use Rattle.rfb_session.specs.doors.Tenants.{Happening, IsKept, events_in};
-ghost use Rattle.rfb_session.specs.relay.History.{Sent, Happens, Lasts, HasSent, HasGone, SendsAll};
+ghost use Rattle.rfb_session.specs.relay.History.{Happens, Lasts, HasSent, HasGone, SendsAll};
 ghost use Rattle.rfb_session.specs.relay.Presence.{is_gone};
 ghost use Rattle.rfb_session.specs.relay.Relay.{OpensRelay};
+ghost use Rattle.rfb_session.specs.relay.Sent.{Sent};
 ghost use Rattle.rfb_session.specs.relay.Server.{IsFreshRelay};
 
 /// What left for a server since it was called, and what waits for it, is each once and in order:
 /// the answers of its handshake, a request for its whole screen, and once its first update is whole
-/// requests for what has changed and what the viewers do, as it comes. Nothing else is, and nothing
-/// that viewers do where they only view. Once it has gone, also where all ends with that, what
-/// waited is forgotten. Nothing leaves before it is called again; then all this begins anew.
+/// what the viewers do, as it comes, and requests for what has changed, each after the update that
+/// answers the one before. Nothing else is, and nothing that viewers do where they only view. Once
+/// it has gone, also where all ends with that, what waited is forgotten. Nothing leaves before it
+/// is called again; then all this begins anew.
 pub fn what_is_sent_leaves_once_and_in_order<S: Drop>()
     ensures begins { (setup : RelaySetup) (relay : ARelay S) → IsFreshRelay setup relay →
         HasSent relay [] × (relay.to_server ≡ []) }
