@@ -8,7 +8,7 @@ use Rattle.rfb.specs.declared.options.BadValue.{BadValue}
 use Rattle.rfb.specs.declared.options.address.Address.{Address}
 use Rattle.rfb.specs.Address.{GivesServer, HasNoColon, IsAddress, NamesPort}
 use Rattle.rfb.specs.command.Values.{MayGiveNumber}
-use Rattle.rfb.specs.command.Looking.{GivesAddress, HasBadAddress}
+use Rattle.rfb.specs.command.ViewWords.{GivesAddress, HasBadAddress}
 
 -- a word is parted by its first colon in one way
 pub no_address : (word named after : Text) → word ≡ named ++ 58 ∷ after → HasNoColon named →

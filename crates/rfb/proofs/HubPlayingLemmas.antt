@@ -29,8 +29,8 @@ use Rattle.rfb.specs.declared.script.hub.hub_step.HubStep.TheVariants.{Event}
 use Rattle.rfb_session.specs.declared.language.screen.Screen.{Screen as Size}
 use Rattle.rfb.specs.CommandLine.{HubPlayedTo, ShowsSlotTo}
 use Rattle.rfb.specs.Few.{HasFewInHub}
-use Rattle.rfb.specs.HubPlaying.{LeadsHub, RunsTelling, TellsLine, deliveries_in, ended_with, hub_events, hub_events_of}
-use Rattle.rfb.specs.HubPlaying.{or_refusal, refusal_with}
+use Rattle.rfb.specs.HubRun.{LeadsHub, RunsTelling, TellsLine, deliveries_in, ended_with, hub_events, hub_events_of}
+use Rattle.rfb.specs.HubRun.{or_refusal, refusal_with}
 
 -- ---- the premise of an event
 

@@ -13,7 +13,7 @@ use Rattle.rfb.specs.declared.fault.Failure.TheVariants.{BadLine, Fault, Engine,
 use Rattle.rfb.specs.declared.script.hub.hub_step.HubNumbered.{HubNumbered}
 use Rattle.rfb_session.specs.declared.language.screen.Screen.{Screen as Size}
 use Rattle.rfb.specs.CommandLine.{FailsAtAny, HubPlayedTo, LeavesScript, PlaysAny, PlaysScript}
-use Rattle.rfb.specs.HubPlaying.{hub_events}
+use Rattle.rfb.specs.HubRun.{hub_events}
 use Rattle.rfb.specs.HubScript.{AreHubScript, BeginHub, StopsReadingAny, StopsReadingHub}
 use Rattle.rfb.specs.Script.{StopsReading, lines_of}
 

@@ -9,7 +9,7 @@ use Rattle.rfb_session.specs.InFlight.{AreMade}
 use Rattle.rfb.specs.declared.script.line.Numbered.{Numbered}
 use Rattle.rfb_session.specs.declared.language.screen.Screen.{Screen as Size}
 use Rattle.rfb.specs.declared.script.line.Wants.{Wants}
-use Rattle.rfb.specs.Playing.{encodings_of, ends_of, format_of}
+use Rattle.rfb.specs.ScriptRun.{encodings_of, ends_of, format_of}
 use Rattle.rfb.specs.Script.{AreScript, AskForAll}
 use Rattle.rfb_session.specs.language.Words.{IsFormatWord, name_of}
 

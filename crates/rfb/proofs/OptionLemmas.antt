@@ -14,7 +14,7 @@ use Rattle.rfb.specs.declared.options.WrongWords.TheVariants.{Words, Value}
 use Rattle.arrayvec.specs.ArrayVec.{ArrayVec}
 use Rattle.rfb_wire.specs.declared.encoding.Encoding.{Encoding}
 use Rattle.rfb.specs.command.Values.{GivesOr, IsAbsent, IsFlagged, IsThere}
-use Rattle.rfb.specs.command.Serving.{CountsConnections, GivesConnections, HasBadConnections}
+use Rattle.rfb.specs.command.ServeWords.{CountsConnections, GivesConnections, HasBadConnections}
 use Rattle.rfb.specs.command.Program.{asked, program}
 use Rattle.rfb.specs.command.Values.{GivesFormat, HasBadFormat, NamesFormat}
 use Rattle.rfb.specs.command.Values.{GivesEncodings, HasBadEncodings, NamesEncodings}

@@ -28,8 +28,8 @@ use Rattle.rfb_session.specs.declared.language.screen.Screen.{Screen as Size}
 use Rattle.rfb.specs.declared.script.line.Wants.{Wants}
 use Rattle.rfb.specs.declared.script.line.Step.TheVariants.{Event as OneEvent}
 use Rattle.rfb.specs.Few.{HasFew}
-use Rattle.rfb.specs.Playing.{IsPlayed, StandsFresh, TakesStep, all_events, deliveries, encodings_of, ends_of}
-use Rattle.rfb.specs.Playing.{events_of, first_of, format_of}
+use Rattle.rfb.specs.ScriptRun.{IsPlayed, StandsFresh, TakesStep, all_events, deliveries, encodings_of, ends_of}
+use Rattle.rfb.specs.ScriptRun.{events_of, first_of, format_of}
 
 -- the premise of an event
 pub has_few : (event : Event) → HasFew (OneEvent event) → HasFewBytes event

@@ -4,13 +4,13 @@ use Rattle.rfb_session.specs.declared.console.Outcome.{Outcome}
 use Rattle.rfb_session.specs.declared.relay.Relay.{Relay}
 use Rattle.rfb_session.specs.doors.Tenants.{Goes, Happening}
 use Rattle.rfb_session.specs.relay.Relay.{DeclinesRelay, OpensRelay, RelaySteps}
-use Rattle.rfb.specs.Ending.{EndsWell, FailsFor, IsNoEnd}
+use Rattle.rfb.specs.Ends.{EndsWell, FailsFor, IsNoEnd}
 use Rattle.rfb.specs.declared.fault.Failure.{Failure}
 use Rattle.rfb.specs.declared.fault.Failure.TheVariants as failures
 use Rattle.rfb.specs.declared.fault.Fault.TheVariants.{NoMemory}
 use Rattle.rfb.specs.declared.relaying.relay_words.RelayOptions.{RelayOptions}
 use Rattle.rfb.specs.declared.sharing.speaker.Reporter.{Reporter}
-use Rattle.rfb.specs.Relaying.{FailsToRelay, IsRelayOf, LeavesRelay, Relays, RelaysUntil}
+use Rattle.rfb.specs.Relay.{FailsToRelay, IsRelayOf, LeavesRelay, Relays, RelaysUntil}
 
 -- what happened to it, and that nothing else did
 pub until : (options : RelayOptions) (old new : Relay Reporter) (outcome : Option Outcome)

@@ -18,7 +18,7 @@ use Rattle.rfb_session.proofs.ServeLaws.{begun_after}
 use Rattle.rfb_session.proofs.WrittenLaws.{no_beginning, whole_beginning}
 use Rattle.rfb_session.specs.declared.language.screen.Screen.{Screen as Size}
 use Rattle.rfb.specs.declared.serving.screen.ServedScreen.{ServedScreen}
-use Rattle.rfb.specs.Playing.{IsFreshServer, serving_of}
+use Rattle.rfb.specs.ScriptRun.{IsFreshServer, serving_of}
 use Rattle.rfb.specs.Scene.{ShowsScene, pattern}
 use Rattle.rfb.proofs.SceneLemmas.{draws_so}
 use Rattle.std.proofs.Common.{Bor, None, Some, OnErr, Result}
@@ -37,9 +37,9 @@ use Rattle.rfb.specs.declared.serving.serve_words.ScreenChoice.TheVariants.{Scen
 use Rattle.rfb.specs.declared.serving.serve_words.ScreenChoice.TheVariants.{Picture as PictureAsked}
 use Rattle.rfb.specs.declared.serving.serve_words.ServeOptions.{ServeOptions}
 use Rattle.rfb.specs.declared.serving.screen.ServedScreen.TheVariants.{Scene, Picture}
-use Rattle.rfb.specs.Serving.{FailsAs, FailsToRead, FailsToServe, LeavesServed, ServesAsked, ServesSpelled, ServesWith}
-use Rattle.rfb.specs.Serving.{End, ShowsPicture, IsLineOf, IsServedFrom, IsServedSome, ServesAll, ServesFewer, ServesSo}
-use Rattle.rfb.specs.Serving.{StopsEarly, TellsEnds}
+use Rattle.rfb.specs.Service.{FailsAs, FailsToRead, FailsToServe, LeavesServed, ServesAsked, ServesSpelled, ServesWith}
+use Rattle.rfb.specs.Service.{End, ShowsPicture, IsLineOf, IsServedFrom, IsServedSome, ServesAll, ServesFewer, ServesSo}
+use Rattle.rfb.specs.Service.{StopsEarly, TellsEnds}
 
 -- ---- a line
 

@@ -7,8 +7,8 @@ use Rattle.rfb_session.specs.console.History.{Lasts}
 use Rattle.rfb.specs.declared.fault.Failure.{Failure}
 use Rattle.rfb.specs.declared.sharing.share_words.ShareOptions.{ShareOptions}
 use Rattle.rfb.specs.declared.sharing.speaker.Reporter.{Reporter}
-use Rattle.rfb.specs.Ending.{EndsWell, IsNoEnd}
-use Rattle.rfb.specs.Sharing.{IsAsked, Shares, LeavesShare}
+use Rattle.rfb.specs.Ends.{EndsWell, IsNoEnd}
+use Rattle.rfb.specs.Share.{IsAsked, Shares, LeavesShare}
 
 -- it ended well
 pub ended_well : (options : ShareOptions) (old new : Console Reporter) (outcome : Option Outcome)

@@ -14,8 +14,8 @@ use Rattle.rfb.specs.declared.fault.Failure.{Failure}
 use Rattle.rfb.specs.declared.fault.Failure.TheVariants as failure
 use Rattle.rfb.specs.declared.viewing.view_options.Sight.{Sight}
 use Rattle.rfb.specs.Recording.{BeginsPicture, EndsShown, ShowsEnd, WritesPicture, shows_end}
-use Rattle.rfb.specs.Viewing.{FailsToView, IsMadeFor, LeavesSomeView, LeavesView, Saw, ShowsView, StopsSeeing}
-use Rattle.rfb.specs.Viewing.{StopsView, Views}
+use Rattle.rfb.specs.View.{FailsToView, IsMadeFor, LeavesSomeView, LeavesView, Saw, ShowsView, StopsSeeing}
+use Rattle.rfb.specs.View.{StopsView, Views}
 
 -- ---- what is kept, where it is and where it is not
 

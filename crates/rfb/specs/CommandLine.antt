@@ -12,8 +12,8 @@ use Rattle.rfb.specs.declared.script.line.Numbered.{Numbered}
 use Rattle.rfb_session.specs.declared.language.screen.Screen.{Screen as Size}
 use Rattle.rfb.specs.declared.script.line.Wants.{Wants}
 use Rattle.rfb.specs.declared.script.hub.hub_step.HubNumbered.{HubNumbered}
-use Rattle.rfb.specs.Playing.{IsPlayed}
-use Rattle.rfb.specs.HubPlaying.{hub_events}
+use Rattle.rfb.specs.ScriptRun.{IsPlayed}
+use Rattle.rfb.specs.HubRun.{hub_events}
 use Rattle.rfb.specs.HubScript.{AreHubScript, StopsReadingAny}
 use Rattle.rfb_session.specs.declared.hub.Hub.{Hub}
 use Rattle.rfb_session.specs.Hub.{shown_in}
@@ -29,10 +29,10 @@ use Rattle.rfb.specs.declared.commands.Task.TheVariants.{Script, Loop, Play, Ser
 use Rattle.rfb.specs.Loopback.{LeavesSomePicture, PlaysSomeScript}
 use Rattle.rfb.specs.Options.{AreOrdered}
 use Rattle.rfb.specs.Recording.{LeavesRecording, PlaysRecording}
-use Rattle.rfb.specs.Relaying.{LeavesRelay, Relays}
-use Rattle.rfb.specs.Serving.{LeavesServed, ServesAsked}
-use Rattle.rfb.specs.Sharing.{LeavesShare, Shares}
-use Rattle.rfb.specs.Viewing.{FailsSomehow, LeavesSomeView, ViewsSome}
+use Rattle.rfb.specs.Relay.{LeavesRelay, Relays}
+use Rattle.rfb.specs.Service.{LeavesServed, ServesAsked}
+use Rattle.rfb.specs.Share.{LeavesShare, Shares}
+use Rattle.rfb.specs.View.{FailsSomehow, LeavesSomeView, ViewsSome}
 
 -- ---- a script
 

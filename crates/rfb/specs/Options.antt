@@ -16,9 +16,9 @@ use Rattle.rfb.specs.declared.commands.Verb.{Verb}
 use Rattle.rfb.specs.command.Program.{program, asked, name_of}
 use Rattle.rfb.specs.command.Values.{GivesFormat, HasBadFormat, GivesNumber, MayGiveNumber, IsFlagged, GivesFiles}
 use Rattle.rfb.specs.command.Values.{NamesHost, NamesWord}
-use Rattle.rfb.specs.command.Serving.{GivesServeOptions, HasBadServe}
-use Rattle.rfb.specs.command.Looking.{GivesViewOptions, HasBadView}
-use Rattle.rfb.specs.command.Relaying.{GivesRelayOptions, HasBadRelay}
+use Rattle.rfb.specs.command.ServeWords.{GivesServeOptions, HasBadServe}
+use Rattle.rfb.specs.command.ViewWords.{GivesViewOptions, HasBadView}
+use Rattle.rfb.specs.command.RelayWords.{GivesRelayOptions, HasBadRelay}
 
 -- what `share` is asked for
 pub record GivesShareOptions (rows : List Row) (options : ShareOptions) : Type 0 where

@@ -11,7 +11,7 @@ use Rattle.rfb_server.specs.Hints.{with_hint}
 use Rattle.rfb_server.specs.Server.{black, first_server}
 use Rattle.rfb_server.specs.Standing.{StandsFor, with_screen}
 use Rattle.rfb_session.specs.declared.language.screen.Screen.{Screen as Size}
-use Rattle.rfb.specs.Playing.{serving_of}
+use Rattle.rfb.specs.ScriptRun.{serving_of}
 
 -- ---- the first screen
 

@@ -3,6 +3,6 @@ pub mod Rules
 pub mod Usage
 pub mod Program
 pub mod Values
-pub mod Serving
-pub mod Looking
-pub mod Relaying
+pub mod ServeWords
+pub mod ViewWords
+pub mod RelayWords

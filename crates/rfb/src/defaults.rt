@@ -4,7 +4,7 @@ ghost use Rattle.std.specs.Prelude.{◌≡◌, ◌∷◌, [], true, IfOk};
 ghost use Rattle.rfb_hello.specs.declared.version.Version.TheVariants.{V38};
 ghost use Rattle.rfb_wire.specs.declared.encoding.Encoding.TheVariants.{CopyRect, Hextile};
 ghost use Rattle.rfb_wire.specs.declared.encoding.Encoding.TheVariants.{Raw, Rre};
-ghost use Rattle.rfb.specs.Playing.{IsFreshServer};
+ghost use Rattle.rfb.specs.ScriptRun.{IsFreshServer};
 ghost use Rattle.rfb.specs.Recording.{IsFresh};
 
 use arrayvec::ArrayVec;

@@ -6,7 +6,7 @@
 
 ghost use Rattle.std.specs.Prelude.{OnOk, OnErr, IfErr};
 ghost use Rattle.rfb.specs.Context.{KeepsStreams};
-ghost use Rattle.rfb.specs.Relaying.{FailsToRelay, IsRelayOf, LeavesRelay, Relays};
+ghost use Rattle.rfb.specs.Relay.{FailsToRelay, IsRelayOf, LeavesRelay, Relays};
 
 mod relay_words;
 mod setup;

@@ -6,9 +6,9 @@ ghost use Rattle.std.specs.Io.KnownBytes.{Appends};
 ghost use Rattle.rfb_session.specs.declared.netpbm.fault.Flaw.{Flaw};
 ghost use Rattle.rfb_session.specs.Devices.{AppendsBeginning};
 ghost use Rattle.rfb.specs.Context.{KeepsStreams};
-ghost use Rattle.rfb.specs.Serving.{IsLineOf, IsServedSome};
-ghost use Rattle.rfb.specs.Serving.{FailsToServe, LeavesServed, ServesAsked, ServesFewer};
-ghost use Rattle.rfb.specs.Serving.{ServesSo, ServesSpelled};
+ghost use Rattle.rfb.specs.Service.{IsLineOf, IsServedSome};
+ghost use Rattle.rfb.specs.Service.{FailsToServe, LeavesServed, ServesAsked, ServesFewer};
+ghost use Rattle.rfb.specs.Service.{ServesSo, ServesSpelled};
 ghost use Rattle.rfb.specs.declared.fault.Failure.TheVariants as Failure;
 ghost use Rattle.rfb.specs.declared.fault.Fault.{Fault};
 

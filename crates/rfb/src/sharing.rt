@@ -6,7 +6,7 @@
 
 ghost use Rattle.std.specs.Prelude.{◌≡◌, OnOk, OnErr};
 ghost use Rattle.rfb.specs.Context.{KeepsStreams};
-ghost use Rattle.rfb.specs.Sharing.{IsAsked, LeavesShare, Shares};
+ghost use Rattle.rfb.specs.Share.{IsAsked, LeavesShare, Shares};
 
 pub mod ending;
 mod owner_cause;

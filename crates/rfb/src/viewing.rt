@@ -4,9 +4,9 @@ ghost use Rattle.std.specs.Prelude.{◌≡◌, false, Err, IfOk, IfErr, OnOk, On
 ghost use Rattle.rfb_session.specs.declared.engine.fault.EngineFault.{EngineFault};
 ghost use Rattle.rfb.specs.Context.{KeepsStreams};
 ghost use Rattle.rfb.specs.declared.fault.Failure.TheVariants as Failure;
-ghost use Rattle.rfb.specs.Viewing.{FailsToView, FailsToViewSome, IsMadeFor, Saw, StopsSeeing};
+ghost use Rattle.rfb.specs.View.{FailsToView, FailsToViewSome, IsMadeFor, Saw, StopsSeeing};
 ghost use Rattle.rfb.specs.Recording.{shows_end};
-ghost use Rattle.rfb.specs.Viewing.{LeavesSomeView, LeavesView, Views, ViewsSome};
+ghost use Rattle.rfb.specs.View.{LeavesSomeView, LeavesView, Views, ViewsSome};
 
 mod view_options;
 mod view_words;

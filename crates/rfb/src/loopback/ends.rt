@@ -4,7 +4,7 @@ ghost use Rattle.std.specs.Prelude.{◌≡◌, ◌≤◌, [], min, length, take,
 ghost use Rattle.rfb_hello.specs.Version.{version_text};
 ghost use Rattle.rfb_hello.specs.declared.version.Version.TheVariants.{V38};
 ghost use Rattle.rfb.specs.Few.{cut_by};
-ghost use Rattle.rfb.specs.Playing.{IsFreshServer, encodings_of, format_of};
+ghost use Rattle.rfb.specs.ScriptRun.{IsFreshServer, encodings_of, format_of};
 ghost use Rattle.rfb.specs.Recording.{IsFresh};
 
 use crate::defaults::{copy_of, fresh_server, fresh_viewer};

@@ -4,8 +4,8 @@ ghost use Rattle.std.specs.Prelude.{codes, ℕ, List, option_map, MatchOption, M
 ghost use Rattle.clap.specs.Words.{found_of, rows_of};
 ghost use Rattle.rfb.specs.Address.{GivesServer, IsAddress, NamesDisplay, NamesPort, OrLoopback};
 ghost use Rattle.rfb.specs.command.Values.{MayGiveNumber};
-ghost use Rattle.rfb.specs.command.Looking.{GivesAddress, HasBadAddress};
-ghost use Rattle.rfb.specs.command.Relaying.{GivesServerAlone, HasNoServer};
+ghost use Rattle.rfb.specs.command.ViewWords.{GivesAddress, HasBadAddress};
+ghost use Rattle.rfb.specs.command.RelayWords.{GivesServerAlone, HasNoServer};
 
 use crate::options::BadValue;
 use crate::options::given::{number_given, within, word_in};

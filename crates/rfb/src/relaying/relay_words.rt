@@ -2,8 +2,8 @@
 
 ghost use Rattle.std.specs.Prelude.{◌≡◌, codes, option_map, MatchResult};
 ghost use Rattle.clap.specs.Words.{first_of, found_of, rows_of};
-ghost use Rattle.rfb.specs.command.Relaying.{GivesRelayOptions, GivesWants, HasBadRelay};
-ghost use Rattle.rfb.specs.command.Relaying.{HasBadWants};
+ghost use Rattle.rfb.specs.command.RelayWords.{GivesRelayOptions, GivesWants, HasBadRelay};
+ghost use Rattle.rfb.specs.command.RelayWords.{HasBadWants};
 
 use crate::defaults::all_encodings;
 use crate::help::Topic;

@@ -1,7 +1,7 @@
 //! What a relay is made with.
 
 ghost use Rattle.std.specs.Prelude.{◌≡◌, option_map, take};
-ghost use Rattle.rfb.specs.Relaying.{IsSetupOf};
+ghost use Rattle.rfb.specs.Relay.{IsSetupOf};
 
 use crate::defaults::viewer_setup;
 use crate::relaying::RelayOptions;

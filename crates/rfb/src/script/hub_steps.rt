@@ -9,9 +9,9 @@ ghost use Rattle.rfb_session.specs.Hub.{HasFewHubBytes, HubStands, IsEmptyHub, s
 ghost use Rattle.rfb_session.specs.HubSteps.{HubSteps};
 ghost use Rattle.rfb_session.specs.declared.hub.event.HubEvent.TheVariants as HubEvent;
 ghost use Rattle.rfb.specs.Few.{HasFewInHub};
-ghost use Rattle.rfb.specs.HubPlaying.{LeadsHub, TellsLine, deliveries_in, hub_events_of};
-ghost use Rattle.rfb.specs.HubPlaying.{or_refusal};
-ghost use Rattle.rfb.specs.Playing.{name};
+ghost use Rattle.rfb.specs.HubRun.{LeadsHub, TellsLine, deliveries_in, hub_events_of};
+ghost use Rattle.rfb.specs.HubRun.{or_refusal};
+ghost use Rattle.rfb.specs.ScriptRun.{name};
 ghost use Rattle.rfb.specs.declared.fault.Fault.TheVariants as Fault;
 
 use crate::defaults::TEXT_LIMIT;

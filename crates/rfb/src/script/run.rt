@@ -4,7 +4,7 @@ ghost use Rattle.std.specs.Prelude.{◌≡◌, ◌⊎◌, ℕ, Err, OnOk, OnErr,
 ghost use Rattle.rfb.specs.CommandLine.{FailsAtAny, LeavesPlayed, LeavesScript, PlaysScript};
 ghost use Rattle.rfb.specs.CommandLine.{ShowsTo, WritesPlayed, WritesShown};
 ghost use Rattle.rfb.specs.Context.{KeepsStreams};
-ghost use Rattle.rfb.specs.Playing.{TakesAll, ends_of};
+ghost use Rattle.rfb.specs.ScriptRun.{TakesAll, ends_of};
 ghost use Rattle.rfb_session.specs.Devices.{AppendsBeginning};
 ghost use Rattle.rfb_session.specs.InFlight.{AreMade};
 ghost use Rattle.rfb.specs.declared.fault.Failure.TheVariants as Failure;

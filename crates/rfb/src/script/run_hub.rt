@@ -5,7 +5,7 @@ ghost use Rattle.std.specs.Io.KnownBytes.{Appends};
 ghost use Rattle.rfb_session.specs.Devices.{AppendsBeginning};
 ghost use Rattle.rfb.specs.CommandLine.{HubPlayedTo, ShowsSlotTo};
 ghost use Rattle.rfb.specs.Context.{KeepsStreams};
-ghost use Rattle.rfb.specs.HubPlaying.{LeadsHub, hub_events};
+ghost use Rattle.rfb.specs.HubRun.{LeadsHub, hub_events};
 
 use crate::context::Context;
 use crate::fault::Fault;

@@ -1,8 +1,8 @@
 //! One connection, served by a fresh server.
 
 ghost use Rattle.std.specs.Prelude.{◌≡◌};
-ghost use Rattle.rfb.specs.Playing.{IsFreshServer};
-ghost use Rattle.rfb.specs.Serving.{IsServed, IsServedFrom};
+ghost use Rattle.rfb.specs.ScriptRun.{IsFreshServer};
+ghost use Rattle.rfb.specs.Service.{IsServed, IsServedFrom};
 ghost use Rattle.rfb.specs.declared.serving.screen.ServedScreen.TheVariants as ServedScreen;
 
 use crate::defaults::fresh_server;

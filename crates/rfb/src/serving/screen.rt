@@ -2,7 +2,7 @@
 
 ghost use Rattle.std.specs.Prelude.{List, Option, ℕ, IfOk, IfErr};
 ghost use Rattle.rfb_session.specs.netpbm.File.{SpellsKnown, picture_of};
-ghost use Rattle.rfb.specs.Serving.{FailsAs, FailsToRead, FailsToServe};
+ghost use Rattle.rfb.specs.Service.{FailsAs, FailsToRead, FailsToServe};
 
 use crate::explain::{tell_unread, tell_unshown};
 use crate::fault::{Failure, Fault};

@@ -3,8 +3,8 @@
 ghost use Rattle.std.specs.Prelude.{◌≡◌, codes, None, Some, MatchResult};
 ghost use Rattle.clap.specs.Words.{first_of, found_of, rows_of};
 ghost use Rattle.rfb.specs.command.Values.{GivesOr, NamesHost};
-ghost use Rattle.rfb.specs.command.Serving.{GivesConnections, GivesScreen, GivesServeOptions};
-ghost use Rattle.rfb.specs.command.Serving.{HasBadConnections, HasBadScreen, HasBadServe};
+ghost use Rattle.rfb.specs.command.ServeWords.{GivesConnections, GivesScreen, GivesServeOptions};
+ghost use Rattle.rfb.specs.command.ServeWords.{HasBadConnections, HasBadScreen, HasBadServe};
 
 use crate::help::Topic;
 use crate::options::BadValue;

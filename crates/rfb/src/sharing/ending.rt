@@ -1,7 +1,7 @@
 //! How a share or a relay has ended, for the status of its command.
 
 ghost use Rattle.std.specs.Prelude.{◌≡◌, OnOk, OnErr, IfErr};
-ghost use Rattle.rfb.specs.Ending.{EndsWell, IsNoEnd, FailsFor, engine_fault};
+ghost use Rattle.rfb.specs.Ends.{EndsWell, IsNoEnd, FailsFor, engine_fault};
 
 use crate::fault::{Failure, Fault};
 use rfb_session::EngineFault;

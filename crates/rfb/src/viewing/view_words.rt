@@ -3,8 +3,8 @@
 ghost use Rattle.std.specs.Prelude.{◌≤◌, codes, MatchResult};
 ghost use Rattle.clap.specs.Words.{found_of, rows_of};
 ghost use Rattle.rfb.specs.command.Values.{GivesNumber};
-ghost use Rattle.rfb.specs.command.Looking.{GivesViewOptions, GivesSight};
-ghost use Rattle.rfb.specs.command.Looking.{HasBadView, HasBadSight};
+ghost use Rattle.rfb.specs.command.ViewWords.{GivesViewOptions, GivesSight};
+ghost use Rattle.rfb.specs.command.ViewWords.{HasBadView, HasBadSight};
 
 use crate::defaults::only_raw;
 use crate::help::Topic;

@@ -1,7 +1,7 @@
 //! A viewer at work over a connection, and what is told of it.
 
 ghost use Rattle.std.specs.Prelude.{◌≡◌, ◌≤◌, IfOk, IfErr};
-ghost use Rattle.rfb.specs.Viewing.{Saw, StopsSeeing};
+ghost use Rattle.rfb.specs.View.{Saw, StopsSeeing};
 
 use crate::explain::{
     Early, Heard, Hearing, Origin, Shared, Telling, Writing, tell_closed, tell_part, tell_server,

@@ -1,6 +1,6 @@
 use Rattle.std.proofs.Common.{◌≡◌, subst, ℕ, arith}
 use Rattle.rfb_session.proofs.WrittenLaws.{on_err}
-use Rattle.rfb.specs.Serving.{ServesSo}
+use Rattle.rfb.specs.Service.{ServesSo}
 use Rattle.rfb.proofs.ServingLemmas.{serves_fewer, serves_more, serves_none}
 use Rattle.rfb.proofs.serving.serve_on.Goals as goal
 

@@ -1,5 +1,5 @@
 -- There is a line for each connection so far.
-use Rattle.rfb.specs.Serving.{ServesSo}
+use Rattle.rfb.specs.Service.{ServesSo}
 use Rattle.rfb.proofs.serving.serve_on.Given as goal
 
 abbrev pub invariant-loop-connection : goal.invariant-loop-connection

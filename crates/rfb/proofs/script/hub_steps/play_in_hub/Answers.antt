@@ -1,6 +1,6 @@
 use Rattle.std.proofs.Common.{None, OnOk, refl, subst, sym}
 use Rattle.rfb.specs.declared.script.hub.hub_step.HubStep.{HubStep}
-use Rattle.rfb.specs.HubPlaying.{LeadsHub, TellsLine, hub_events_of}
+use Rattle.rfb.specs.HubRun.{LeadsHub, TellsLine, hub_events_of}
 use Rattle.rfb.proofs.HubPlayingLemmas.{leads_one, tells_one}
 use Rattle.rfb.proofs.script.hub_steps.play_in_hub.Goals as goal
 

@@ -1,5 +1,5 @@
 -- The turns so far led to this hub, and their answers are these.
-use Rattle.rfb.specs.HubPlaying.{LeadsHub, TellsLine, deliveries_in}
+use Rattle.rfb.specs.HubRun.{LeadsHub, TellsLine, deliveries_in}
 use Rattle.rfb.proofs.script.hub_steps.settle.Given as goal
 
 abbrev pub invariant-loop-turn : goal.invariant-loop-turn

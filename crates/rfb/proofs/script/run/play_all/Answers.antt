@@ -3,7 +3,7 @@ use Rattle.std.proofs.lemmas.List.{take_all, take_more}
 use Rattle.rfb_session.specs.World.{Reaches}
 use Rattle.rfb_session.proofs.RunLaws.{Any, run_none}
 use Rattle.rfb.specs.declared.script.line.Numbered.{Numbered}
-use Rattle.rfb.specs.Playing.{all_events}
+use Rattle.rfb.specs.ScriptRun.{all_events}
 use Rattle.rfb.proofs.PlayingLemmas.{step_more}
 use Rattle.rfb.proofs.script.run.play_all.Goals as goal
 

@@ -2,7 +2,7 @@
 use Rattle.std.proofs.Common.{take}
 use Rattle.rfb_session.specs.World.{Reaches}
 use Rattle.rfb_session.proofs.RunLaws.{Any}
-use Rattle.rfb.specs.Playing.{all_events}
+use Rattle.rfb.specs.ScriptRun.{all_events}
 use Rattle.rfb.proofs.script.run.play_all.Given as goal
 
 abbrev pub invariant-loop-numbered : goal.invariant-loop-numbered

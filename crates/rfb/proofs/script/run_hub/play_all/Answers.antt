@@ -1,7 +1,7 @@
 use Rattle.std.proofs.Common.{◌≡◌, ◌+◌, ◌∙◌, ◌∷◌, [], ◌++◌, List, ap, subst, sym, take, arith}
 use Rattle.std.proofs.lemmas.List.{take_all, take_more}
 use Rattle.rfb.specs.declared.script.hub.hub_step.HubNumbered.{HubNumbered}
-use Rattle.rfb.specs.HubPlaying.{LeadsHub, hub_events}
+use Rattle.rfb.specs.HubRun.{LeadsHub, hub_events}
 use Rattle.rfb.proofs.HubPlayingLemmas.{hub_step_more, leads_none}
 use Rattle.rfb.proofs.script.run_hub.play_all.Goals as goal
 

@@ -1,6 +1,6 @@
 -- The steps so far led to this hub.
 use Rattle.std.proofs.Common.{take}
-use Rattle.rfb.specs.HubPlaying.{LeadsHub, hub_events}
+use Rattle.rfb.specs.HubRun.{LeadsHub, hub_events}
 use Rattle.rfb.proofs.script.run_hub.play_all.Given as goal
 
 abbrev pub invariant-loop-numbered : goal.invariant-loop-numbered

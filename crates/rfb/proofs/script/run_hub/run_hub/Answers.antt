@@ -1,4 +1,4 @@
-use Rattle.rfb.specs.HubPlaying.{hub_events}
+use Rattle.rfb.specs.HubRun.{hub_events}
 use Rattle.rfb.proofs.HubPlayingLemmas.{is_hub_played, leaves_hub}
 use Rattle.rfb.proofs.PlayingLemmas.{on_ok_both}
 use Rattle.rfb.proofs.script.run_hub.run_hub.Goals as goal

@@ -1,6 +1,6 @@
 use Rattle.rfb_picture.specs.Grid.{uniform}
 use Rattle.rfb_server.specs.Server.{black}
-use Rattle.rfb.specs.Playing.{ends_of}
+use Rattle.rfb.specs.ScriptRun.{ends_of}
 use Rattle.rfb.proofs.PlayingLemmas.{fresh_ends}
 use Rattle.rfb.proofs.script.steps.fresh_world.Goals as goal
 

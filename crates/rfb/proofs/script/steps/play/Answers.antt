@@ -1,6 +1,6 @@
 use Rattle.std.proofs.Common.{subst, sym}
 use Rattle.rfb.specs.declared.script.line.Step.{Step as ScriptStep}
-use Rattle.rfb.specs.Playing.{TakesStep, TellsRefusal}
+use Rattle.rfb.specs.ScriptRun.{TakesStep, TellsRefusal}
 use Rattle.rfb.proofs.PlayingLemmas.{one_event}
 use Rattle.rfb.proofs.script.steps.play.Goals as goal
 

@@ -1,5 +1,5 @@
 -- The turns so far led to this world.
-use Rattle.rfb.specs.Playing.{deliveries}
+use Rattle.rfb.specs.ScriptRun.{deliveries}
 use Rattle.rfb_session.specs.World.{Reaches}
 use Rattle.rfb_session.proofs.RunLaws.{Any}
 use Rattle.rfb.proofs.script.steps.settle.Given as goal

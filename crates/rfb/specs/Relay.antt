@@ -8,7 +8,7 @@ use Rattle.rfb_session.specs.doors.Tenants.{Happening, Goes}
 use Rattle.rfb_session.specs.declared.relay.setup.RelaySetup.{RelaySetup}
 use Rattle.rfb_session.specs.relay.Server.{IsFreshRelay}
 use Rattle.rfb_session.specs.relay.Relay.{DeclinesRelay, OpensRelay, RelaySteps}
-use Rattle.rfb.specs.Ending.{EndsWell, FailsFor, IsNoEnd}
+use Rattle.rfb.specs.Ends.{EndsWell, FailsFor, IsNoEnd}
 use Rattle.rfb.specs.declared.fault.Failure.{Failure}
 use Rattle.rfb.specs.declared.relaying.relay_words.RelayOptions.{RelayOptions}
 use Rattle.rfb.specs.declared.sharing.speaker.Reporter.{Reporter}

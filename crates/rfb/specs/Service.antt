@@ -29,7 +29,7 @@ use Rattle.rfb.specs.declared.serving.serve_words.ScreenChoice.TheVariants.{Pict
 use Rattle.rfb.specs.declared.serving.serve_words.ServeOptions.{ServeOptions}
 use Rattle.rfb.specs.declared.serving.screen.ServedScreen.{ServedScreen}
 use Rattle.rfb.specs.declared.serving.screen.ServedScreen.TheVariants.{Scene, Picture}
-use Rattle.rfb.specs.Playing.{serving_of}
+use Rattle.rfb.specs.ScriptRun.{serving_of}
 use Rattle.rfb.specs.Scene.{ShowsScene}
 
 -- ---- the first screen

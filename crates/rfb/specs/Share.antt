@@ -6,7 +6,7 @@ use Rattle.rfb_session.specs.declared.console.Outcome.{Outcome}
 use Rattle.rfb_session.specs.doors.Tenants.{Happening}
 use Rattle.rfb_session.specs.console.Console.{IsFreshConsole}
 use Rattle.rfb_session.specs.console.History.{Lasts}
-use Rattle.rfb.specs.Ending.{EndsWell, IsNoEnd}
+use Rattle.rfb.specs.Ends.{EndsWell, IsNoEnd}
 use Rattle.rfb.specs.declared.sharing.share_words.ShareOptions.{ShareOptions}
 use Rattle.rfb.specs.declared.sharing.speaker.Reporter.{Reporter}
 
