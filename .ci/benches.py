@@ -49,6 +49,10 @@ def the_cost_of_a_relay_is_printed():
     assert b"\na typed character, " in printed("relay.py", [Run.program, "--once"])
 
 
+def the_cost_of_a_drive_is_printed():
+    assert b"\na change, elsewhere: " in printed("drive.py", [Run.program, "--once"])
+
+
 def the_largest_memory_of_a_run_is_printed():
     told = printed("resident.py", [Run.program, "script"], SCRIPT)
     assert told.startswith(b"largest resident set "), told
@@ -73,6 +77,7 @@ ROWS = [
     the_cost_of_serving_is_printed,
     the_cost_of_a_share_is_printed,
     the_cost_of_a_relay_is_printed,
+    the_cost_of_a_drive_is_printed,
     the_largest_memory_of_a_run_is_printed,
     a_table_is_printed_or_what_it_lacks,
     the_recordings_of_a_bench_show_what_their_fills_draw,

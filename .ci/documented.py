@@ -58,9 +58,13 @@ SPANS = {
 
 # What stands in for a program that is not installed.
 STAND_INS = {
-    # `-display none -vnc 127.0.0.1:N` are its words.
-    "qemu-system-x86_64": "exec rfb serve --port $((5900 + ${4##*:})) --forever >/dev/null",
+    # `-display none -vnc 127.0.0.1:N` are its words. At display 7 nothing changes by itself.
+    "qemu-system-x86_64": """[ ${4##*:} = 7 ] && exec rfb share --port 5907 --quiet >/dev/null <<END
+screen 640 480
+END
+exec rfb serve --port $((5900 + ${4##*:})) --forever >/dev/null""",
     "vncsnapshot": "exec rfb view --port 5950 --timeout 20 >/dev/null",
+    "ffmpeg": "exec cat >/dev/null",
 }
 # The same of what needs a display or a browser, and goes on until somebody ends it.
 NEVER_ENDS = {"vncviewer": "exec rfb view --port 5950 --timeout 20 --updates 2 >/dev/null",

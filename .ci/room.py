@@ -37,7 +37,7 @@ void *realloc(void *at, size_t size) { note(size); return __libc_realloc(at, siz
 
 
 # Words, input and the bytes in flight, in all.
-MOST_BESIDE = 139264
+MOST_BESIDE = 172032
 
 
 def up(number, by):

@@ -13,14 +13,16 @@ import os
 import resource
 import signal
 import sys
+import tempfile
 import time
 from concurrent.futures import ThreadPoolExecutor
 
 from calls import (DEVICE, NO_VERSION, TRUNCATED, UNWRITTEN, WRITTEN, Call, Run, closed_after, ends,
                    judged)
 from messages import CLIENT, HELLO, MORE, SERVER
-from peers import OTHER, Server, View, breaks, free_port, halts, two_addresses, viewing
-from pictures import BLACK, SHOWN, scene
+from peers import (OTHER, Server, View, breaks, free_port, halts, two_addresses, viewing,
+                   waits_for)
+from pictures import BLACK, FILLED, ORANGE, SHOWN, SHOWN_LATER, ppm, scene
 
 # ---- servers that are viewed
 
@@ -132,6 +134,14 @@ VIEWS = [
     View("explained_view_of_three_updates", "view --explain --port PORT --updates 3",
          scene(2, 1, 2), TWO_BY_ONE, b"ok 3\n",
          UPDATED + b"rfb: updates so far: 2\nrfb: updates so far: 3\n"),
+    View("film_of_three_updates", "view --port PORT --follow --updates 3",
+         scene(2, 1) + scene(2, 1, 1) + scene(2, 1, 2), TWO_BY_ONE, b"ok 3\n"),
+    View("explained_film_in_small_bytes",
+         "view --follow --explain 127.0.0.1::PORT --updates=4 --format=bgr233 --encodings=copyrect,rre"
+         " --fps 1000", b"".join(scene(9, 5, steps, "bgr233") for steps in range(4)), NINE_BY_FIVE,
+         b"ok 4\n", b"rfb: connected to rfb, 9 by 5\nrfb: pictures written: 4\n"),
+    View("film_to_a_full_device", "view --port PORT --follow", b"", TWO_BY_ONE, errors=DEVICE,
+         status=1, device="/dev/full"),
 ]
 
 NOBODY = b"rfb: no connection to 127.0.0.1, port 1: Connection refused (os error 111)\n"
@@ -148,6 +158,8 @@ CALLS = [
     Call("quiet_relay_where_nothing_listens",
          ["relay", "--quiet", "--explain", "::1", "--port", "9", "--format", "rgb565"], b"", 1, b"",
          DEVICE),
+    Call("drive_where_nothing_listens", ["drive", "127.0.0.1::1", "--timeout", "1"], b"", 1, b"",
+         NOBODY + DEVICE),
 ]
 
 # ---- servers that end, fail or are silent
@@ -259,6 +271,111 @@ def a_view_of_a_silent_server_ends_when_its_time_is_up():
         list(views.map(is_viewed, SILENT))
 
 
+# ---- films: a picture after each update
+
+def a_film_ends_with_its_server_or_its_updates():
+    three = SERVER + MORE + MORE
+    for words, sent, status, pictures, told in (
+            ([], SERVER, 0, SHOWN, b""),
+            ([], SERVER + MORE, 0, SHOWN + SHOWN_LATER, b""),
+            (["--updates=2"], three, 0, SHOWN + SHOWN_LATER, b""),
+            (["--updates=3"], three, 0, SHOWN + 2 * SHOWN_LATER, b""),
+            (["--updates=3"], SERVER + MORE, 1, SHOWN + SHOWN_LATER, TRUNCATED),
+            ([], SERVER + MORE[:1], 1, SHOWN, TRUNCATED),
+            ([], (SERVER + MORE)[:-1], 1, SHOWN, TRUNCATED),
+            ([], SERVER[:-1], 1, b"", TRUNCATED),
+            ([], HELLO, 1, b"", TRUNCATED),
+            ([], b"", 1, b"", TRUNCATED),
+            ([], SERVER + b"\xFF", 1, SHOWN, b"fault 7 UnknownMessage\n")):
+        server = Server(sent)
+        server.shows(["--port", str(server.port), "--follow", "--fps=1000", *words], status,
+                     pictures, told)
+    # A request after each update but the last.
+    server = Server(three)
+    came = server.shows([f"::{server.port}", "--follow", "--updates=3"], 0,
+                        SHOWN + 2 * SHOWN_LATER)
+    assert came[-30:] == CLIENT[14:] + 2 * (b"\3\1" + CLIENT[16:]), came
+    for words in [], ["--updates=2"]:
+        server = Server(SERVER, is_silent=True)
+        server.shows(["--port", str(server.port), "--follow", "--timeout=1", *words], 1, SHOWN,
+                     DEVICE)
+
+
+def grows(run, pictures):
+    """Waits until a film has these pictures, ten seconds at most, and tells how long that took."""
+    begun, size = time.time(), len(pictures)
+    while os.fstat(run.files[1].fileno()).st_size < size and time.time() < begun + 10:
+        time.sleep(0.01)
+    came = os.pread(run.files[1].fileno(), size + 1, 0)
+    assert came == pictures, (came, pictures)
+    return time.time() - begun
+
+
+def changes_that_come_faster_than_a_film_are_one_picture():
+    """The server draws five times: the first picture is black, and of two draws in a second the
+    last one is seen. The last picture is after all draws."""
+    port, (here, there) = free_port(), os.pipe()
+    with os.fdopen(here), os.fdopen(there, "wb", 0) as owner:
+        share = Run(["share", "--quiet", f"--port={port}"], source=here)
+        owner.write(b"screen 2 1\n")
+        waits_for(port)
+        film, pictures = Run(["view", f"--port={port}", "--follow", "--fps=1"]), BLACK
+        grows(film, pictures)
+        for left, right, shown in (
+                (b"FFFFFF", b"FF8001", ppm(2, 1, "F" * 12, ORANGE)),
+                (b"FF8001", b"000000", FILLED)):
+            for line in b"fill 0 0 1 1 %b\n" % left, b"fill 1 0 1 1 %b\n" % right:
+                owner.write(line)
+                time.sleep(0.2)
+            pictures += shown
+            lasts = grows(film, pictures)
+            assert 0.2 < lasts < 2, lasts
+        owner.write(b"quit\n")
+        film.ends(0, pictures, b"")
+        share.ends(0, None, b"")
+
+
+def a_film_waits_between_its_pictures_and_not_after_the_last():
+    for updates, rate, least, most in (2, 2, 0.5, 2), (11, 20, 0.5, 2), (1, 1, 0, 0.9):
+        server, begun = Server(SERVER + 10 * MORE), time.time()
+        server.shows([f"::{server.port}", "--follow", f"--fps={rate}", f"--updates={updates}"], 0,
+                     SHOWN + (updates - 1) * SHOWN_LATER)
+        lasts = time.time() - begun
+        assert least <= lasts < most, (updates, rate, lasts)
+
+
+def a_film_of_which_nobody_reads_on_ends():
+    """At the next picture, and it reads no more of the server."""
+    here, there = os.pipe()
+    with viewing("--follow", output=there) as (run, line):
+        os.close(there)
+        line.sendall(SERVER)
+        came = b""
+        while len(came) < len(SHOWN):
+            came += os.read(here, 4096)
+        assert came == SHOWN, came
+        os.close(here)
+        line.sendall(MORE)
+        run.ends(1, b"", CONNECTED + b"rfb: cannot write standard output: Broken pipe"
+                 b" (os error 32)\n" + DEVICE)
+
+
+def a_film_in_a_file_is_there_once_it_is_whole():
+    with tempfile.TemporaryDirectory() as room:
+        path = os.path.join(room, "film.ppm")
+        for sent, status, told, kept in (
+                ((SERVER + MORE)[:-1], 1, TRUNCATED, None),
+                (SERVER + MORE, 0, b"", SHOWN + SHOWN_LATER),
+                (SERVER + MORE[:1], 1, TRUNCATED, SHOWN + SHOWN_LATER)):
+            server = Server(sent)
+            server.shows([f"::{server.port}", "--follow", "-o", path], status, b"", told)
+            assert os.path.exists(path) == (kept is not None), sent
+            if kept is not None:
+                with open(path, "rb") as film:
+                    assert film.read() == kept, sent
+            assert os.listdir(room) in ([], ["film.ppm"]), os.listdir(room)
+
+
 ROWS = [
     *VIEWS,
     *CALLS,
@@ -273,6 +390,11 @@ ROWS = [
     a_refused_connection_rests_before_it_is_tried_again,
     each_address_of_a_host_is_tried,
     a_view_of_a_silent_server_ends_when_its_time_is_up,
+    a_film_ends_with_its_server_or_its_updates,
+    changes_that_come_faster_than_a_film_are_one_picture,
+    a_film_waits_between_its_pictures_and_not_after_the_last,
+    a_film_of_which_nobody_reads_on_ends,
+    a_film_in_a_file_is_there_once_it_is_whole,
 ]
 
 

@@ -62,6 +62,10 @@ view [::1]
 view a b
 view a --port 9
 view a:1 --host b
+view a --follow --fps 0
+view a --follow --fps 1001
+view a --follow --updates 0
+view a --fps
 faults
 help fault
 help faults 1
@@ -87,6 +91,18 @@ relay a --port 9 --retry 4294967296
 relay a --port 9 --retry 1 --retry 2
 share --port 9 --retry 1
 relay a --port 9 -o b
+drive
+drive a:65536
+drive a b
+drive a --port 9
+drive a --timeout 0
+drive a --timeout 4294967296
+drive a --keep
+drive a --tell yes
+drive a --format rgb
+drive a -o b
+drive a -i
+drive a -i b -i c
 """
 
 # Lists of encodings, none of which is one.
@@ -105,6 +121,7 @@ help play
 serve --help
 help view
 help relay
+help drive
 """
 
 
@@ -134,6 +151,8 @@ HERE = os.path.dirname(os.path.abspath(__file__))
 SETTLED = b"screen 2 1\nsettle\n"
 MORE = b"\n\nFor more information, try '--help'.\n"
 OF_SERVE = b"\n\nUsage: rfb serve [OPTIONS] --port <P>" + MORE
+OF_VIEW = b"\n\nUsage: rfb view [OPTIONS] [SERVER]" + MORE
+OF_FOLLOW = b"error: the argument '--follow' cannot be used with '--record' or '--partial'" + OF_VIEW
 OF_ADDRESS = b"""error: invalid value 'example.org:65536' for '%s'
   [HOST, HOST:DISPLAY with a display from 0 to 99, HOST:PORT from port 100 on, or HOST::PORT]""" + MORE
 OF_FORMAT = b"""error: invalid value 'rgb' for '--format <F>'
@@ -154,7 +173,7 @@ CALLS = [
     Call("help_on_faults", ["help", "faults"], output=faults()),
     Call("help_to_a_terminal", ["help", "faults"], device="/dev/ptmx"),
     bad_words("no_command", "", b"""error: 'rfb' requires a subcommand but one was not provided
-  [subcommands: script, loop, play, serve, view, share, relay, help]
+  [subcommands: script, loop, play, serve, view, share, relay, drive, help]
 
 Usage: rfb <COMMAND>""" + MORE),
     bad_words("word_of_no_meaning", "script picture.script",
@@ -184,6 +203,9 @@ Usage: rfb <COMMAND>""" + MORE),
               b"Usage: rfb relay --port <P> <SERVER>" + MORE),
     bad_words("relay_of_a_server_with_no_display", "relay example.org:65536 --port 5950",
               OF_ADDRESS % b"<SERVER>"),
+    bad_words("drive_of_no_server", "drive",
+              b"error: the following required arguments were not provided:\n  <SERVER>\n\n"
+              b"Usage: rfb drive <SERVER>" + MORE),
     bad_words("view_without_a_port", "view",
               b"error: the following required arguments were not provided:\n  --port <P>\n\n"
               b"Usage: rfb view --port <P>" + MORE),
@@ -196,6 +218,10 @@ Usage: rfb <COMMAND>""" + MORE),
               "view --port 1 --encodings raw,rre,hextile,copyrect,raw", b"bad encodings\n"),
     bad_words("view_of_a_server_with_no_display", "view example.org:65536",
               OF_ADDRESS % b"[SERVER]"),
+    bad_words("film_that_is_a_recording", "view a --follow --record", OF_FOLLOW),
+    bad_words("film_of_a_part", "view a --partial --follow", OF_FOLLOW),
+    bad_words("pace_of_one_picture", "view a --fps 30",
+              b"error: the argument '--fps <N>' cannot be used without '--follow'" + OF_VIEW),
 ]
 
 

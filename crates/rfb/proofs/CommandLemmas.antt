@@ -15,19 +15,19 @@ use Rattle.rfb.specs.Options.{AreCommand, AreOrdered, AreWrong}
 pub zero_not_one : (n : ℕ) → n ≡ 0 → n ≡ 1 → ⊥
 zero_not_one n is not = let both : 0 ≡ 1 = sym is ∙ not in cc
 
-pub does_asked : (words : List Text) (order : Order) (read before after : Option (List ℕ)) (status : ℕ)
+pub does_asked : {P : Type 0} (words : List Text) (order : Order) (read before after : Option (List ℕ)) (status : ℕ)
     (r : Result (Unit {0}) Failure) → AreOrdered words order →
-    OnOk r (Through order.paths (Does order.task) read before after) → OnErr r (status ≡ 1) → status ≡ 0 →
-    DoesAsked words read before after
+    OnOk r (Through order.paths (Does P order.task) read before after) → OnErr r (status ≡ 1) → status ≡ 0 →
+    DoesAsked P words read before after
 does_asked words order read before after status (Ok u) asked does failed zero = (order, asked, does)
 does_asked words order read before after status (Err failure) asked does failed zero =
     absurd (zero_not_one status zero failed)
 
-pub leaves_asked : {W : Type 0} (contents : W → Option (List ℕ)) (words : List Text)
+pub leaves_asked : {P W : Type 0} (contents : W → Option (List ℕ)) (words : List Text)
     (order : Order) (read : Option (List ℕ))
     (old new : W) (status : ℕ) (r : Result (Unit {0}) Failure) → AreOrdered words order →
-    OnErr r ((new ≡ old) ⊎ Through order.paths (Leaves order.task) read (contents old) (contents new)) →
-    OnOk r (status ≡ 0) → status ≡ 1 → LeavesAsked words read (contents old) (contents new)
+    OnErr r ((new ≡ old) ⊎ Through order.paths (Leaves P order.task) read (contents old) (contents new)) →
+    OnOk r (status ≡ 0) → status ≡ 1 → LeavesAsked P words read (contents old) (contents new)
 leaves_asked contents words order read old new status (Ok u) asked leaves done one =
     absurd (zero_not_one status done one)
 leaves_asked contents words order read old new status (Err failure) asked (inl kept) done one = inl (ap contents kept)

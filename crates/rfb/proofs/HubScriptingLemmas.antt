@@ -9,7 +9,7 @@ use Rattle.rfb_session.specs.Hub.{shown_in}
 use Rattle.rfb_session.specs.HubSteps.{HubPlayed}
 use Rattle.std.specs.Io.KnownBytes.{Appends}
 use Rattle.rfb.specs.declared.fault.Failure.{Failure}
-use Rattle.rfb.specs.declared.fault.Failure.TheVariants.{BadLine, Fault, Engine, Picture}
+use Rattle.rfb.specs.declared.fault.Failure.TheVariants.{BadLine, Undone, Fault, Engine, Picture}
 use Rattle.rfb.specs.declared.script.hub.hub_step.HubNumbered.{HubNumbered}
 use Rattle.rfb_session.specs.declared.language.screen.Screen.{Screen as Size}
 use Rattle.rfb.specs.CommandLine.{FailsAtAny, HubPlayedTo, LeavesScript, PlaysAny, PlaysScript}
@@ -23,6 +23,8 @@ pub fails_any : (read : Option (List ℕ)) (empty all : List ℕ) (failure : Fai
 fails_any None empty all (BadLine n) e is stops = tt
 fails_any (Some text) empty all (BadLine n) e is stops = let same : all ≡ text = rw e at is in rw (← same) stops
 fails_any read empty all (Fault fault) e is stops = tt
+fails_any read empty all (Undone n why) e is (inl stops) = absurd stops.1
+fails_any read empty all (Undone n why) e is (inr stops) = absurd stops.1
 fails_any read empty all (Engine fault) e is (inl stops) = absurd stops.1
 fails_any read empty all (Picture flaw) e is (inl stops) = absurd stops.1
 fails_any read empty all (Engine fault) e is (inr stops) = absurd stops.1

@@ -3,9 +3,11 @@ pub mod ArgumentLemmas
 pub mod CommandLemmas
 pub mod ComposingLemmas
 pub mod DeliveryLemmas
+pub mod DrivingLemmas
 pub mod CrossingLemmas
 pub mod EndsLemmas
 pub mod FirstLineLemmas
+pub mod FollowingLemmas
 pub mod HubWordLemmas
 pub mod HubStepLemmas
 pub mod HubLineLemmas

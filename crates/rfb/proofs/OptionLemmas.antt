@@ -15,6 +15,7 @@ use Rattle.arrayvec.specs.ArrayVec.{ArrayVec}
 use Rattle.rfb_wire.specs.declared.encoding.Encoding.{Encoding}
 use Rattle.rfb.specs.command.Values.{GivesOr, IsAbsent, IsFlagged, IsThere}
 use Rattle.rfb.specs.command.ServeWords.{CountsConnections, GivesConnections, HasBadConnections}
+use Rattle.rfb.specs.command.ViewWords.{BadAlways, HasBadFollow, HasBadView}
 use Rattle.rfb.specs.command.Program.{asked, program}
 use Rattle.rfb.specs.command.Values.{GivesFormat, HasBadFormat, NamesFormat}
 use Rattle.rfb.specs.command.Values.{GivesEncodings, HasBadEncodings, NamesEncodings}
@@ -132,3 +133,9 @@ uncounted flag rows is on absent =
 pub counted_twice : (flag : Bool) (rows : List Row) → IsFlagged (codes "forever") rows flag → flag ≡ true →
     IsThere (codes "connections") rows → HasBadConnections rows
 counted_twice flag rows is on there = (subst (λ (b : Bool). IsFlagged (codes "forever") rows b) on is, there)
+
+-- ---- a picture after each update
+
+pub bad_always : (rows : List Row) (flag : Bool) → IsFlagged (codes "follow") rows flag → flag ≡ true →
+    HasBadFollow rows → HasBadView rows
+bad_always rows flag is on bad = BadAlways (subst (λ (b : Bool). IsFlagged (codes "follow") rows b) on is) bad

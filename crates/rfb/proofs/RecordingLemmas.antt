@@ -53,6 +53,7 @@ pub fails_to_show : (options : PlayOptions) (read before after : Option (List �
 fails_to_show options read before after (Ok done) is = tt
 fails_to_show options read before after (Err (failure.Fault fault)) is = tt
 fails_to_show options read before after (Err (failure.BadLine n)) is = let e = is.1 in absurd (cc)
+fails_to_show options read before after (Err (failure.Undone n why)) is = let e = is.1 in absurd (cc)
 fails_to_show options read before after (Err (failure.Picture flaw)) is = let e = is.1 in absurd (cc)
 fails_to_show options read before after (Err (failure.Engine fault)) is = let e = is.1 in absurd (cc)
 
@@ -92,6 +93,7 @@ begins_early is_wanted last fault before after (failure.Engine told) (same, show
         written is (inr whole) = inr (is, begins_whole last before after whole)
 begins_early is_wanted last fault before after (failure.Fault own) begun = inr begun
 begins_early is_wanted last fault before after (failure.BadLine n) none = absurd none
+begins_early is_wanted last fault before after (failure.Undone n why) none = absurd none
 begins_early is_wanted last fault before after (failure.Picture flaw) none = absurd none
 
 -- an engine's fault is reported as it is
@@ -101,6 +103,7 @@ pub ends_same : (is_wanted : Bool) (last : Viewer) (fault told : EngineFault)
 ends_same is_wanted last fault told before after (failure.Engine other) ends same = let e = ends.0 in cc
 ends_same is_wanted last fault told before after (failure.Fault own) ends same = absurd (cc)
 ends_same is_wanted last fault told before after (failure.BadLine n) ends same = absurd ends
+ends_same is_wanted last fault told before after (failure.Undone n why) ends same = absurd ends
 ends_same is_wanted last fault told before after (failure.Picture flaw) ends same = absurd ends
 
 pub fails_early : (options : PlayOptions) (read before after : Option (List ℕ)) (first last : Viewer)
@@ -116,6 +119,7 @@ fails_early options read before after first last fault (failure.Engine told) fre
 )
 fails_early options read before after first last fault (failure.Fault own) fresh stops ends = tt
 fails_early options read before after first last fault (failure.BadLine n) fresh stops ends = absurd ends
+fails_early options read before after first last fault (failure.Undone n why) fresh stops ends = absurd ends
 fails_early options read before after first last fault (failure.Picture flaw) fresh stops ends = absurd ends
 
 pub leaves_early : (options : PlayOptions) (read before after : Option (List ℕ))

@@ -30,7 +30,7 @@ use Rattle.rfb_session.specs.declared.netpbm.fault.PixmapError.TheVariants.{NoMe
 use Rattle.rfb_session.specs.declared.netpbm.Pixmap.{Pixmap}
 use Rattle.rfb_session.specs.netpbm.File.{FailsToSpell, SpellsKnown, picture_of}
 use Rattle.rfb.specs.declared.fault.Failure.{Failure}
-use Rattle.rfb.specs.declared.fault.Failure.TheVariants.{BadLine, Fault, Engine, Picture as PictureFailure}
+use Rattle.rfb.specs.declared.fault.Failure.TheVariants.{BadLine, Undone, Fault, Engine, Picture as PictureFailure}
 use Rattle.rfb.specs.declared.fault.Fault.{Fault as FaultOf}
 use Rattle.rfb.specs.declared.serving.serve_words.ScreenChoice.{ScreenChoice}
 use Rattle.rfb.specs.declared.serving.serve_words.ScreenChoice.TheVariants.{Scene as SceneAsked}
@@ -232,6 +232,7 @@ by_fault (Ok done) why = tt
 by_fault (Err (Fault fault)) why = tt
 by_fault (Err (PictureFailure flaw)) why = tt
 by_fault (Err (BadLine n)) why = let e = why.1 in absurd (cc)
+by_fault (Err (Undone n reason)) why = let e = why.1 in absurd (cc)
 by_fault (Err (Engine fault)) why = let e = why.1 in absurd (cc)
 
 pub by_no_picture : (r : Result (Unit {0}) Failure) (flaw : Flaw) →
@@ -264,6 +265,8 @@ serves_read known (Fault fault) fails = tt
 serves_read known (PictureFailure flaw) fails = tt
 serves_read None (BadLine n) fails = absurd fails
 serves_read (Some bytes) (BadLine n) fails = absurd fails
+serves_read None (Undone n why) fails = absurd fails
+serves_read (Some bytes) (Undone n why) fails = absurd fails
 serves_read None (Engine fault) fails = absurd fails
 serves_read (Some bytes) (Engine fault) fails = absurd fails
 

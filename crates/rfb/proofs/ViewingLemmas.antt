@@ -223,6 +223,7 @@ shows_recorded sight read answered before after first last (failure.Engine fault
     never_recorded sight.is_recorded _ is not
 shows_recorded sight read answered before after first last (failure.Fault fault) is stops = tt
 shows_recorded sight read answered before after first last (failure.BadLine n) is stops = absurd stops
+shows_recorded sight read answered before after first last (failure.Undone n why) is stops = absurd stops
 shows_recorded sight read answered before after first last (failure.Picture flaw) is stops = absurd stops
 
 pub fails_recorded : (sight : Sight) (read answered before after : Option (List ℕ)) (first last : Viewer)
@@ -268,6 +269,7 @@ fails_seeing sight read answered before after first last fault (failure.Fault ow
   ),
 )
 fails_seeing sight read answered before after first last fault (failure.BadLine n) fresh not stops ends = absurd ends
+fails_seeing sight read answered before after first last fault (failure.Undone n why) fresh not stops ends = absurd ends
 fails_seeing sight read answered before after first last fault (failure.Picture flaw) fresh not stops ends = absurd ends
 
 pub leaves_seeing : (sight : Sight) (read answered before after : Option (List ℕ))
@@ -300,6 +302,9 @@ fails_shown sight read answered before after first last (Err (failure.Fault faul
   ),
 )
 fails_shown sight read answered before after first last (Err (failure.BadLine n)) fresh not saw is =
+    let e = is.1 in
+    absurd (cc)
+fails_shown sight read answered before after first last (Err (failure.Undone n why)) fresh not saw is =
     let e = is.1 in
     absurd (cc)
 fails_shown sight read answered before after first last (Err (failure.Picture flaw)) fresh not saw is =

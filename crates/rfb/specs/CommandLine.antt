@@ -5,7 +5,7 @@ use Rattle.std.specs.Io.KnownBytes.{Appends}
 use Rattle.rfb_pixel.specs.declared.colour.Colour.{Colour}
 use Rattle.rfb_picture.specs.Grid.{Grid}
 use Rattle.rfb.specs.declared.fault.Failure.{Failure}
-use Rattle.rfb.specs.declared.fault.Failure.TheVariants.{BadLine, Fault, Engine, Picture}
+use Rattle.rfb.specs.declared.fault.Failure.TheVariants.{BadLine, Undone, Fault, Engine, Picture}
 use Rattle.rfb_session.specs.declared.world.World.{World}
 use Rattle.rfb_session.specs.World.{shown_by}
 use Rattle.rfb.specs.declared.script.line.Numbered.{Numbered}
@@ -25,10 +25,13 @@ use Rattle.clap.specs.Words.{Text}
 use Rattle.rfb.specs.declared.options.Order.{Order}
 use Rattle.rfb.specs.declared.commands.Task.{Task}
 use Rattle.rfb.specs.declared.options.paths.Paths.{Paths}
-use Rattle.rfb.specs.declared.commands.Task.TheVariants.{Script, Loop, Play, Serve, View, Share, Relay}
+use Rattle.rfb.specs.declared.commands.Task.TheVariants.{Script, Loop, Play, Serve, View, Follow, Share, Relay}
+use Rattle.rfb.specs.declared.commands.Task.TheVariants.{Drive}
+use Rattle.rfb.specs.Drive.{Drives, LeavesDrive}
 use Rattle.rfb.specs.Loopback.{LeavesSomePicture, PlaysSomeScript}
 use Rattle.rfb.specs.Options.{AreOrdered}
 use Rattle.rfb.specs.Recording.{LeavesRecording, PlaysRecording}
+use Rattle.rfb.specs.Film.{FollowsSome, StopsFollowing}
 use Rattle.rfb.specs.Relay.{LeavesRelay, Relays}
 use Rattle.rfb.specs.Service.{LeavesServed, ServesAsked}
 use Rattle.rfb.specs.Share.{LeavesShare, Shares}
@@ -116,6 +119,7 @@ LeavesScript read before after =
 -- a bad line that is reported is the first one of what was read, whose kind its first line tells
 abbrev pub FailsAtAny : Option (List ℕ) → Failure → Type 0
 FailsAtAny read (BadLine n) = IfSome read (λ text. StopsReadingAny (lines_of text) (BadLine n))
+FailsAtAny read (Undone n why) = ⊥
 FailsAtAny read (Fault fault) = ⊤
 FailsAtAny read (Engine fault) = ⊥
 FailsAtAny read (Picture flaw) = ⊥
@@ -123,6 +127,7 @@ FailsAtAny read (Picture flaw) = ⊥
 -- the same of a script that is no hub's
 abbrev pub FailsAt : Option (List ℕ) → Failure → Type 0
 FailsAt read (BadLine n) = IfSome read (λ text. StopsReading (lines_of text) (BadLine n))
+FailsAt read (Undone n why) = ⊥
 FailsAt read (Fault fault) = ⊤
 FailsAt read (Engine fault) = ⊥
 FailsAt read (Picture flaw) = ⊥
@@ -130,28 +135,33 @@ FailsAt read (Picture flaw) = ⊥
 -- ---- any command
 
 -- what was read and written at a command; of the bytes that come over a connection nothing is
--- known, and of a share and a relay it is said what happened to its core
-abbrev pub Does : Task → Option (List ℕ) → Option (List ℕ) → Option (List ℕ) → Type 0
-Does Script read before after = PlaysScript read before after
-Does Loop read before after = PlaysSomeScript read before after
-Does (Serve options) read before after = ServesAsked options before after
-Does (View options) read before after = ViewsSome options.sight before after
-Does (Play options) read before after = PlaysRecording options read before after
-Does (Share options) read before after = Shares options
-Does (Relay options) read before after = Relays options
+-- known, and of a share, a relay and a drive it is said what happened to its core; P has the files
+abbrev pub Does : (P : Type 0) → Task → Option (List ℕ) → Option (List ℕ) → Option (List ℕ) → Type 0
+Does P Script read before after = PlaysScript read before after
+Does P Loop read before after = PlaysSomeScript read before after
+Does P (Serve options) read before after = ServesAsked options before after
+Does P (View options) read before after = ViewsSome options.sight before after
+Does P (Follow options) read before after = FollowsSome options.film before after
+Does P (Play options) read before after = PlaysRecording options read before after
+Does P (Share options) read before after = Shares options
+Does P (Relay options) read before after = Relays options
+Does P (Drive options) read before after = Drives P options
 
 -- what was written at a command that failed: nothing, or a beginning of what it was to write; what
--- a view keeps of a server's bytes is written as they come, and has what its viewer was fed
-abbrev pub Leaves : Task → Option (List ℕ) → Option (List ℕ) → Option (List ℕ) → Type 0
-Leaves Script read before after = LeavesScript read before after
-Leaves Loop read before after = LeavesSomePicture before after
-Leaves (Serve options) read before after = LeavesServed options before after
-Leaves (View options) read before after =
+-- a view keeps of a server's bytes is written as they come, and has what its viewer was fed; and so are
+-- the pictures after its updates
+abbrev pub Leaves : (P : Type 0) → Task → Option (List ℕ) → Option (List ℕ) → Option (List ℕ) → Type 0
+Leaves P Script read before after = LeavesScript read before after
+Leaves P Loop read before after = LeavesSomePicture before after
+Leaves P (Serve options) read before after = LeavesServed options before after
+Leaves P (View options) read before after =
     (options.sight.is_recorded ≡ false → LeavesSomeView options.sight before after)
     × FailsSomehow options.sight before after
-Leaves (Play options) read before after = LeavesRecording options read before after
-Leaves (Share options) read before after = LeavesShare options before after
-Leaves (Relay options) read before after = LeavesRelay options before after
+Leaves P (Follow options) read before after = StopsFollowing options.film before after
+Leaves P (Play options) read before after = LeavesRecording options read before after
+Leaves P (Share options) read before after = LeavesShare options before after
+Leaves P (Relay options) read before after = LeavesRelay options before after
+Leaves P (Drive options) read before after = LeavesDrive P options before after
 
 -- where a file is named, it is read in place of standard input; of its bytes nothing is known
 abbrev pub FromFile : Option (Bor Text) → (Option (List ℕ) → Type 0) → Option (List ℕ) → Type 0
@@ -173,14 +183,14 @@ Through paths Acts read before after =
     read) before after
 
 -- the same of what words ask for
-abbrev pub DoesAsked : List Text → Option (List ℕ) → Option (List ℕ) → Option (List ℕ) → Type 0
-DoesAsked words read before after =
+abbrev pub DoesAsked : (P : Type 0) → List Text → Option (List ℕ) → Option (List ℕ) → Option (List ℕ) → Type 0
+DoesAsked P words read before after =
     (order : Order) × AreOrdered words order
-    × Through order.paths (Does order.task) read before after
+    × Through order.paths (Does P order.task) read before after
 
 -- and of a command that failed, or for which there was no memory or no file
-abbrev pub LeavesAsked : List Text → Option (List ℕ) → Option (List ℕ) → Option (List ℕ) → Type 0
-LeavesAsked words read before after =
+abbrev pub LeavesAsked : (P : Type 0) → List Text → Option (List ℕ) → Option (List ℕ) → Option (List ℕ) → Type 0
+LeavesAsked P words read before after =
     (after ≡ before)
     ⊎ ((order : Order) × AreOrdered words order
-    × Through order.paths (Leaves order.task) read before after)
+    × Through order.paths (Leaves P order.task) read before after)

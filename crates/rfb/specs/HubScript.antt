@@ -6,7 +6,7 @@ use Rattle.rfb_session.specs.declared.hub.event.HubEvent.TheVariants.{Fill, Put,
 use Rattle.rfb_viewer.specs.declared.setup.ViewerSetup.{ViewerSetup as Setup}
 use Rattle.rfb_session.specs.HubSeats.{event_of}
 use Rattle.rfb.specs.declared.fault.Failure.{Failure}
-use Rattle.rfb.specs.declared.fault.Failure.TheVariants.{BadLine, Fault, Engine, Picture}
+use Rattle.rfb.specs.declared.fault.Failure.TheVariants.{BadLine, Undone, Fault, Engine, Picture}
 use Rattle.rfb.specs.declared.fault.Fault.TheVariants.{NoMemory}
 use Rattle.rfb.specs.declared.script.hub.hub_step.HubNumbered.{HubNumbered}
 use Rattle.rfb.specs.declared.script.hub.hub_step.HubStep.{HubStep}
@@ -192,6 +192,7 @@ IsWithoutShow lines n = (AreEmpty lines ⊎ AreSomeOpenHub lines) × (n ≡ line
 -- why lines are read to no hub's script
 abbrev pub StopsReadingHub : List (List ℕ) → Failure → Type 0
 StopsReadingHub lines (BadLine n) = IsFirstBadInHub lines n ⊎ IsWithoutShow lines n
+StopsReadingHub lines (Undone n why) = ⊥
 StopsReadingHub lines (Fault fault) = fault ≡ NoMemory
 StopsReadingHub lines (Engine fault) = ⊥
 StopsReadingHub lines (Picture flaw) = ⊥

@@ -2,10 +2,12 @@ pub mod Address
 pub mod CommandLine
 pub mod Context
 pub mod Delivery
+pub mod Drive
 pub mod Explain
 pub mod Ends
 pub mod Fault
 pub mod Few
+pub mod Film
 pub mod HubRun
 pub mod HubScript
 pub mod Loopback

@@ -7,7 +7,8 @@ use Rattle.clap.specs.declared.error.kind.ErrorKind.{ErrorKind}
 use Rattle.clap.specs.declared.error.kind.ErrorKind.TheVariants.{DisplayHelp, DisplayVersion}
 use Rattle.rfb.specs.declared.options.Order.{Order}
 use Rattle.rfb.specs.declared.commands.Task.{Task}
-use Rattle.rfb.specs.declared.commands.Task.TheVariants.{Script, Loop, Play, Serve, View, Share, Relay}
+use Rattle.rfb.specs.declared.commands.Task.TheVariants.{Script, Loop, Play, Serve, View, Follow, Share, Relay}
+use Rattle.rfb.specs.declared.commands.Task.TheVariants.{Drive}
 use Rattle.rfb.specs.declared.options.WrongWords.{WrongWords}
 use Rattle.rfb.specs.declared.options.WrongWords.TheVariants.{Words, Value}
 use Rattle.rfb.specs.declared.play.play_options.PlayOptions.{PlayOptions}
@@ -17,8 +18,9 @@ use Rattle.rfb.specs.command.Program.{program, asked, name_of}
 use Rattle.rfb.specs.command.Values.{GivesFormat, HasBadFormat, GivesNumber, MayGiveNumber, IsFlagged, GivesFiles}
 use Rattle.rfb.specs.command.Values.{NamesHost, NamesWord}
 use Rattle.rfb.specs.command.ServeWords.{GivesServeOptions, HasBadServe}
-use Rattle.rfb.specs.command.ViewWords.{GivesViewOptions, HasBadView}
+use Rattle.rfb.specs.command.ViewWords.{GivesFollowOptions, GivesViewOptions, HasBadView}
 use Rattle.rfb.specs.command.RelayWords.{GivesRelayOptions, HasBadRelay}
+use Rattle.rfb.specs.command.DriveWords.{GivesDriveOptions, HasBadDrive}
 
 -- what `share` is asked for
 pub record GivesShareOptions (rows : List Row) (options : ShareOptions) : Type 0 where
@@ -49,9 +51,13 @@ IsTask (Some (name, rows)) Loop = name ≡ codes "loop"
 IsTask (Some (name, rows)) (Play options) = (name ≡ codes "play") × GivesPlayOptions rows options
 IsTask (Some (name, rows)) (Serve options) =
     (name ≡ codes "serve") × GivesServeOptions rows options
-IsTask (Some (name, rows)) (View options) = (name ≡ codes "view") × GivesViewOptions rows options
+IsTask (Some (name, rows)) (View options) =
+    (name ≡ codes "view") × IsFlagged (codes "follow") rows false × GivesViewOptions rows options
+IsTask (Some (name, rows)) (Follow options) =
+    (name ≡ codes "view") × IsFlagged (codes "follow") rows true × GivesFollowOptions rows options
 IsTask (Some (name, rows)) (Share options) = (name ≡ codes "share") × GivesShareOptions rows options
 IsTask (Some (name, rows)) (Relay options) = (name ≡ codes "relay") × GivesRelayOptions rows options
+IsTask (Some (name, rows)) (Drive options) = (name ≡ codes "drive") × GivesDriveOptions rows options
 
 -- no command has this name
 abbrev pub IsNoName : Text → Type 0
@@ -63,7 +69,7 @@ HasBadValue None = Unit {0}
 HasBadValue (Some (name, rows)) =
     ((name ≡ codes "play") × HasBadFormat rows) ⊎ ((name ≡ codes "serve") × HasBadServe rows)
     ⊎ ((name ≡ codes "view") × HasBadView rows) ⊎ ((name ≡ codes "relay") × HasBadRelay rows)
-    ⊎ IsNoName name
+    ⊎ ((name ≡ codes "drive") × HasBadDrive rows) ⊎ IsNoName name
 
 -- a word asks for sentences
 abbrev pub is_explain : Text → Bool

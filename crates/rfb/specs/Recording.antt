@@ -18,7 +18,7 @@ use Rattle.rfb_session.specs.Playing.{AllPlayed, StopsPlaying}
 use Rattle.rfb_session.specs.PlayingSome.{PlayedFirst, StopsPlayingSome}
 use Rattle.rfb_session.specs.Watching.{StandsBetween}
 use Rattle.rfb.specs.declared.fault.Failure.{Failure}
-use Rattle.rfb.specs.declared.fault.Failure.TheVariants.{BadLine, Fault, Engine, Picture}
+use Rattle.rfb.specs.declared.fault.Failure.TheVariants.{BadLine, Undone, Fault, Engine, Picture}
 use Rattle.rfb.specs.declared.play.play_options.PlayOptions.{PlayOptions}
 use Rattle.rfb_session.specs.Pixmap.{pixmap}
 
@@ -135,6 +135,7 @@ EndsShown is_wanted viewer fault before after (Engine told) =
 EndsShown is_wanted viewer fault before after (Fault own) =
     (shows_end is_wanted fault ≡ true) × BeginsPicture viewer before after
 EndsShown is_wanted viewer fault before after (BadLine n) = ⊥
+EndsShown is_wanted viewer fault before after (Undone n why) = ⊥
 EndsShown is_wanted viewer fault before after (Picture flaw) = ⊥
 
 -- a fresh viewer was fed what came by an early end, which is wanted, and a beginning of what it
@@ -164,4 +165,5 @@ FailsToPlay options read before after (Engine fault) =
     × ShowsEnd options.is_partial last fault before after
 FailsToPlay options read before after (Fault fault) = ⊤
 FailsToPlay options read before after (BadLine n) = ⊥
+FailsToPlay options read before after (Undone n why) = ⊥
 FailsToPlay options read before after (Picture flaw) = ⊥

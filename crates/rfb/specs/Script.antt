@@ -6,7 +6,7 @@ use Rattle.rfb_session.specs.declared.event.Event.{Event}
 use Rattle.rfb_session.specs.declared.event.Event.TheVariants.{Fill, Put, Copy, Hint, Request, SetFormat, SetEncodings}
 use Rattle.rfb_session.specs.declared.event.Event.TheVariants.{Key, Pointer, CutText, Compose, ToServer, ToViewer}
 use Rattle.rfb.specs.declared.fault.Failure.{Failure}
-use Rattle.rfb.specs.declared.fault.Failure.TheVariants.{BadLine, Fault, Engine, Picture}
+use Rattle.rfb.specs.declared.fault.Failure.TheVariants.{BadLine, Undone, Fault, Engine, Picture}
 use Rattle.rfb.specs.declared.fault.Fault.TheVariants.{NoMemory}
 use Rattle.rfb.specs.declared.script.line.Numbered.{Numbered}
 use Rattle.rfb_session.specs.declared.language.screen.Screen.{Screen as Size}
@@ -162,6 +162,7 @@ IsWithoutScreen lines n = AreEmpty lines × (n ≡ length lines)
 -- why lines are read to no script
 abbrev pub StopsReading : List (List ℕ) → Failure → Type 0
 StopsReading lines (BadLine n) = IsFirstBad lines n ⊎ IsWithoutScreen lines n
+StopsReading lines (Undone n why) = ⊥
 StopsReading lines (Fault fault) = fault ≡ NoMemory
 StopsReading lines (Engine fault) = ⊥
 StopsReading lines (Picture flaw) = ⊥

@@ -21,7 +21,7 @@ use Rattle.rfb_server.specs.Standing.{StandsFor, with_screen}
 use Rattle.rfb.specs.declared.fault.Fault.{Fault as FaultOf}
 use Rattle.rfb.specs.declared.fault.Fault.TheVariants.{NoMemory as OutOfMemory}
 use Rattle.rfb.specs.declared.fault.Failure.{Failure}
-use Rattle.rfb.specs.declared.fault.Failure.TheVariants.{BadLine, Fault, Engine, Picture as PictureFailure}
+use Rattle.rfb.specs.declared.fault.Failure.TheVariants.{BadLine, Undone, Fault, Engine, Picture as PictureFailure}
 use Rattle.rfb_session.specs.declared.language.screen.Screen.{Screen as Size}
 use Rattle.rfb.specs.declared.serving.serve_words.ScreenChoice.{ScreenChoice}
 use Rattle.rfb.specs.declared.serving.serve_words.ScreenChoice.TheVariants.{Scene as SceneAsked}
@@ -145,6 +145,7 @@ abbrev pub FailsToServe : Failure → Type 0
 FailsToServe (Fault fault) = ⊤
 FailsToServe (PictureFailure flaw) = ⊤
 FailsToServe (BadLine n) = ⊥
+FailsToServe (Undone n why) = ⊥
 FailsToServe (Engine fault) = ⊥
 
 -- what an error of a pixmap's is to the program
@@ -159,4 +160,5 @@ FailsToRead (Some bytes) (PictureFailure flaw) = HasFlaw bytes flaw
 FailsToRead None (PictureFailure flaw) = ⊤
 FailsToRead read (Fault fault) = ⊤
 FailsToRead read (BadLine n) = ⊥
+FailsToRead read (Undone n why) = ⊥
 FailsToRead read (Engine fault) = ⊥

@@ -5,7 +5,7 @@ use Rattle.rfb_session.specs.declared.engine.fault.EngineFault.{EngineFault}
 use Rattle.rfb_session.specs.ViewEngine.{HasViewed, StopsViewing}
 use Rattle.rfb.specs.declared.fault.Failure.{Failure}
 use Rattle.rfb.specs.declared.fault.Fault.{Fault as OwnFault}
-use Rattle.rfb.specs.declared.fault.Failure.TheVariants.{BadLine, Fault, Engine, Picture}
+use Rattle.rfb.specs.declared.fault.Failure.TheVariants.{BadLine, Undone, Fault, Engine, Picture}
 use Rattle.rfb.specs.declared.viewing.view_options.Sight.{Sight}
 use Rattle.rfb.specs.Recording.{BeginsPicture, IsFresh, ShowsEnd, WritesPicture, shows_end}
 
@@ -78,6 +78,7 @@ StopsView read answered blank copied old updates (Engine fault) new =
 StopsView read answered blank copied old updates (Fault fault) new =
     Saw read answered blank copied old updates new
 StopsView read answered blank copied old updates (BadLine n) new = ⊥
+StopsView read answered blank copied old updates (Undone n why) new = ⊥
 StopsView read answered blank copied old updates (Picture flaw) new = ⊥
 
 -- what it ended with, and, where no recording is wanted, this much of its picture was written
@@ -86,6 +87,7 @@ ShowsView sight last before after (Engine fault) =
     sight.is_recorded ≡ false → ShowsEnd sight.is_partial last fault before after
 ShowsView sight last before after (Fault fault) = ⊤
 ShowsView sight last before after (BadLine n) = ⊥
+ShowsView sight last before after (Undone n why) = ⊥
 ShowsView sight last before after (Picture flaw) = ⊥
 
 -- what a fresh viewer was fed ended it, or ended too early, or it saw all; a recording has what the

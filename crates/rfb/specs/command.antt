@@ -6,3 +6,4 @@ pub mod Values
 pub mod ServeWords
 pub mod ViewWords
 pub mod RelayWords
+pub mod DriveWords

@@ -58,6 +58,20 @@ Usage: rfb view --port <P>
 
 For more information, try '--help'.";
 
+const FOLLOWED: &str = "\
+error: the argument '--follow' cannot be used with '--record' or '--partial'
+
+Usage: rfb view [OPTIONS] [SERVER]
+
+For more information, try '--help'.";
+
+const PACE: &str = "\
+error: the argument '--fps <N>' cannot be used without '--follow'
+
+Usage: rfb view [OPTIONS] [SERVER]
+
+For more information, try '--help'.";
+
 const SIDES: &str = "\
 error: the argument '--picture <FILE>' cannot be used with '--width <N>' or '--height <N>'
 
@@ -81,8 +95,8 @@ rfb: encodings are raw, copyrect, rre and hextile: one to four of them, with a c
 /// - 0: the work is done. Help and the version count as work, and go to `output`.
 /// - 1: it failed, and a line on `errors` says why. Nothing was written to `output`, unless writing
 ///   there is what failed: then a beginning of what was to be written. What `serve`, `share`,
-///   `relay` and `view --record` write as they go stays. With `--partial` the picture of what came
-///   by an early end is written.
+///   `relay`, `view --record` and `view --follow` write as they go stays. With `--partial` the
+///   picture of what came by an early end is written.
 /// - 2: the words ask for nothing that there is, and `errors` has a text that says so.
 ///
 /// `output` is flushed before the status is chosen. A write to `errors` that fails changes nothing.
@@ -102,10 +116,10 @@ where
     ensures done { result ≡ 0 → HaveMeaning (plain_of (map S.text words.now)) }
     ensures mistake { result ≡ 2 → AreMistaken (plain_of (map S.text words.now)) }
     ensures played { result ≡ 0 → AreCommand (plain_of (map S.text words.now)) →
-        DoesAsked (plain_of (map S.text words.now))
+        DoesAsked P (plain_of (map S.text words.now))
         (R.remaining input.old) (W.contents output.old) (W.contents output.new) }
     ensures failed { result ≡ 1 → AreCommand (plain_of (map S.text words.now)) →
-        LeavesAsked (plain_of (map S.text words.now))
+        LeavesAsked P (plain_of (map S.text words.now))
         (R.remaining input.old) (W.contents output.old) (W.contents output.new) }
 {
     let Ok(plain) = plain_words(rt.alloc(), words) else {
@@ -218,6 +232,8 @@ For more information, try '--help'."
         BadValue::NoServer => writeln!(errors, "{NO_SERVER}"),
         BadValue::Sides => writeln!(errors, "{SIDES}"),
         BadValue::Connections => writeln!(errors, "{CONNECTIONS}"),
+        BadValue::Followed => writeln!(errors, "{FOLLOWED}"),
+        BadValue::Pace => writeln!(errors, "{PACE}"),
     };
 }
 

@@ -19,7 +19,7 @@ pub use early::{Early, tell_closed, tell_part};
 pub use escaped::Escaped;
 pub use failing::{Flaw, ServerFlaw, tell_client, tell_server};
 pub use heard::Heard;
-pub use hearing::{Hearing, Shared, tell_played};
+pub use hearing::{Hearing, Shared, tell_filmed, tell_played};
 pub use keeping::Writing;
 pub use placing::tell_place;
 use std::io::Write;

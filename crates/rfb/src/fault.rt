@@ -77,9 +77,23 @@ pub enum Failure {
     /// What ended an engine.
     #[error("fault {0}")]
     Engine(EngineFault),
+    /// The line of a rig with this number is not done. Those before it are.
+    #[error("line {0}: {1}")]
+    Undone(u64, Undone),
     /// What is wrong with a picture that was to be served. Nobody was.
     #[error("bad picture {0}")]
     Picture(Flaw),
+}
+
+/// Why a line of a rig is not done.
+#[derive(Clone, Copy, Debug, Error)]
+pub enum Undone {
+    /// It took too long; of number 0, the server's first update did.
+    #[error("not done in time")]
+    Late,
+    /// A file that it names could not be read or written, or spells no picture.
+    #[error("bad file")]
+    File,
 }
 
 impl Failure {

@@ -21,6 +21,8 @@ pub enum Topic {
     Owners,
     /// What a relay does, and the lines that it writes.
     Relays,
+    /// The lines of a test rig, and those that it gets.
+    Rigs,
 }
 
 impl Topic {
@@ -35,6 +37,7 @@ impl Topic {
             Topic::Servers => SERVERS,
             Topic::Owners => OWNERS,
             Topic::Relays => RELAYS,
+            Topic::Rigs => RIGS,
         }
     }
 }
@@ -119,6 +122,9 @@ updates that --updates asks for. A server sends none while nothing changes. Then
 written. With --record standard output gets in its place what the server sent up to there, as it
 comes: `rfb play` shows that as the same picture, in the same format. The server must offer the
 security type None.
+With --follow a picture is written after each update, until --updates have come or the server ends
+between two messages. --fps N asks for at most N a second, and what changes faster comes as one. A
+write that fails ends it. It goes with no --record and no --partial.
 With --timeout S a connection that is refused is tried again, and waiting ends after S seconds.
 With --partial the picture of what came by then is written; the status is 1 all the same.
 docs/PROTOCOL.md has the formats, and the faults by number.
@@ -126,7 +132,8 @@ docs/PROTOCOL.md has the formats, and the faults by number.
 Examples:
   rfb view example.org:1 -o picture.ppm
   rfb view --host example.org --port 5900 --encodings hextile,copyrect --updates 3 > picture.ppm
-  rfb view --port 5901 --record > server.rfb";
+  rfb view --port 5901 --record > server.rfb
+  rfb view localhost:1 --follow | ffmpeg -f image2pipe -c:v ppm -i - screen.mp4";
 
 const OWNERS: &str = "\
 Standard input has a line for each thing that is drawn. One space parts two words:
@@ -175,3 +182,35 @@ docs/PROTOCOL.md has the faults by number.
 
 Example, of a server at display 1 that viewers have at port 5950:
   rfb relay localhost:1 --port 5950";
+
+const RIGS: &str = "\
+Lines of standard input, or of a file with -i, are done one after another. The first is begun once the
+server's first update is whole, each of the others once the one before it is done. One space parts two
+words; an empty line and one that begins with # are skipped.
+  key NAME..                  keys go down and up; with hyphens together, as ctrl-alt-delete
+  down NAME, up NAME          one goes down, or up
+  type TEXT                   the rest of the line is typed
+  move X Y, drag X Y          the pointer goes there; with the first button down
+  click [BUTTON] [X Y]        a button goes down and up, 1 to 8; double does it twice
+  wheel up|down N             the wheel turns
+  paste HEX, paste-file FILE  a text is cut, and is the server's then
+  save FILE [X Y W H]         what the screen shows is written as PPM, or a part of it
+  expect FILE [at X Y] [within N]
+                              waits until the screen shows the picture of a PPM, each component
+                              within N of 255
+  still S                     waits until nothing has changed for S seconds
+  wait S                      waits for S seconds
+  until-change [X Y W H]      waits until the screen changes, or a part of it
+  timeout S                   the lines after it have S seconds each
+A NAME is that of X11's keysym, as Return, F5 or KP_Enter; one character; or a number as 0xFF0D. A bad
+line, and one that is not done in its time, ends all with status 1: a sentence says why.
+
+Standard output has a line for each thing that happens:
+  ready W H NAME              the first update is whole; the name by hexadecimal digits
+  done LINE                   a line is done, by its number
+  changed X Y W H             with --tell: where an update changed the screen
+  bell, text HEX              the server rings, or cuts a text
+docs/PROTOCOL.md says of each line what is sent for it.
+
+Example:
+  printf 'type make\\nkey Return\\nstill 2\\nsave built.ppm\\n' | rfb drive example.org:1";

@@ -1,14 +1,15 @@
 //! The program `rfb`: both ends of the Remote Framebuffer protocol (RFC 6143) at work.
 //!
 //! `command_line` has the statuses, `options` the words, `commands` the commands, each with a
-//! module of its own: `scripting`, `loopback`, `play`, `serving`, `viewing`, `sharing` and
-//! `relaying`. `script` has the language of scripts.
+//! module of its own: `script`, `loopback`, `play`, `serving`, `viewing`, `sharing`, `relaying` and
+//! `driving`.
 #![tactic(auto)]
 
 mod command_line;
 mod commands;
 mod context;
 mod defaults;
+mod driving;
 mod explain;
 mod fault;
 mod faults;
@@ -42,6 +43,8 @@ const SHARE: &str = "share";
 
 const RELAY: &str = "relay";
 
+const DRIVE: &str = "drive";
+
 const QUIET: &str = "--quiet";
 
 fn main(rt: HostRuntime) -> ExitCode {
@@ -63,11 +66,11 @@ fn main(rt: HostRuntime) -> ExitCode {
 }
 
 // The words that the program was called with, its own name first. `--explain` is after them where a
-// person reads the errors, the environment asks for it, or a screen is shared or relayed; unless
-// `--quiet` is among them. A word that is not UTF-8 is an error of the kind `InvalidData`.
+// person reads the errors, the environment asks for it, or a screen is shared, relayed or driven;
+// unless `--quiet` is among them. A word that is not UTF-8 is an error of the kind `InvalidData`.
 fn words(rt: &HostRuntime) -> io::Result<Vec<String>> {
     let mut words: Vec<String> = env::args(rt)?.collect(rt.alloc())?;
-    let is_wanted = rt.stderr().is_terminal() || is_asked(rt) || is_sharing(&words);
+    let is_wanted = rt.stderr().is_terminal() || is_asked(rt) || is_for_long(&words);
     if is_wanted && !has(&words, QUIET) {
         words.push(format!(in rt.alloc(); "{EXPLAIN}")?)?;
     }
@@ -79,11 +82,11 @@ fn has(words: &[String], wanted: &str) -> bool {
     words.iter().any(|word| word.as_str() == wanted)
 }
 
-// Whether they name a command that shares a screen, or relays one.
-fn is_sharing(words: &[String]) -> bool {
+// Whether they name a command that shares a screen, relays or drives one.
+fn is_for_long(words: &[String]) -> bool {
     for word in words.iter().skip(1) {
         if word.as_str() != EXPLAIN {
-            return word.as_str() == SHARE || word.as_str() == RELAY;
+            return word.as_str() == SHARE || word.as_str() == RELAY || word.as_str() == DRIVE;
         }
     }
     false

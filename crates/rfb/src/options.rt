@@ -50,6 +50,10 @@ pub enum BadValue<'a> {
     Sides,
     /// A number of connections, and no end.
     Connections,
+    /// Pictures after each update, and a recording or a part of one.
+    Followed,
+    /// A number of pictures in a second, of one alone.
+    Pace,
 }
 
 /// Why words ask for no task.

@@ -67,6 +67,19 @@ pub fn connect_once<N: Net>(net: &N, host: &str, port: u16) -> io::Result<N::Str
     Ok(stream)
 }
 
+/// The same within so many seconds, in which a refused connection is tried again.
+pub fn connect_in_time<N: Net + Clock>(
+    net: &N,
+    host: &str,
+    port: u16,
+    seconds: u32,
+) -> io::Result<N::Stream> {
+    let deadline = Deadline::new(net, Some(seconds))?;
+    let stream = connect_until(net, host, port, &deadline)?;
+    hurry(&stream)?;
+    Ok(stream)
+}
+
 /// A read or a write of this connection does not wait from here on, and what is written goes out at
 /// once. It is an error where they would wait.
 pub fn hurry<S: OpenStream>(stream: &S) -> io::Result<()> {

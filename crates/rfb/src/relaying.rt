@@ -21,7 +21,7 @@ use crate::serving::listener_at;
 use crate::sharing::READ_AT_ONCE;
 use crate::sharing::ending::result_of;
 use crate::sharing::shell::callee::Callee;
-use crate::sharing::shell::{First, Shell};
+use crate::sharing::shell::{Front, Shell};
 use crate::sharing::speaker::Reporter;
 use crate::sharing::standard::open_streams;
 use crate::sharing::tenant::{Tenant, doors_of};
@@ -62,14 +62,19 @@ pub fn relay_at<P: AllocGlobal + Clock + Net, R: Read, W: Write, E: Write>(
     let listener = listener_at(context.rt, options.listen, options.port, notes)?;
     listener.set_nonblocking(true)?;
     let alloc = context.alloc();
-    let first = First::Connection(server.as_raw_fd(), Callee::new(options.server));
-    let shell = &mut Shell::new(context.rt, alloc, listener, first, streams)?;
+    let front = Front {
+        input: None,
+        server: Some(server.as_raw_fd()),
+        callee: Some(Callee::new(options.server)),
+    };
+    let shell = &mut Shell::new(context.rt, alloc, Some(listener), front, streams)?;
     let relay = &mut relay_of(alloc, options, says);
     let mut part = Vec::from_elem(alloc, 0, READ_AT_ONCE)?;
     let server = Tenant::Connection(server);
     let mut doors = doors_of::<R, W, E, P::Stream>(
         alloc,
         server,
+        None,
         context.output,
         context.errors,
         streams,

@@ -24,17 +24,24 @@ use crate::fault::{Failure, Fault};
 use crate::serving::listener_at;
 use crate::sharing::ending::result_of;
 use crate::sharing::setup::setup_of;
-use crate::sharing::shell::{First, Shell};
+use crate::sharing::shell::{Front, Shell};
 use crate::sharing::speaker::Reporter;
 use crate::sharing::standard::open_streams;
 use crate::sharing::tenant::{Tenant, doors_of};
-use rfb_session::console::Console;
+use rfb_session::console::{Console, OWNER};
 use rfb_session::doors::live;
 pub use share_words::{SHARE, ShareOptions, share_options_in};
 use std::alloc::Global;
 use std::io::{Read, Write};
 use std::net::{Net, OpenListener};
 use std::time::Clock;
+
+// Standard input is the owner's.
+const FRONT: Front<'static> = Front {
+    input: Some(OWNER),
+    server: None,
+    callee: None,
+};
 
 /// How many bytes are read at once: as many as a pipe holds.
 pub const READ_AT_ONCE: usize = 65536;
@@ -63,11 +70,11 @@ pub fn share_at<P: AllocGlobal + Clock + Net, R: Read, W: Write, E: Write>(
     let listener = listener_at(context.rt, options.listen, options.port, notes)?;
     listener.set_nonblocking(true)?;
     let alloc = context.alloc();
-    let shell = &mut Shell::new(context.rt, alloc, listener, First::Input, streams)?;
+    let shell = &mut Shell::new(context.rt, alloc, Some(listener), FRONT, streams)?;
     let console = &mut console_of(alloc, &options, says);
     let mut part = Vec::from_elem(alloc, 0, READ_AT_ONCE)?;
     let input = Tenant::input(context.input, streams.input);
-    let mut doors = doors_of(alloc, input, context.output, context.errors, streams)?;
+    let mut doors = doors_of(alloc, input, None, context.output, context.errors, streams)?;
     live(console, &mut doors, shell, &mut part);
     result_of(console.outcome())
 }

@@ -8,6 +8,12 @@ ghost use Rattle.rfb.specs.View.{FailsToView, FailsToViewSome, IsMadeFor, Saw, S
 ghost use Rattle.rfb.specs.Recording.{shows_end};
 ghost use Rattle.rfb.specs.View.{LeavesSomeView, LeavesView, Views, ViewsSome};
 
+mod film;
+mod filming;
+mod follow_words;
+mod following;
+mod pace;
+mod stopping;
 mod view_options;
 mod view_words;
 mod waiting;
@@ -19,6 +25,9 @@ use crate::explain::{Notes, Shared, tell_unreached};
 use crate::fault::Failure;
 use crate::play::{show, show_early};
 use crate::reaching::{Patient, connect};
+pub use film::FollowOptions;
+pub use follow_words::follow_options_in;
+pub use following::follow_at;
 use rfb_session::{EngineFault, Lent, Nowhere};
 use rfb_viewer::Viewer;
 use std::alloc::Global;

@@ -6,7 +6,7 @@ ghost use Rattle.rfb.specs.CommandLine.{Does, IntoFile, Leaves, Through};
 ghost use Rattle.rfb.specs.Context.{KeepsStreams};
 
 mod source;
-mod target;
+pub mod target;
 
 use crate::commands::{Task, run};
 use crate::context::Context;
@@ -28,11 +28,11 @@ pub fn work_through<P: AllocGlobal + Clock + Files + Net, R: Read, W: Write, E: 
 ) -> Result<(), Failure>
 where
     P::File: IsTerminal,
-    ensures done { OnOk result (Through order.entry.paths (Does order.entry.task)
+    ensures done { OnOk result (Through order.entry.paths (Does P order.entry.task)
         (R.remaining context.old.input.now)
         (W.contents context.old.output.now) (W.contents context.new.output.now)) }
     ensures left { OnErr result ((context.new.output.now ≡ context.old.output.now)
-        ⊎ Through order.entry.paths (Leaves order.entry.task)
+        ⊎ Through order.entry.paths (Leaves P order.entry.task)
         (R.remaining context.old.input.now)
         (W.contents context.old.output.now) (W.contents context.new.output.now)) }
     ensures same { KeepsStreams context.old context.new }
@@ -73,10 +73,10 @@ fn work_into<P: AllocGlobal + Clock + Files + Net, R: Read, W: Write, E: Write>(
 where
     P::File: IsTerminal,
     ensures done { OnOk result (IntoFile path.entry
-        (Does task.entry (R.remaining context.old.input.now))
+        (Does P task.entry (R.remaining context.old.input.now))
         (W.contents context.old.output.now) (W.contents context.new.output.now)) }
     ensures left { OnErr result ((context.new.output.now ≡ context.old.output.now)
-        ⊎ IntoFile path.entry (Leaves task.entry (R.remaining context.old.input.now))
+        ⊎ IntoFile path.entry (Leaves P task.entry (R.remaining context.old.input.now))
         (W.contents context.old.output.now) (W.contents context.new.output.now)) }
     ensures same { KeepsStreams context.old context.new }
 {

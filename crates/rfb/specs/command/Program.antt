@@ -7,9 +7,10 @@ use Rattle.rfb.specs.declared.commands.Verb.TheVariants as verbs
 use Rattle.rfb.specs.command.Rules.{format_rule, server_rule, host_rule, listen_rule, encodings_rule, record_rule}
 use Rattle.rfb.specs.command.Rules.{partial_rule, input_rule, output_rule, any_port_rule, port_rule, side_rule}
 use Rattle.rfb.specs.command.Rules.{connections_rule, forever_rule, picture_rule, viewers_rule, name_rule, idle_rule}
-use Rattle.rfb.specs.command.Rules.{first_updates_rule, timeout_rule, updates_rule}
+use Rattle.rfb.specs.command.Rules.{timeout_rule, updates_rule, follow_rule, rate_rule}
 use Rattle.rfb.specs.command.Rules.{handshake_rule, hold_rule, shared_rule, view_only_rule, quiet_rule}
 use Rattle.rfb.specs.command.Rules.{needed_server_rule, other_name_rule, relay_encodings_rule, retry_rule}
+use Rattle.rfb.specs.command.Rules.{keep_rule, line_timeout_rule, tell_rule}
 
 -- a command of these words
 abbrev pub command : Text → List Rule → Shape
@@ -24,7 +25,7 @@ loop_shape = command (codes "loop") (input_rule ∷ output_rule ∷ [])
 
 abbrev pub play_shape : Shape
 play_shape = command (codes "play")
-    (format_rule ∷ first_updates_rule ∷ partial_rule ∷ input_rule ∷ output_rule ∷ [])
+    (format_rule ∷ updates_rule ∷ partial_rule ∷ input_rule ∷ output_rule ∷ [])
 
 abbrev pub serve_shape : Shape
 serve_shape = command (codes "serve")
@@ -33,8 +34,8 @@ serve_shape = command (codes "serve")
 
 abbrev pub view_shape : Shape
 view_shape = command (codes "view")
-    (server_rule ∷ host_rule ∷ any_port_rule ∷ updates_rule ∷ format_rule ∷ encodings_rule
-    ∷ record_rule ∷ timeout_rule ∷ partial_rule ∷ output_rule ∷ [])
+    (server_rule ∷ host_rule ∷ any_port_rule ∷ updates_rule ∷ follow_rule ∷ rate_rule ∷ format_rule
+    ∷ encodings_rule ∷ record_rule ∷ timeout_rule ∷ partial_rule ∷ output_rule ∷ [])
 
 abbrev pub share_shape : Shape
 share_shape = command (codes "share")
@@ -47,6 +48,11 @@ relay_shape = command (codes "relay")
     ∷ handshake_rule ∷ timeout_rule ∷ retry_rule ∷ shared_rule ∷ view_only_rule ∷ quiet_rule
     ∷ format_rule ∷ relay_encodings_rule ∷ [])
 
+abbrev pub drive_shape : Shape
+drive_shape = command (codes "drive")
+    (needed_server_rule ∷ line_timeout_rule ∷ keep_rule ∷ tell_rule ∷ quiet_rule ∷ format_rule
+    ∷ relay_encodings_rule ∷ input_rule ∷ [])
+
 abbrev pub shape_named : Verb → Shape
 shape_named verbs.Script = script_shape
 shape_named verbs.Loop = loop_shape
@@ -55,6 +61,7 @@ shape_named verbs.Serve = serve_shape
 shape_named verbs.View = view_shape
 shape_named verbs.Share = share_shape
 shape_named verbs.Relay = relay_shape
+shape_named verbs.Drive = drive_shape
 
 -- what a command is called
 abbrev pub name_of : Verb → Text
@@ -70,8 +77,8 @@ top = record {
 abbrev pub program : App
 program =
     with_subcommand (with_subcommand (with_subcommand (with_subcommand (with_subcommand
-    (with_subcommand (with_subcommand top script_shape) loop_shape) play_shape) serve_shape)
-    view_shape) share_shape) relay_shape
+    (with_subcommand (with_subcommand (with_subcommand top script_shape) loop_shape) play_shape)
+    serve_shape) view_shape) share_shape) relay_shape) drive_shape
 
 -- the command that words name, and what they give to its options
 abbrev pub asked : List Text → Option (Text × List Row)

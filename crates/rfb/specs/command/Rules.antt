@@ -139,19 +139,37 @@ view_only_rule = flag_rule (codes "view-only")
 abbrev pub quiet_rule : Rule
 quiet_rule = flag_rule (codes "quiet")
 
--- how many updates are played, or else all
-abbrev pub first_updates_rule : Rule
-first_updates_rule = number_rule (codes "updates") 1 4294967295
+-- how many updates are played or viewed, or else as many as the command has it
+abbrev pub updates_rule : Rule
+updates_rule = number_rule (codes "updates") 1 4294967295
 
 -- after how many seconds waiting ends, or else never
 abbrev pub timeout_rule : Rule
 timeout_rule = number_rule (codes "timeout") 1 4294967295
 
+-- how many seconds a line of a rig has
+abbrev pub line_timeout_rule : Rule
+line_timeout_rule = seconds_rule (codes "timeout") (codes "30")
+
+-- a folder for what the screen showed
+abbrev pub keep_rule : Rule
+keep_rule = record (new_rule (codes "keep")) {
+  long = Some (codes "keep");
+  value_names = 1;
+}
+
+-- changes of the screen are reported
+abbrev pub tell_rule : Rule
+tell_rule = flag_rule (codes "tell")
+
 -- after how many seconds a server that went away is called again, or else never
 abbrev pub retry_rule : Rule
 retry_rule = number_rule (codes "retry") 1 4294967295
 
-abbrev pub updates_rule : Rule
-updates_rule = record (number_rule (codes "updates") 1 4294967295) {
-  defaults = codes "1" ∷ [];
-}
+-- a picture is wanted after each update
+abbrev pub follow_rule : Rule
+follow_rule = flag_rule (codes "follow")
+
+-- how many of them in a second at most, or else thirty
+abbrev pub rate_rule : Rule
+rate_rule = number_rule (codes "fps") 1 1000

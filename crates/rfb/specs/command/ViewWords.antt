@@ -1,12 +1,14 @@
 -- What the words of `view` ask for.
-use Rattle.std.specs.Prelude.{◌⊎◌, ℕ, List, [], ◌∷◌, Option, codes}
+use Rattle.std.specs.Prelude.{◌⊎◌, ℕ, true, false, List, [], ◌∷◌, Option, codes}
 use Rattle.clap.specs.Words.{Row, Text, first_of}
 use Rattle.rfb_wire.specs.declared.encoding.Encoding.TheVariants.{Raw}
 use Rattle.rfb.specs.declared.viewing.view_options.ViewOptions.{ViewOptions}
 use Rattle.rfb.specs.declared.viewing.view_options.Sight.{Sight}
+use Rattle.rfb.specs.declared.viewing.film.FollowOptions.{FollowOptions}
+use Rattle.rfb.specs.declared.viewing.film.Film.{Film}
 use Rattle.rfb.specs.Address.{GivesServer}
 use Rattle.rfb.specs.command.Values.{GivesEncodings, GivesFormat, HasBadEncodings, HasBadFormat}
-use Rattle.rfb.specs.command.Values.{GivesNumber, IsFlagged, MayGiveNumber}
+use Rattle.rfb.specs.command.Values.{GivesOr, IsAbsent, IsFlagged, IsThere, MayGiveNumber}
 
 -- the server that is given
 abbrev pub NamesServer : List Row → Option ℕ → Text → ℕ → Type 0
@@ -28,12 +30,13 @@ HasBadAddress rows =
 pub record GivesSight (rows : List Row) (sight : Sight) : Type 0 where
   pub format : GivesFormat rows sight.wants.format
   pub encodings : GivesEncodings (Raw ∷ []) rows sight.wants.encodings.items
-  pub updates : GivesNumber (codes "updates") 1 4294967295 rows sight.updates
+  pub updates : GivesOr (codes "updates") 4294967295 1 rows sight.updates
   pub is_recorded : IsFlagged (codes "record") rows sight.is_recorded
   pub is_partial : IsFlagged (codes "partial") rows sight.is_partial
 
--- what `view` is asked for
+-- what `view` is asked for, where one picture is wanted
 pub record GivesViewOptions (rows : List Row) (options : ViewOptions) : Type 0 where
+  pub unpaced : IsAbsent (codes "fps") rows
   pub address : GivesAddress rows options.host.now options.port
   pub timeout : MayGiveNumber (codes "timeout") 1 4294967295 rows options.timeout
   pub sight : GivesSight rows options.sight
@@ -42,6 +45,33 @@ pub record GivesViewOptions (rows : List Row) (options : ViewOptions) : Type 0 w
 abbrev pub HasBadSight : List Row → Type 0
 HasBadSight rows = HasBadFormat rows ⊎ HasBadEncodings rows
 
--- or it names no server
-abbrev pub HasBadView : List Row → Type 0
-HasBadView rows = HasBadAddress rows ⊎ HasBadSight rows
+-- or it names no server, or says how many pictures there are in a second
+abbrev pub HasBadLook : List Row → Type 0
+HasBadLook rows = HasBadAddress rows ⊎ HasBadSight rows ⊎ IsThere (codes "fps") rows
+
+-- where a picture is wanted after each update: what is to be seen
+pub record GivesFilm (rows : List Row) (film : Film) : Type 0 where
+  pub format : GivesFormat rows film.wants.format
+  pub encodings : GivesEncodings (Raw ∷ []) rows film.wants.encodings.items
+  pub updates : MayGiveNumber (codes "updates") 1 4294967295 rows film.updates
+  pub rate : GivesOr (codes "fps") 1000 30 rows film.rate
+
+-- what `view` is asked for then
+pub record GivesFollowOptions (rows : List Row) (options : FollowOptions) : Type 0 where
+  pub unrecorded : IsFlagged (codes "record") rows false
+  pub whole : IsFlagged (codes "partial") rows false
+  pub address : GivesAddress rows options.host.now options.port
+  pub timeout : MayGiveNumber (codes "timeout") 1 4294967295 rows options.timeout
+  pub film : GivesFilm rows options.film
+
+-- it names no server, or a word is no format, or no list of encodings; or a recording is wanted, or a part of a
+-- picture
+abbrev pub HasBadFollow : List Row → Type 0
+HasBadFollow rows =
+    HasBadAddress rows ⊎ HasBadSight rows ⊎ IsFlagged (codes "record") rows true
+    ⊎ IsFlagged (codes "partial") rows true
+
+-- where one picture is wanted, or one after each update
+pub data HasBadView (rows : List Row) : Type 0 where
+  BadOnce : IsFlagged (codes "follow") rows false → HasBadLook rows → HasBadView rows
+  BadAlways : IsFlagged (codes "follow") rows true → HasBadFollow rows → HasBadView rows

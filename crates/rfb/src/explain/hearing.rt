@@ -78,6 +78,11 @@ pub fn tell_played<N: Write>(updates: u64, notes: &mut N) {
     let _ = writeln!(notes, "rfb: updates played: {updates}");
 }
 
+/// Says how many pictures of a server were written.
+pub fn tell_filmed<N: Write>(pictures: u64, notes: &mut N) {
+    let _ = writeln!(notes, "rfb: pictures written: {pictures}");
+}
+
 // Says why a read failed, after what was heard.
 fn tell_read<N: Write>(error: &io::Error, heard: &Heard, notes: &mut N) {
     let kind = error.kind();

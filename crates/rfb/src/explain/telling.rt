@@ -1,5 +1,6 @@
 //! A watcher that tells how a viewer goes.
 
+ghost use Rattle.std.specs.Prelude.{◌≡◌};
 ghost use Rattle.rfb.specs.Explain.{Tells};
 
 use crate::explain::Escaped;
@@ -19,25 +20,50 @@ pub enum Origin {
     Recording,
 }
 
-/// Says of what server a viewer's bytes are, and of a connection at each update how many have
-/// ended.
+/// Says of what server a viewer's bytes are, and at each update how many have ended, if that is to
+/// be said.
 #[derive(Drop)]
 pub struct Telling<N> {
     origin: Origin,
     notes: N,
+    // Whether each update is told.
+    tells_each: bool,
     is_ready: bool,
     updates: u64,
 }
 
 impl<N> Telling<N> {
-    /// Nothing was heard yet.
+    ghost use Rattle.rfb.specs.Explain.{updates_told};
+
+    /// Nothing was heard yet. Of a connection each update is told.
     pub fn new(origin: Origin, notes: N) -> Telling<N> {
         Telling {
             origin,
             notes,
+            tells_each: matches!(origin, Origin::Connection),
             is_ready: false,
             updates: 0,
         }
+    }
+
+    /// The same, and no update is told.
+    pub fn quiet(origin: Origin, notes: N) -> Telling<N>
+        ensures { updates_told result ≡ 0 }
+    {
+        Telling {
+            origin,
+            notes,
+            tells_each: false,
+            is_ready: false,
+            updates: 0,
+        }
+    }
+
+    /// How many updates came to their end, as many as a `u64` has.
+    pub fn updates(&self) -> u64
+        ensures { result ≡ updates_told self.now }
+    {
+        self.updates
     }
 
     /// Whether the handshake came to its end, and how many updates did, as many as a `u64` has.
@@ -56,7 +82,7 @@ impl<N: Write> Watcher for Telling<N> {
 
     fn updated(&mut self, _viewer: &Viewer) {
         self.updates = self.updates.saturating_add(1);
-        if let Origin::Connection = self.origin {
+        if self.tells_each {
             let _ = writeln!(self.notes, "rfb: updates so far: {}", self.updates);
         }
     }

@@ -26,6 +26,14 @@ pub const FORMAT: Word<'static> = Word {
     help: "The format of pixels, from the first update on: rgb888, rgb565, bgr233 or rgb101010",
 };
 
+/// The encodings that are asked for.
+pub const ALL_ENCODINGS: Word<'static> = Word {
+    name: "encodings",
+    mark: Mark::Long,
+    takes: Takes::TextOr("E", "copyrect,hextile,rre,raw"),
+    help: "One to four of raw, copyrect, rre and hextile with commas, the best first",
+};
+
 /// Whether what has come by an early end is wanted.
 pub const PARTIAL: Word<'static> = Word {
     name: "partial",

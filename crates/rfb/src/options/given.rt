@@ -7,10 +7,13 @@ ghost use Rattle.rfb_pixel.specs.Format.{PixelFormat};
 ghost use Rattle.rfb_wire.specs.declared.encoding.Encoding.{Encoding as AnEncoding};
 ghost use Rattle.rfb.specs.command.Values.{GivesEncodings, HasBadEncodings};
 ghost use Rattle.rfb.specs.command.Values.{GivesFormat, GivesNumber, GivesOr, HasBadFormat};
+ghost use Rattle.rfb.specs.command.RelayWords.{GivesWants, HasBadWants};
 ghost use Rattle.rfb.specs.command.Values.{IsAbsent, IsFlagged, IsThere, MayGiveNumber};
 ghost use Rattle.rfb_session.specs.language.Words.{AreEncodings, IsFormatWord, parts_of};
 
+use crate::defaults::all_encodings;
 use crate::options::BadValue;
+use crate::script::Wants;
 use arrayvec::ArrayVec;
 use clap::ArgMatches;
 use rfb_pixel::Format;
@@ -89,6 +92,16 @@ fn encodings_named<'a>(list: &'a str) -> Result<ArrayVec<Encoding, 4>, BadValue<
         Some(encodings) => Ok(encodings),
         None => Err(BadValue::Encodings),
     }
+}
+
+/// What a server is asked for: in all encodings if none are given. The format is judged first.
+pub fn wants_in<'a>(given: &ArgMatches<'a>) -> Result<Wants, BadValue<'a>>
+    ensures { MatchResult result (GivesWants (rows_of (found_of given.now)))
+        (λ _. HasBadWants (rows_of (found_of given.now))) }
+{
+    let format = format_in(given)?;
+    let encodings = encodings_in(given, all_encodings())?;
+    Ok(Wants { format, encodings })
 }
 
 /// The number that is given, which is one of these by then.

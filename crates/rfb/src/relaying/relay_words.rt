@@ -2,20 +2,16 @@
 
 ghost use Rattle.std.specs.Prelude.{◌≡◌, codes, option_map, MatchResult};
 ghost use Rattle.clap.specs.Words.{first_of, found_of, rows_of};
-ghost use Rattle.rfb.specs.command.RelayWords.{GivesRelayOptions, GivesWants, HasBadRelay};
-ghost use Rattle.rfb.specs.command.RelayWords.{HasBadWants};
+ghost use Rattle.rfb.specs.command.RelayWords.{GivesRelayOptions, HasBadRelay};
 
-use crate::defaults::all_encodings;
 use crate::help::Topic;
 use crate::options::BadValue;
 use crate::options::address::{Address, NEEDED_SERVER, server_in};
 use crate::options::common::{
-    ALWAYS_SHARED, FORMAT, HANDSHAKE, HANDSHAKE_SECONDS, LISTEN, MOST_VIEWERS, PATIENCE, PORT,
-    QUIET, UNTIL_IDLE, VIEWERS,
+    ALL_ENCODINGS, ALWAYS_SHARED, FORMAT, HANDSHAKE, HANDSHAKE_SECONDS, LISTEN, MOST_VIEWERS,
+    PATIENCE, PORT, QUIET, UNTIL_IDLE, VIEWERS,
 };
-use crate::options::given::{
-    count_or, encodings_in, format_in, is_given, number_given, number_in, word_in,
-};
+use crate::options::given::{count_or, is_given, number_given, number_in, wants_in};
 use crate::options::usage::{Mark, Takes, Usage, Word};
 use crate::script::Wants;
 use crate::serving::listen_in;
@@ -87,12 +83,7 @@ pub const RELAY: &Usage<'static> = &Usage {
         },
         QUIET,
         FORMAT,
-        Word {
-            name: "encodings",
-            mark: Mark::Long,
-            takes: Takes::TextOr("E", "copyrect,hextile,rre,raw"),
-            help: "One to four of raw, copyrect, rre and hextile with commas, the best first",
-        },
+        ALL_ENCODINGS,
     ],
 };
 
@@ -118,16 +109,6 @@ pub fn relay_options_in<'a>(given: &ArgMatches<'a>) -> Result<RelayOptions<'a>, 
         is_quiet: is_given(given, "quiet"),
         wants,
     })
-}
-
-// What the server is asked for. The format is judged first.
-fn wants_in<'a>(given: &ArgMatches<'a>) -> Result<Wants, BadValue<'a>>
-    ensures { MatchResult result (GivesWants (rows_of (found_of given.now)))
-        (λ _. HasBadWants (rows_of (found_of given.now))) }
-{
-    let format = format_in(given)?;
-    let encodings = encodings_in(given, all_encodings())?;
-    Ok(Wants { format, encodings })
 }
 
 // The name that viewers get, if one is given.

@@ -3,7 +3,8 @@
 ghost use Rattle.std.specs.Prelude.{◌≡◌, ◌≢◌, None, IfOk, OnOk};
 ghost use Rattle.rfb.specs.declared.script.line.Step.TheVariants.{Settle};
 ghost use Rattle.rfb.specs.Few.{HasFew};
-ghost use Rattle.rfb.specs.ScriptRun.{StandsFresh, TakesStep, TellsRefusal, encodings_of, format_of};
+ghost use Rattle.rfb.specs.ScriptRun.{StandsFresh, TakesStep, TellsRefusal, encodings_of};
+ghost use Rattle.rfb.specs.ScriptRun.{format_of};
 
 use crate::defaults::{copy_of, fresh_server, fresh_viewer, only_raw};
 use crate::fault::Fault;

@@ -20,12 +20,12 @@ pub fn result_of(outcome: Option<Outcome>) -> Result<(), Failure>
         Some(Outcome::BadLine(number)) => Err(Failure::BadLine(number)),
         Some(Outcome::NoMemory) => Err(Failure::Fault(Fault::NoMemory)),
         Some(Outcome::Device) | None => Err(Failure::Fault(Fault::Device)),
-        Some(Outcome::ServerGone(why)) => Err(Failure::Engine(fault_of(why))),
+        Some(Outcome::ServerGone(why)) => Err(Failure::Engine(fault_of_server(why))),
     }
 }
 
-// The fault that `view` ends with where a server goes away so.
-fn fault_of(why: Gone) -> EngineFault
+/// The fault that `view` ends with where a server goes away so.
+pub fn fault_of_server(why: Gone) -> EngineFault
     ensures { result ≡ engine_fault why }
 {
     match why {

@@ -1,5 +1,4 @@
-//! The system as the loop of a share or a relay knows it: which doors are ready, the time, and who
-//! comes.
+//! The system as the loop of a core knows it: which doors are ready, the time, and who comes.
 
 pub mod callee;
 mod entry;
@@ -10,7 +9,8 @@ use crate::sharing::shell::callee::Callee;
 use crate::sharing::standard::{Blocking, ERRORS, INPUT, OUTPUT, Streams};
 use mio::unix::SourceFd;
 use mio::{Events, Interest, Poll, Token};
-use rfb_session::console::{DOORS, LINES, NOTES, OWNER};
+use rfb_session::console::{DOORS, LINES, NOTES};
+use rfb_session::relay::SERVER;
 use std::alloc::Global;
 use std::io;
 use std::net::Net;
@@ -35,13 +35,15 @@ enum Ear {
     Barred,
 }
 
-/// What stands at the first door.
+/// What stands at the doors before anybody comes, beside the streams that are written.
 #[derive(Clone, Copy)]
-pub enum First<'a> {
-    /// Standard input, which blocks.
-    Input,
-    /// A connection with this descriptor, which does not, and whom to call once it has ended.
-    Connection(RawFd, Callee<'a>),
+pub struct Front<'a> {
+    /// The door of standard input, which blocks, if it is read.
+    pub input: Option<usize>,
+    /// The descriptor of the connection to a server, which does not, if there is one.
+    pub server: Option<RawFd>,
+    /// Whom to call once that has ended, if anybody.
+    pub callee: Option<Callee<'a>>,
 }
 
 /// A poll over the doors and a listener, and a clock.
@@ -56,13 +58,13 @@ pub struct Shell<'a, L, C> {
     // What is worth a read, and what a write.
     reads: Ready,
     writes: Ready,
-    // Standard input, where it stands at the first door.
+    // Standard input, where it is read.
     input: Option<Blocking>,
     // Whom to call, where anybody.
     callee: Option<Callee<'a>>,
     output: Blocking,
     errors: Blocking,
-    listener: L,
+    listener: Option<L>,
     ear: Ear,
     // The connection that was accepted last, or begun.
     newest: Option<RawFd>,
@@ -74,41 +76,39 @@ pub struct Shell<'a, L, C> {
 }
 
 impl<'a, L: AsRawFd + Drop, C: Net + Clock> Shell<'a, L, C> {
-    /// Looks at what stands at the first door, at the standard streams that there are beside it,
-    /// and at a listener that does not wait.
+    /// Looks at what stands at the doors, and at a listener that does not wait, if there is one.
     pub fn new(
         rt: &'a C,
         alloc: Global,
-        listener: L,
-        first: First<'a>,
+        listener: Option<L>,
+        front: Front<'a>,
         streams: Streams,
     ) -> io::Result<Shell<'a, L, C>> {
         let poll = Poll::new(rt)?;
         let registry = poll.registry();
         let (reads, writes) = (Interest::READABLE, Interest::WRITABLE);
-        let (input, callee) = match first {
-            First::Input => {
-                let input = Blocking::at(OWNER, INPUT, reads, streams.input, registry);
-                (Some(input), None)
-            }
-            First::Connection(fd, callee) => {
-                registry.register(&mut SourceFd(&fd), Token(OWNER), reads | writes)?;
-                (None, Some(callee))
-            }
-        };
         let output = Blocking::at(LINES, OUTPUT, writes, streams.output, registry);
         let errors = Blocking::at(NOTES, ERRORS, writes, streams.errors, registry);
-        registry.register(&mut SourceFd(&listener.as_raw_fd()), LISTENER, reads)?;
-        let (mut reads, mut writes) = (Ready::none(), Ready::none());
-        match &input {
-            Some(input) => reads.note(OWNER, input.is_constant()),
-            None => {
-                reads.note(OWNER, true);
-                writes.note(OWNER, true);
+        let mut ready = (Ready::none(), Ready::none());
+        ready.1.note(LINES, output.is_constant());
+        ready.1.note(NOTES, errors.is_constant());
+        let input = match front.input {
+            Some(door) => {
+                let input = Blocking::at(door, INPUT, reads, streams.input, registry);
+                ready.0.note(door, input.is_constant());
+                Some(input)
             }
+            None => None,
+        };
+        if let Some(fd) = front.server {
+            registry.register(&mut SourceFd(&fd), Token(SERVER), reads | writes)?;
+            ready.0.note(SERVER, true);
+            ready.1.note(SERVER, true);
         }
-        writes.note(LINES, output.is_constant());
-        writes.note(NOTES, errors.is_constant());
+        if let Some(listener) = &listener {
+            registry.register(&mut SourceFd(&listener.as_raw_fd()), LISTENER, reads)?;
+        }
+        let (reads, writes) = ready;
         Ok(Shell {
             clock: rt,
             start: Instant::now(rt)?,
@@ -118,7 +118,7 @@ impl<'a, L: AsRawFd + Drop, C: Net + Clock> Shell<'a, L, C> {
             reads,
             writes,
             input,
-            callee,
+            callee: front.callee,
             output,
             errors,
             listener,

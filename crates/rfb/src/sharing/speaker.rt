@@ -97,8 +97,8 @@ fn say_why_away(why: Gone, note: &mut Note) -> fmt::Result {
     }
 }
 
-// Says why it goes away, or is let go.
-fn say_why_gone(why: Gone, note: &mut Note) -> fmt::Result {
+/// Says why it goes away, or is let go.
+pub fn say_why_gone(why: Gone, note: &mut Note) -> fmt::Result {
     match why {
         Gone::Closed => writeln!(note, "rfb: the server leaves: it closed its connection"),
         Gone::Device => writeln!(note, "rfb: the server leaves: its connection broke"),

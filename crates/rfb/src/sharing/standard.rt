@@ -101,6 +101,11 @@ impl Blocking {
             .is_err()
     }
 
+    /// The door at which it stands.
+    pub fn door(&self) -> usize {
+        self.door
+    }
+
     /// Whether it is always ready.
     pub fn is_constant(&self) -> bool {
         !self.tells

@@ -1,4 +1,4 @@
-//! What stands at the doors of a share or a relay.
+//! What stands at the doors of a core.
 
 ghost use Rattle.std.specs.Prelude.{◌≤◌, None, length};
 ghost use Rattle.std.specs.Io.{WritesAtMost};
@@ -112,18 +112,23 @@ fn length_at_once(buf: &[u8]) -> usize
 /// A device at a door, or nobody.
 pub type Door<'a, R, W, E, S> = Place<Counted<Tenant<'a, R, W, E, S>>>;
 
-/// The doors: what stands at the first, the streams of the process that lines and notes go to, and
-/// nobody at the others.
+/// The doors: what is at the first, and at the second if anything is, the streams of the process
+/// that lines and notes go to, and nobody at the others.
 pub fn doors_of<'a, R: Read, W: Write, E: Write, S: Read + Write + Drop>(
     alloc: Global,
     first: Tenant<'a, R, W, E, S>,
+    second: Option<Tenant<'a, R, W, E, S>>,
     output: &'a mut W,
     errors: &'a mut E,
     streams: Streams,
 ) -> Result<Vec<Door<'a, R, W, E, S>>, AllocError> {
     let mut doors = Vec::with_capacity(alloc, DOORS)?;
     doors.push(held(first))?;
-    for _seat in 0..SLOTS {
+    match second {
+        Some(tenant) => doors.push(held(tenant))?,
+        None => doors.push(Place::Empty)?,
+    }
+    for _seat in 1..SLOTS {
         doors.push(Place::Empty)?;
     }
     doors.push(held(Tenant::Output(output)))?;

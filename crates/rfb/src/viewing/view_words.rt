@@ -1,19 +1,19 @@
 //! The words of `view`.
 
-ghost use Rattle.std.specs.Prelude.{◌≤◌, codes, MatchResult};
+ghost use Rattle.std.specs.Prelude.{MatchResult};
 ghost use Rattle.clap.specs.Words.{found_of, rows_of};
-ghost use Rattle.rfb.specs.command.Values.{GivesNumber};
 ghost use Rattle.rfb.specs.command.ViewWords.{GivesViewOptions, GivesSight};
-ghost use Rattle.rfb.specs.command.ViewWords.{HasBadView, HasBadSight};
+ghost use Rattle.rfb.specs.command.ViewWords.{HasBadLook, HasBadSight};
 
 use crate::defaults::only_raw;
 use crate::help::Topic;
 use crate::options::BadValue;
 use crate::options::address::{ANY_PORT, HOST, SERVER, address_in};
 use crate::options::common::{FORMAT, OUTPUT, PARTIAL};
-use crate::options::given::{encodings_in, format_in, is_given, number_given};
+use crate::options::given::{count_or, encodings_in, format_in, is_given, is_there, number_given};
 use crate::options::usage::{Mark, Takes, Usage, Word};
 use crate::script::Wants;
+use crate::viewing::follow_words::MOST_RATE;
 use crate::viewing::{Sight, ViewOptions};
 use clap::ArgMatches;
 
@@ -29,8 +29,20 @@ pub const VIEW: &Usage<'static> = &Usage {
         Word {
             name: "updates",
             mark: Mark::Long,
-            takes: Takes::NumberOr("U", u32::MAX, "1"),
-            help: "How many updates are viewed, 1 to 4294967295",
+            takes: Takes::Number("U", u32::MAX),
+            help: "The updates that are viewed, 1 to 4294967295; 1 without it, with --follow all",
+        },
+        Word {
+            name: "follow",
+            mark: Mark::Long,
+            takes: Takes::Nothing,
+            help: "Writes the picture after each update, one after another, until the server ends",
+        },
+        Word {
+            name: "fps",
+            mark: Mark::Long,
+            takes: Takes::Number("N", MOST_RATE as u32),
+            help: "The pictures of --follow in a second at most, 1 to 1000; 30 without it",
         },
         FORMAT,
         Word {
@@ -56,11 +68,15 @@ pub const VIEW: &Usage<'static> = &Usage {
     ],
 };
 
-/// The server that is to be viewed, and what is to be seen of it.
+/// The server that is to be viewed once, and what is to be seen of it. A number of pictures in a
+/// second goes with no single one.
 pub fn view_options_in<'a>(given: &ArgMatches<'a>) -> Result<ViewOptions<'a>, BadValue<'a>>
     ensures { MatchResult result (GivesViewOptions (rows_of (found_of given.now)))
-        (λ _. HasBadView (rows_of (found_of given.now))) }
+        (λ _. HasBadLook (rows_of (found_of given.now))) }
 {
+    if is_there(given, "fps") {
+        return Err(BadValue::Pace);
+    }
     let address = address_in(given)?;
     let sight = sight_in(given)?;
     Ok(ViewOptions {
@@ -80,20 +96,8 @@ fn sight_in<'a>(given: &ArgMatches<'a>) -> Result<Sight, BadValue<'a>>
     let encodings = encodings_in(given, only_raw())?;
     Ok(Sight {
         wants: Wants { format, encodings },
-        updates: updates_in(given),
+        updates: count_or(given, "updates", 1),
         is_recorded: is_given(given, "record"),
         is_partial: is_given(given, "partial"),
     })
-}
-
-// How many updates are viewed.
-fn updates_in(given: &ArgMatches<'_>) -> u32
-    ensures number { GivesNumber (codes "updates") 1 4294967295 (rows_of (found_of given.now))
-        result }
-    ensures some { 1 ≤ result }
-{
-    match number_given(given, "updates") {
-        Some(number) => number,
-        None => 1,
-    }
 }

@@ -1,7 +1,8 @@
 //! A viewer at work over a connection, and what is told of it.
 
-ghost use Rattle.std.specs.Prelude.{◌≡◌, ◌≤◌, IfOk, IfErr};
+ghost use Rattle.std.specs.Prelude.{◌≡◌, ◌≤◌, ℕ, IfOk, IfErr, List, Option};
 ghost use Rattle.rfb.specs.View.{Saw, StopsSeeing};
+ghost use Rattle.rfb_session.specs.Watcher.{EndsViewing, HearsRead};
 
 use crate::explain::{
     Early, Heard, Hearing, Origin, Shared, Telling, Writing, tell_closed, tell_part, tell_server,
@@ -54,9 +55,9 @@ pub fn watch_heard<R: Read + Drop, V: Write + Drop, K: Sink, N: Write>(
     ended
 }
 
-// Runs a viewer until `updates` updates ended, with what it is fed in a sink that has not failed
-// before.
-fn watch<R: Read + Drop, V: Write + Drop, K: Sink, A: Watcher>(
+/// Runs a viewer until `updates` updates ended, with what it is fed in a sink that has not failed
+/// before, and with somebody who watches.
+pub fn watch<R: Read + Drop, V: Write + Drop, K: Sink, A: Watcher>(
     reader: R,
     writer: V,
     kept: &mut K,
@@ -72,6 +73,9 @@ fn watch<R: Read + Drop, V: Write + Drop, K: Sink, A: Watcher>(
     ensures stopped { IfErr result (λ fault.
         StopsSeeing (R.remaining reader) (V.contents writer) (K.written kept.old)
         (K.written kept.new) viewer.old updates fault viewer.new) }
+    ensures heard { (left : Option (List ℕ)) × HearsRead A.steps
+        (EndsViewing updates result viewer.new) (R.remaining reader) left
+        viewer.old watcher.old watcher.new }
     ensures same_reference { K.reference kept.new ≡ K.reference kept.old }
 {
     let mut source = Tally::new(reader);

@@ -96,6 +96,12 @@ impl<F: OpenFile> Target<F> {
         }
     }
 
+    /// Why a write failed; where none did, that it is cut short.
+    pub fn failure(&self) -> io::Error {
+        self.failure
+            .unwrap_or(io::Error::from(ErrorKind::WriteZero))
+    }
+
     /// Whether something was written to a regular file.
     pub fn has_bytes(&self) -> bool {
         match self.file.metadata() {

@@ -1,4 +1,4 @@
-//! The connections that come to a share or a relay, and those that a relay begins.
+//! The connections that come to a core, and those that it begins.
 
 ghost use Rattle.std.specs.Prelude.{⊤};
 
@@ -28,7 +28,10 @@ where
         if self.ear != Ear::Ringing {
             return None;
         }
-        match self.listener.accept() {
+        let Some(listener) = &self.listener else {
+            return None;
+        };
+        match listener.accept() {
             Ok((stream, address)) => {
                 self.is_stirred = true;
                 self.newest = Some(stream.as_raw_fd());

@@ -5,6 +5,7 @@ ghost use Rattle.rfb.specs.Ready.{is_ready};
 use crate::sharing::shell::{Ear, LISTENER, Shell};
 use rfb_session::console::{LINES, NOTES, OWNER};
 use rfb_session::doors::{Answer, Clock, Pause};
+use rfb_session::relay::SERVER;
 use std::time;
 use std::time::Duration;
 
@@ -108,7 +109,7 @@ impl<L: Drop, C: time::Clock> Shell<'_, L, C> {
 
     // Whoever was called has answered, where bytes have come at the first door.
     fn note_answered(&mut self, door: usize, has_come: bool) {
-        if !has_come || door != OWNER {
+        if !has_come || door != SERVER {
             return;
         }
         if let Some(callee) = &mut self.callee {
@@ -119,7 +120,7 @@ impl<L: Drop, C: time::Clock> Shell<'_, L, C> {
     // Whether a door that was read can be read again without waiting.
     fn may_read_on(&self, door: usize) -> bool {
         match &self.input {
-            Some(input) if door == OWNER => input.is_ready_again(self.poll.registry()),
+            Some(input) if door == input.door() => input.is_ready_again(self.poll.registry()),
             _ => true,
         }
     }

@@ -22,3 +22,6 @@ returns-in-Share c = sym (ap shape_named c.in-Share.is)
 
 pub returns-in-Relay : goal.returns-in-Relay
 returns-in-Relay c = sym (ap shape_named c.in-Relay.is)
+
+pub returns-in-Drive : goal.returns-in-Drive
+returns-in-Drive c = sym (ap shape_named c.in-Drive.is)

@@ -1,0 +1,133 @@
+//! A server that lines drive: keys, a pointer and texts go to it, and what its screen shows is
+//! waited for, compared and saved.
+//!
+//! The core of it is a `Driver`, which has no IO. It is behind the doors of a share: at the first of
+//! them the connection to the server, at the second the lines. Its `FileRig` has the files.
+
+ghost use Rattle.std.specs.Prelude.{OnOk, OnErr, IfErr};
+ghost use Rattle.rfb.specs.Context.{KeepsStreams};
+ghost use Rattle.rfb.specs.Drive.{Drives, FailsToDrive, IsDriverOf, LeavesDrive};
+
+mod drive_words;
+mod ending;
+mod files;
+mod rig;
+mod sentences;
+mod setup;
+
+use crate::context::Context;
+use crate::driving::ending::drive_result;
+use crate::driving::rig::FileRig;
+use crate::driving::setup::setup_of;
+use crate::explain::{Notes, tell_closed_output, tell_unreached};
+use crate::fault::{Failure, Fault};
+use crate::options::address::Address;
+use crate::reaching::connect_in_time;
+use crate::sharing::READ_AT_ONCE;
+use crate::sharing::shell::{Front, Shell};
+use crate::sharing::standard::{Streams, open_streams};
+use crate::sharing::tenant::{Tenant, doors_of};
+pub use drive_words::{DRIVE, DriveOptions, drive_options_in};
+use rfb_session::doors::live;
+use rfb_session::drive::{Driver, ORDERS};
+use std::alloc::Global;
+use std::fs::Files;
+use std::io;
+use std::io::{Read, Write};
+use std::net::{Net, OpenListener};
+use std::os::fd::{AsRawFd, RawFd};
+use std::time::Clock;
+
+/// Does what the lines of the input say, one after another, until they end. Sentences are said,
+/// unless the options are against them. It fails where
+///
+/// - standard output is closed, or there is no memory;
+/// - the server cannot be reached, or goes away;
+/// - a line is bad, is not done in its time, or names a file that cannot be had;
+/// - the lines cannot be read, or those that report cannot be written.
+pub fn drive_at<P: AllocGlobal + Clock + Files + Net, R: Read, W: Write, E: Write>(
+    context: &mut Context<P, R, W, E>,
+    options: DriveOptions<'_>,
+) -> Result<(), Failure>
+    ensures done { OnOk result (Drives P options.entry) }
+    ensures stopped { IfErr result (FailsToDrive P options.entry
+        (W.contents context.old.output.now) (W.contents context.new.output.now)) }
+    ensures left { OnErr result (LeavesDrive P options.entry
+        (W.contents context.old.output.now) (W.contents context.new.output.now)) }
+    ensures same { KeepsStreams context.old context.new }
+{
+    let streams = open_streams();
+    let says = streams.errors && !options.is_quiet;
+    let notes = &mut Notes::new(context.errors, says);
+    if !streams.output {
+        tell_closed_output(notes);
+        return Err(Failure::Fault(Fault::Device));
+    }
+    let server = server_at(context.rt, options.server, options.timeout, notes)?;
+    let alloc = context.alloc();
+    let (input, streams) = input_of(streams, options.has_file);
+    let fd = server.as_raw_fd();
+    let front = front_of(fd);
+    let shell = &mut Shell::new(context.rt, alloc, None::<P::Listener>, front, streams)?;
+    let rig = FileRig::new(context.rt, options.keep, says);
+    let driver = &mut driver_of(alloc, &options, rig);
+    let mut part = Vec::from_elem(alloc, 0, READ_AT_ONCE)?;
+    let lines = Tenant::input(context.input, input);
+    let mut doors = doors_of(
+        alloc,
+        Tenant::Connection(server),
+        Some(lines),
+        context.output,
+        context.errors,
+        streams,
+    )?;
+    live(driver, &mut doors, shell, &mut part);
+    drive_result(driver.outcome(), fd)
+}
+
+// The connection to the server that does not wait. `notes` say why there is none.
+fn server_at<N: Net + Clock, O: Write>(
+    net: &N,
+    server: Address<'_>,
+    seconds: u32,
+    notes: &mut O,
+) -> io::Result<N::Stream> {
+    match connect_in_time(net, server.host, server.port, seconds) {
+        Ok(stream) => Ok(stream),
+        Err(error) => {
+            tell_unreached(server.host, server.port, &error, notes);
+            Err(error)
+        }
+    }
+}
+
+// A driver that was told nothing, as the options ask for it.
+fn driver_of<'a, P: AllocGlobal + Files>(
+    alloc: Global,
+    options: &DriveOptions<'_>,
+    rig: FileRig<'a, P>,
+) -> Driver<FileRig<'a, P>>
+    ensures { IsDriverOf P options.now result }
+{
+    Driver::new(alloc, setup_of(options), rig)
+}
+
+// Whether there are lines to read, and the streams as the loop knows them: a file in place of
+// standard input is always ready.
+fn input_of(streams: Streams, has_file: bool) -> (bool, Streams) {
+    let is_there = streams.input || has_file;
+    let streams = Streams {
+        input: streams.input && !has_file,
+        ..streams
+    };
+    (is_there, streams)
+}
+
+// The server at the first door, the lines at the second.
+fn front_of(server: RawFd) -> Front<'static> {
+    Front {
+        input: Some(ORDERS),
+        server: Some(server),
+        callee: None,
+    }
+}
