@@ -3,8 +3,8 @@ use Rattle.std.proofs.Common.{◌≡◌, ◌≢◌, inl, inr, ℕ, Bool, true, f
 use Rattle.std.proofs.Common.{append-nil}
 use Rattle.rfb_server.specs.declared.server.Server.{Server}
 use Rattle.rfb_server.specs.Hints.{hints_of}
-use Rattle.rfb_server.specs.Standing.{fault_of}
-use Rattle.rfb_server.specs.Updating.{StaysUnsent, Updates}
+use Rattle.rfb_server.specs.Model.{fault_of}
+use Rattle.rfb_server.specs.UpdateCall.{StaysUnsent, Updates}
 use Rattle.rfb.specs.Loopback.{ComposesInto, SendsNothing}
 
 -- what was appended to an empty buffer is in flight after the others

@@ -8,18 +8,18 @@ use Rattle.rfb_wire.specs.stream.End.{StaysFailed, RefusedBy, RunsOutBy}
 use Rattle.rfb_server.specs.declared.fault.ServerFault.{ServerFault}
 use Rattle.rfb_server.specs.declared.fault.ServerFault.TheVariants.{NoMemory as ServerWantsMemory}
 use Rattle.rfb_server.specs.declared.server.Server.{Server}
-use Rattle.rfb_server.specs.Failing.{KeepsNotes}
+use Rattle.rfb_server.specs.Failed.{KeepsNotes}
 use Rattle.rfb_server.specs.Server.{Serving, server, AsksMemory as ServerAsks}
-use Rattle.rfb_server.specs.Standing.{StandsFor as ServerStandsFor, fault_of as server_fault}
+use Rattle.rfb_server.specs.Model.{StandsFor as ServerStandsFor, fault_of as server_fault}
 use Rattle.rfb_viewer.specs.declared.fault.ViewerFault.{ViewerFault}
 use Rattle.rfb_viewer.specs.declared.fault.ViewerFault.TheVariants.{NoMemory as ViewerWantsMemory}
 use Rattle.rfb_viewer.specs.declared.viewer.Viewer.{Viewer}
-use Rattle.rfb_viewer.specs.Failing.{KeepsPicture, KeepsReason}
-use Rattle.rfb_viewer.specs.Standing.{StandsFor as ViewerStandsFor, fault_of as viewer_fault}
+use Rattle.rfb_viewer.specs.Failed.{KeepsPicture, KeepsReason}
+use Rattle.rfb_viewer.specs.Model.{StandsFor as ViewerStandsFor, fault_of as viewer_fault}
 use Rattle.rfb_viewer.specs.Viewer.{Viewing, viewer, AsksMemory as ViewerAsks}
 use Rattle.rfb_session.specs.declared.engine.fault.EngineFault.TheVariants.{Server as ServerEnded}
 use Rattle.rfb_session.specs.Turns.{IsAnswered}
-use Rattle.rfb_session.specs.Watching.{viewer_driven}
+use Rattle.rfb_session.specs.ViewerActs.{viewer_driven}
 use Rattle.rfb_session.proofs.EngineRunLaws.{ran_then}
 use Rattle.rfb_session.proofs.ServeLaws.{Heard, call_ended, heard_all, heard_more, heard_none, hearing_stops}
 use Rattle.rfb.specs.Delivery.{EndsHearing, EndsWatching, Hears, IsFed, Watches}

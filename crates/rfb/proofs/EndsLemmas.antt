@@ -7,13 +7,13 @@ use Rattle.rfb_server.specs.declared.fault.Outside.{Outside as OutsideFault}
 use Rattle.rfb_server.specs.declared.hint.Hint.{Hint}
 use Rattle.rfb_server.specs.declared.server.Server.{Server}
 use Rattle.rfb_server.specs.Hints.{hints_of}
-use Rattle.rfb_server.specs.Standing.{Draws}
+use Rattle.rfb_server.specs.Model.{Draws}
 use Rattle.rfb_viewer.specs.declared.fault.CallFault.{CallFault}
 use Rattle.rfb_viewer.specs.declared.fault.CallFault.TheVariants.{NotReady as CallNotReady}
 use Rattle.rfb_viewer.specs.declared.fault.CallFault.TheVariants.{Busy as CallBusy, AreaOutside as CallOutside}
 use Rattle.rfb_viewer.specs.declared.viewer.Viewer.{Viewer}
 use Rattle.rfb_viewer.specs.Calls.{refusal_of}
-use Rattle.rfb_viewer.specs.Standing.{StandsFor, fault_of as viewer_fault, picture_of}
+use Rattle.rfb_viewer.specs.Model.{StandsFor, fault_of as viewer_fault, picture_of}
 use Rattle.rfb_viewer.specs.Viewer.{Viewing, ViewerState}
 use Rattle.rfb_session.specs.declared.told.Refused.{Refused}
 use Rattle.rfb_session.specs.declared.told.Refused.TheVariants.{NotReady}

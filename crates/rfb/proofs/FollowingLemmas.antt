@@ -7,7 +7,7 @@ use Rattle.rfb_viewer.specs.declared.viewer.Viewer.{Viewer}
 use Rattle.rfb_viewer.specs.Told.{ViewerTold, Reply, Ready, UpdateDone, Bell, CutText, ColourMapSkipped}
 use Rattle.rfb_session.specs.declared.engine.fault.EngineFault.{EngineFault}
 use Rattle.rfb_session.specs.declared.engine.fault.EngineFault.TheVariants as engine
-use Rattle.rfb_session.specs.Watching.{StandsBetween, WasFed, ends_told}
+use Rattle.rfb_session.specs.ViewerActs.{StandsBetween, WasFed, ends_told}
 use Rattle.rfb_session.specs.Watcher.{EndsViewing, Hears, HearsAll, HearsRead, Listening, NextCall, NextRequest}
 use Rattle.rfb_session.specs.Watcher.{NoCall}
 use Rattle.rfb.specs.declared.fault.Failure.{Failure}

@@ -4,7 +4,7 @@ use Rattle.std.proofs.Common.{ℕ, Option, None, List, [], ◌∷◌, ◌++◌, 
 use Rattle.std.proofs.Common.{bit_or, arith}
 use Rattle.rfb_picture.specs.Grid.{uniform}
 use Rattle.rfb_server.specs.Server.{black}
-use Rattle.rfb_server.specs.Standing.{serving_with}
+use Rattle.rfb_server.specs.Model.{serving_with}
 use Rattle.rfb_server.proofs.ServerLaws.{session_going}
 use Rattle.rfb_viewer.proofs.ViewerLaws.{viewer_going}
 use Rattle.rfb_hello.specs.declared.version.Version.TheVariants.{V38}

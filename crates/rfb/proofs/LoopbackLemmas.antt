@@ -7,11 +7,11 @@ use Rattle.std.proofs.KnownBytes.{Appends-nil, Appends-trans}
 use Rattle.rfb_wire.specs.stream.End.{FedBy}
 use Rattle.rfb_viewer.specs.declared.event.ViewerEvent.{ViewerEvent}
 use Rattle.rfb_viewer.specs.declared.viewer.Viewer.{Viewer}
-use Rattle.rfb_viewer.specs.Standing.{StandsFor}
+use Rattle.rfb_viewer.specs.Model.{StandsFor}
 use Rattle.rfb_viewer.specs.Told.{seen}
 use Rattle.rfb_viewer.specs.Viewer.{Viewing, viewer}
 use Rattle.rfb_session.specs.InFlight.{viewer_reply}
-use Rattle.rfb_session.specs.Watching.{ViewerRuns, ends_told, viewer_driven}
+use Rattle.rfb_session.specs.ViewerActs.{ViewerRuns, ends_told, viewer_driven}
 use Rattle.rfb_session.proofs.EngineRunLaws.{ran_fed, ran_none, ran_then}
 use Rattle.rfb_session.proofs.WrittenLaws.{rest_is}
 use Rattle.rfb.specs.declared.fault.Fault.{Fault}

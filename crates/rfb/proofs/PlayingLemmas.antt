@@ -8,10 +8,10 @@ use Rattle.rfb_picture.proofs.GridLaws.{height-uniform, width-uniform}
 use Rattle.rfb_wire.specs.declared.encoding.Encoding.{Encoding}
 use Rattle.rfb_server.specs.declared.server.Server.{Server}
 use Rattle.rfb_server.specs.Server.{black, first_server}
-use Rattle.rfb_server.specs.Standing.{StandsFor as ServerStandsFor}
+use Rattle.rfb_server.specs.Model.{StandsFor as ServerStandsFor}
 use Rattle.rfb_viewer.specs.declared.viewer.Viewer.{Viewer}
 use Rattle.rfb_viewer.specs.Viewer.{first_viewer}
-use Rattle.rfb_viewer.specs.Standing.{StandsFor as ViewerStandsFor, viewing_with}
+use Rattle.rfb_viewer.specs.Model.{StandsFor as ViewerStandsFor, viewing_with}
 use Rattle.rfb_session.specs.declared.event.Event.{Event}
 use Rattle.rfb_session.specs.declared.event.Event.TheVariants.{Fill, Put, Copy, Hint, Request, SetFormat, SetEncodings}
 use Rattle.rfb_session.specs.declared.event.Event.TheVariants.{Key, Pointer, CutText, Compose, ToServer, ToViewer}

@@ -1,9 +1,9 @@
 -- A recording that was played, from its parts.
 use Rattle.std.proofs.Common.{◌≡◌, ◌≤◌, ◌<◌, ◌⊎◌, ap, sym, subst, inl, inr, ℕ, Bool, true, false, refl, [], ◌∷◌}
 use Rattle.std.proofs.Common.{List, Option, Some, None, OnOk, OnErr, IfErr, IfOk, Result, Ok, Err, arith}
-use Rattle.rfb_session.specs.Playing.{AllPlayed}
-use Rattle.rfb_session.specs.PlayingSome.{AreEnough, AreFewer, AreNoMore, PlayedFirst, StopsPlayingUpTo}
-use Rattle.rfb_session.specs.Watching.{StandsBetween}
+use Rattle.rfb_session.specs.Playback.{AllPlayed}
+use Rattle.rfb_session.specs.FirstUpdates.{AreEnough, AreFewer, AreNoMore, PlayedFirst, StopsPlayingUpTo}
+use Rattle.rfb_session.specs.ViewerActs.{StandsBetween}
 use Rattle.rfb_wire.specs.declared.encoding.Encoding.TheVariants.{Raw}
 use Rattle.rfb_viewer.specs.declared.viewer.Viewer.{Viewer}
 use Rattle.rfb_session.specs.declared.engine.fault.EngineFault.{EngineFault}

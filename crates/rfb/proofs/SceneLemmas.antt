@@ -12,7 +12,7 @@ use Rattle.rfb_picture.proofs.GridLaws.{changed_is, changed_twice, height-change
 use Rattle.rfb_codec.specs.Effect.{IsAlike}
 use Rattle.rfb_server.specs.declared.server.Server.{Server}
 use Rattle.rfb_server.specs.declared.fault.Outside.{Outside}
-use Rattle.rfb_server.specs.Standing.{Draws, screen_of}
+use Rattle.rfb_server.specs.Model.{Draws, screen_of}
 use Rattle.rfb.specs.Scene.{begun_at, last_row, moved_up, pattern, step_colour, stepped, upper_rows}
 
 -- ---- drawings

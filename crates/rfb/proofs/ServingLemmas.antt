@@ -11,7 +11,7 @@ use Rattle.rfb_picture.proofs.GridLaws.{changed_is, place_below}
 use Rattle.rfb_pixel.specs.declared.colour.Colour.{Colour}
 use Rattle.rfb_server.specs.declared.server.Server.{Server}
 use Rattle.rfb_server.specs.Server.{first_server}
-use Rattle.rfb_server.specs.Standing.{Draws, StandsFor, screen_of, with_screen}
+use Rattle.rfb_server.specs.Model.{Draws, StandsFor, screen_of, with_screen}
 use Rattle.rfb_session.specs.Devices.{AppendsBeginning}
 use Rattle.rfb_session.specs.ServeEngine.{AllServed, GoesOn, ServerBetween, StopsServing}
 use Rattle.rfb_session.proofs.ServeLaws.{begun_after}

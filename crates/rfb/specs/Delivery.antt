@@ -5,15 +5,15 @@ use Rattle.rfb_server.specs.declared.fault.ServerFault.{ServerFault}
 use Rattle.rfb_server.specs.declared.fault.ServerFault.TheVariants.{NoMemory as ServerWantsMemory}
 use Rattle.rfb_server.specs.declared.server.Server.{Server}
 use Rattle.rfb_server.specs.Server.{Serving, ServerState}
-use Rattle.rfb_server.specs.Standing.{StandsFor as ServerStandsFor, fault_of as server_fault}
+use Rattle.rfb_server.specs.Model.{StandsFor as ServerStandsFor, fault_of as server_fault}
 use Rattle.rfb_viewer.specs.declared.fault.ViewerFault.{ViewerFault}
 use Rattle.rfb_viewer.specs.declared.fault.ViewerFault.TheVariants.{NoMemory as ViewerWantsMemory}
 use Rattle.rfb_viewer.specs.declared.viewer.Viewer.{Viewer}
-use Rattle.rfb_viewer.specs.Standing.{StandsFor as ViewerStandsFor, fault_of as viewer_fault}
+use Rattle.rfb_viewer.specs.Model.{StandsFor as ViewerStandsFor, fault_of as viewer_fault}
 use Rattle.rfb_viewer.specs.Viewer.{Viewing, ViewerState}
 use Rattle.rfb_session.specs.ServeEngine.{IsEnded}
 use Rattle.rfb_session.specs.Turns.{IsAnswered}
-use Rattle.rfb_session.specs.Watching.{ViewerRuns, EndsBy}
+use Rattle.rfb_session.specs.ViewerActs.{ViewerRuns, EndsBy}
 use Rattle.rfb.specs.declared.loopback.link.Link.{Link}
 
 -- ---- a connection

@@ -7,7 +7,7 @@ use Rattle.rfb_session.specs.declared.engine.fault.EngineFault.{EngineFault}
 use Rattle.rfb_session.specs.declared.engine.fault.EngineFault.TheVariants.{Server, Viewer as ViewerEnded, Truncated}
 use Rattle.rfb_session.specs.declared.engine.fault.EngineFault.TheVariants.{Device, NoMemory}
 use Rattle.rfb_session.specs.Watcher.{EndsViewing, Greeted, HearsRead, Listening, Updated}
-use Rattle.rfb_session.specs.Watching.{StandsBetween}
+use Rattle.rfb_session.specs.ViewerActs.{StandsBetween}
 use Rattle.rfb.specs.declared.explain.telling.Telling.{Telling}
 use Rattle.rfb.specs.declared.fault.Failure.{Failure}
 use Rattle.rfb.specs.declared.fault.Failure.TheVariants.{BadLine, Undone, Fault, Engine, Picture}

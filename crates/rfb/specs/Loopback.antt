@@ -5,16 +5,16 @@ use Rattle.rfb_picture.specs.Grid.{Grid, Holds, filled, copied, with_row}
 use Rattle.rfb_server.specs.declared.hint.Hint.{Hint}
 use Rattle.rfb_server.specs.declared.server.Server.{Server}
 use Rattle.rfb_server.specs.Hints.{hints_of, with_hint}
-use Rattle.rfb_server.specs.Standing.{Draws, HoldsBoth, row_from, screen_of}
-use Rattle.rfb_server.specs.Standing.{fault_of as server_fault}
-use Rattle.rfb_server.specs.Updating.{StaysUnsent, Updates}
+use Rattle.rfb_server.specs.Model.{Draws, HoldsBoth, row_from, screen_of}
+use Rattle.rfb_server.specs.Model.{fault_of as server_fault}
+use Rattle.rfb_server.specs.UpdateCall.{StaysUnsent, Updates}
 use Rattle.rfb_viewer.specs.declared.fault.CallFault.{CallFault}
 use Rattle.rfb_viewer.specs.declared.viewer.Viewer.{Viewer}
 use Rattle.rfb_viewer.specs.Calls.{call_refusal, request_refusal, format_refusal}
 use Rattle.rfb_viewer.specs.Calls.{requested, formatted}
 use Rattle.rfb_viewer.specs.Messages.{format_message, encodings_message, request_message}
 use Rattle.rfb_viewer.specs.Messages.{key_message, pointer_message, text_message}
-use Rattle.rfb_viewer.specs.Standing.{StandsFor, fault_of as viewer_fault, picture_of}
+use Rattle.rfb_viewer.specs.Model.{StandsFor, fault_of as viewer_fault, picture_of}
 use Rattle.rfb_viewer.specs.Viewer.{Viewing, ViewerState}
 use Rattle.rfb_session.specs.declared.event.Event.{Event}
 use Rattle.rfb_session.specs.declared.event.Event.TheVariants.{Fill, Put, Copy, Hint as Hinting}

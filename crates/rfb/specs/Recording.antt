@@ -9,14 +9,14 @@ use Rattle.rfb_wire.specs.declared.encoding.Encoding.TheVariants.{Raw}
 use Rattle.rfb_hello.specs.declared.version.Version.TheVariants.{V38}
 use Rattle.rfb_viewer.specs.declared.viewer.Viewer.{Viewer}
 use Rattle.rfb_viewer.specs.Viewer.{Viewing, first_viewer}
-use Rattle.rfb_viewer.specs.Standing.{StandsFor, picture_of, viewing_with}
+use Rattle.rfb_viewer.specs.Model.{StandsFor, picture_of, viewing_with}
 use Rattle.rfb_session.specs.declared.engine.fault.EngineFault.{EngineFault}
 use Rattle.rfb_session.specs.declared.engine.fault.EngineFault.TheVariants.{Server, Viewer as ViewerEnded, Truncated}
 use Rattle.rfb_session.specs.declared.engine.fault.EngineFault.TheVariants.{Device, NoMemory}
 use Rattle.rfb_session.specs.Devices.{AppendsBeginning}
-use Rattle.rfb_session.specs.Playing.{AllPlayed, StopsPlaying}
-use Rattle.rfb_session.specs.PlayingSome.{PlayedFirst, StopsPlayingSome}
-use Rattle.rfb_session.specs.Watching.{StandsBetween}
+use Rattle.rfb_session.specs.Playback.{AllPlayed, StopsPlaying}
+use Rattle.rfb_session.specs.FirstUpdates.{PlayedFirst, StopsPlayingSome}
+use Rattle.rfb_session.specs.ViewerActs.{StandsBetween}
 use Rattle.rfb.specs.declared.fault.Failure.{Failure}
 use Rattle.rfb.specs.declared.fault.Failure.TheVariants.{BadLine, Undone, Fault, Engine, Picture}
 use Rattle.rfb.specs.declared.play.play_options.PlayOptions.{PlayOptions}

@@ -9,7 +9,7 @@ use Rattle.rfb_server.specs.declared.hint.Hint.{Hint}
 use Rattle.rfb_server.specs.declared.server.Server.{Server}
 use Rattle.rfb_server.specs.Hints.{with_hint}
 use Rattle.rfb_server.specs.Server.{black, first_server}
-use Rattle.rfb_server.specs.Standing.{StandsFor, with_screen}
+use Rattle.rfb_server.specs.Model.{StandsFor, with_screen}
 use Rattle.rfb_session.specs.declared.language.screen.Screen.{Screen as Size}
 use Rattle.rfb.specs.ScriptRun.{serving_of}
 

@@ -7,8 +7,8 @@ use Rattle.rfb_wire.specs.declared.encoding.Encoding.TheVariants.{Raw}
 use Rattle.rfb_hello.specs.declared.version.Version.TheVariants.{V38}
 use Rattle.rfb_server.specs.declared.server.Server.{Server}
 use Rattle.rfb_server.specs.Server.{Serving, black, first_server}
-use Rattle.rfb_server.specs.Standing.{StandsFor as ServerStandsFor, serving_with}
-use Rattle.rfb_viewer.specs.Standing.{viewing_with}
+use Rattle.rfb_server.specs.Model.{StandsFor as ServerStandsFor, serving_with}
+use Rattle.rfb_viewer.specs.Model.{viewing_with}
 use Rattle.rfb_session.specs.declared.event.Event.{Event}
 use Rattle.rfb_session.specs.declared.event.Event.TheVariants.{ToServer, ToViewer}
 use Rattle.rfb_session.specs.declared.world.World.{World}

@@ -17,7 +17,7 @@ use Rattle.rfb_session.specs.declared.netpbm.fault.PixmapError.TheVariants.{NoMe
 use Rattle.rfb_session.specs.declared.netpbm.Pixmap.{Pixmap}
 use Rattle.rfb_session.specs.netpbm.File.{HasFlaw, SpellsKnown, picture_of}
 use Rattle.rfb_server.specs.Server.{first_server}
-use Rattle.rfb_server.specs.Standing.{StandsFor, with_screen}
+use Rattle.rfb_server.specs.Model.{StandsFor, with_screen}
 use Rattle.rfb.specs.declared.fault.Fault.{Fault as FaultOf}
 use Rattle.rfb.specs.declared.fault.Fault.TheVariants.{NoMemory as OutOfMemory}
 use Rattle.rfb.specs.declared.fault.Failure.{Failure}

@@ -6,7 +6,7 @@ ghost use Rattle.rfb_codec.specs.Effect.{IsAlike};
 ghost use Rattle.rfb_picture.specs.Grid.{Holds, copied, filled, with_row};
 ghost use Rattle.rfb_pixel.specs.declared.colour.Colour.{Colour};
 ghost use Rattle.rfb_server.specs.Hints.{hints_of, with_hint};
-ghost use Rattle.rfb_server.specs.Standing.{Draws, HoldsBoth, screen_of};
+ghost use Rattle.rfb_server.specs.Model.{Draws, HoldsBoth, screen_of};
 ghost use Rattle.rfb.specs.Scene.{begun_at, hinted, moved_up, pattern, step_colour, stepped};
 ghost use Rattle.rfb.specs.Scene.{last_row, upper_rows};
 

@@ -5,7 +5,7 @@ use Rattle.std.proofs.lemmas.List.{take_at, length-take-le}
 use Rattle.std.proofs.Math.Nat.{mod-lt}
 use Rattle.std.proofs.lemmas.Bool.{cases_lt}
 use Rattle.rfb_pixel.specs.Format.{PixelFormat, IsFormat, size_of}
-use Rattle.rfb_pixel.specs.Reading.{AreBytes}
+use Rattle.rfb_pixel.specs.FormatBytes.{AreBytes}
 use Rattle.rfb_picture.specs.declared.rect.Rect.{Rect}
 use Rattle.rfb_wire.specs.declared.encoding.Encoding.{Encoding}
 use Rattle.rfb_wire.specs.declared.encoding.Encoding.TheVariants.{Raw, CopyRect, Rre, Hextile}

@@ -6,7 +6,7 @@ use Rattle.std.proofs.Math.Nat.{mod-lt}
 use Rattle.std.proofs.lemmas.Bool.{cases_lt}
 use Rattle.std.proofs.lemmas.Bool.Decides.{nat_tests}
 use Rattle.rfb_pixel.specs.Format.{PixelFormat, IsFormat, size_of, pixel_number}
-use Rattle.rfb_pixel.specs.Reading.{AreBytes}
+use Rattle.rfb_pixel.specs.FormatBytes.{AreBytes}
 use Rattle.rfb_wire.specs.stream.Reading.{Next, More, Got, Bad, Reading, ListedAfter}
 use Rattle.rfb_wire.specs.stream.Parts.{valued, done, continue_with, judged, and_then, optional}
 use Rattle.rfb_wire.proofs.stream_laws.PendingLaws.{counted_pending, pieces_within}

@@ -9,7 +9,7 @@ use Rattle.rfb_picture.specs.declared.rect.Rect.{Rect}
 use Rattle.rfb_wire.specs.Fields.{u8_at}
 use Rattle.rfb_wire.specs.stream.Reading.{Got}
 use Rattle.rfb_wire.specs.stream.Parts.{judged, continue_with}
-use Rattle.rfb_wire.specs.stream.Placing.{FaultsWith}
+use Rattle.rfb_wire.specs.stream.FaultPlace.{FaultsWith}
 use Rattle.rfb_codec.specs.declared.fault.Flaw.{Flaw}
 use Rattle.rfb_codec.specs.declared.fault.PaintFault.TheVariants.{SubrectOutside}
 use Rattle.rfb_codec.specs.declared.hextile.paint.tile_read.Seen.{Seen}

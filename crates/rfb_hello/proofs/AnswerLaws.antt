@@ -3,7 +3,7 @@ use Rattle.std.proofs.Common.{◌≡◌, ℕ, Bool, List, [], ◌∷◌, ◌++�
 use Rattle.byteorder.specs.Endian.{big_bytes}
 use Rattle.byteorder.specs.Numbers.{big_number-reads_back}
 use Rattle.rfb_pixel.specs.Format.{rgb888}
-use Rattle.rfb_pixel.specs.Reading.{format_bytes}
+use Rattle.rfb_pixel.specs.FormatBytes.{format_bytes}
 use Rattle.rfb_wire.specs.stream.Reading.{Got}
 use Rattle.rfb_wire.specs.stream.Grammar.{ReadsAll}
 use Rattle.rfb_hello.specs.declared.version.Version.{Version}
@@ -14,7 +14,7 @@ use Rattle.rfb_hello.specs.ClientHandshake.{AwaitsInit as AwaitsClientInit, Prot
 use Rattle.rfb_hello.specs.ClientHandshake.{SecurityType, ClientInit}
 use Rattle.rfb_hello.specs.ServerHandshake.{AwaitsVersion, AwaitsSecurity, AwaitsResult, AwaitsInit, AwaitsName}
 use Rattle.rfb_hello.specs.ServerHandshake.{ProtocolVersion, ServerInit, Name, SpellsServerInit, after_init}
-use Rattle.rfb_hello.specs.ServerReading.{server_item, server_handshake}
+use Rattle.rfb_hello.specs.ServerItems.{server_item, server_handshake}
 use Rattle.rfb_hello.specs.ServerEnd.{ServerSetup, server_tells, answer_bytes}
 use Rattle.rfb_hello.specs.ServerAnswers.{types_asked, result_asked, name_asked, init_asked, IsSetup}
 use Rattle.rfb_hello.proofs.ServerStreamLaws.{server_item_reads}

@@ -12,7 +12,7 @@ use Rattle.rfb_hello.specs.ClientHandshake.{ProtocolVersion as ClientVersion, Se
 use Rattle.rfb_hello.specs.ClientHandshake.{client_handshake}
 use Rattle.rfb_hello.specs.ServerHandshake.{AwaitsVersion, AwaitsSecurity, AwaitsResult, AwaitsInit, ProtocolVersion}
 use Rattle.rfb_hello.specs.ServerHandshake.{SecurityNone, SecurityTypes, SecurityResult, ServerInit, Name}
-use Rattle.rfb_hello.specs.ServerReading.{server_item, server_handshake}
+use Rattle.rfb_hello.specs.ServerItems.{server_item, server_handshake}
 
 -- "RFB 003.00" and a digit
 abbrev text : ℕ → List ℕ

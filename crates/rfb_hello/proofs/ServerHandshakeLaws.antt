@@ -14,7 +14,7 @@ use Rattle.rfb_hello.specs.declared.fault.HelloFault.TheVariants.{NoneNotOffered
 use Rattle.rfb_hello.specs.ServerHandshake.{AwaitsSecurity, ServerItem, SecurityNone, SecurityTypes, has_none, IsTypes}
 use Rattle.rfb_hello.specs.ServerHandshake.{IsWord, IsReason, IsWithoutNone, IsRefusal, SpellsServerItem}
 use Rattle.rfb_hello.specs.ServerHandshake.{FaultsServerItem, server_item_says}
-use Rattle.rfb_hello.specs.ServerReading.{reason, after_word, types_fault, after_count}
+use Rattle.rfb_hello.specs.ServerItems.{reason, after_word, types_fault, after_count}
 
 -- ---- reasons
 

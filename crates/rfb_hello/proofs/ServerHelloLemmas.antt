@@ -24,7 +24,7 @@ use Rattle.rfb_hello.specs.ClientHandshake.{client_item}
 use Rattle.rfb_hello.specs.ServerEnd.{ServerSetup, as_reply, security_bytes, server_end}
 use Rattle.rfb_hello.specs.ServerProgress.{ProgressStandsFor, least_left}
 use Rattle.rfb_hello.specs.inside.ServerPiece.{progress_after}
-use Rattle.rfb_hello.specs.ServerStanding.{StandsFor, setup_of}
+use Rattle.rfb_hello.specs.ServerModel.{StandsFor, setup_of}
 use Rattle.rfb_hello.proofs.ClientHandshakeLaws.{client_handshake_laws}
 
 pub server_machine : (setup : ServerSetup) → IsMachine (server_end setup)

@@ -15,7 +15,7 @@ use Rattle.rfb_hello.specs.ServerHandshake.{AwaitsVersion, AwaitsSecurity}
 use Rattle.rfb_hello.specs.ServerHandshake.{ServerItem, ProtocolVersion, SecurityTypes}
 use Rattle.rfb_hello.specs.ServerHandshake.{SpellsServerItem, FaultsServerItem}
 use Rattle.rfb_hello.specs.ServerHandshake.{server_item_says}
-use Rattle.rfb_hello.specs.ServerReading.{after_word, after_count, security}
+use Rattle.rfb_hello.specs.ServerItems.{after_word, after_count, security}
 use Rattle.rfb_hello.proofs.VersionLaws.{text_true, text_test}
 use Rattle.rfb_hello.proofs.ServerHandshakeLaws.{word_says, words_say}
 use Rattle.rfb_hello.proofs.ServerHandshakeLaws.{word_reads, words_same, ItemOfTypes, FaultOfTypes, types_say}

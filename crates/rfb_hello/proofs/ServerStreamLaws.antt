@@ -22,8 +22,8 @@ use Rattle.rfb_hello.specs.ServerHandshake.{AwaitsName, Begun, ServerItem, Proto
 use Rattle.rfb_hello.specs.ServerHandshake.{SecurityResult, ServerInit, Name, IsTypes, IsWordWithReason}
 use Rattle.rfb_hello.specs.ServerHandshake.{SpellsServerInit, IsAdmitted, SpellsServerItem, FaultsServerItem}
 use Rattle.rfb_hello.specs.ServerHandshake.{server_item_says, server_item_size}
-use Rattle.rfb_hello.specs.ServerReading.{after_result, screen_fault, name}
-use Rattle.rfb_hello.specs.ServerReading.{server_item, server_handshake}
+use Rattle.rfb_hello.specs.ServerItems.{after_result, screen_fault, name}
+use Rattle.rfb_hello.specs.ServerItems.{server_item, server_handshake}
 use Rattle.rfb_hello.proofs.ServerHandshakeLaws.{reason_says, reason_reads, word_alone}
 use Rattle.rfb_hello.proofs.ServerSecurityLaws.{text_fault, version_same, security_reads}
 

@@ -21,9 +21,9 @@ use Rattle.rfb_hello.specs.ViewerEnd.{ViewerSetup, OpensReason}
 use Rattle.rfb_hello.specs.ServerProgress.{ProgressStandsFor, fault_in, is_open as progress_is_open}
 use Rattle.rfb_hello.specs.ViewerProgress.{ProgressStandsFor as ViewerProgressStandsFor, fault_in as viewer_fault_in}
 use Rattle.rfb_hello.specs.ViewerProgress.{is_open as viewer_progress_is_open}
-use Rattle.rfb_hello.specs.ServerStanding.{StandsFor, fault_of, is_open}
-use Rattle.rfb_hello.specs.ViewerStanding.{StandsFor as ViewerStandsFor, fault_of as viewer_fault_of}
-use Rattle.rfb_hello.specs.ViewerStanding.{is_open as viewer_is_open}
+use Rattle.rfb_hello.specs.ServerModel.{StandsFor, fault_of, is_open}
+use Rattle.rfb_hello.specs.ViewerModel.{StandsFor as ViewerStandsFor, fault_of as viewer_fault_of}
+use Rattle.rfb_hello.specs.ViewerModel.{is_open as viewer_is_open}
 
 server_going : (p : ServerProgress) (point : ClientPoint) (prefix : List ℕ) → ProgressStandsFor p point prefix →
     (fault_in p ≡ None) × (progress_is_open p ≡ goes_on point)

@@ -23,20 +23,20 @@ use Rattle.rfb_hello.specs.declared.viewer_hello.progress.Progress.TheVariants.{
 use Rattle.arrayvec.specs.ArrayVec.{ArrayVec}
 use Rattle.rfb_hello.specs.Version.{is_version_text, version_of, version_text, lower}
 use Rattle.rfb_hello.specs.TypesSoFar.{TypesSoFar}
-use Rattle.rfb_hello.specs.Offering.{offered_of, IsOfferedAt, LeadsToOffer, KeepsOffer, IsOfferOn, TakesOffer}
+use Rattle.rfb_hello.specs.Offer.{offered_of, IsOfferedAt, LeadsToOffer, KeepsOffer, IsOfferOn, TakesOffer}
 use Rattle.rfb_hello.specs.declared.offered.Offered.{Offered}
 use Rattle.rfb_hello.specs.declared.offered.Offered.TheVariants.{Chosen, Listed}
 use Rattle.rfb_hello.specs.KeptText.{KeptText}
 use Rattle.rfb_hello.specs.ServerHandshake.{ServerPoint, AwaitsVersion, AwaitsSecurity, AwaitsInit, ProtocolVersion}
 use Rattle.rfb_hello.specs.ServerHandshake.{SecurityTypes, ServerInit, IsWord, IsTypes, has_none, after_types}
 use Rattle.rfb_hello.specs.ServerHandshake.{after_init}
-use Rattle.rfb_hello.specs.ServerReading.{name, security, screen_fault, server_item}
+use Rattle.rfb_hello.specs.ServerItems.{name, security, screen_fault, server_item}
 use Rattle.rfb_hello.specs.ServerEnd.{as_reply}
 use Rattle.rfb_hello.specs.ViewerEnd.{ViewerSetup, viewer_end, choice_bytes, told_of_init, AsksMemory}
 use Rattle.rfb_hello.specs.inside.ViewerPiece.{fault_for}
 use Rattle.rfb_hello.specs.ViewerProgress.{ProgressStandsFor, fault_in}
 use Rattle.rfb_hello.specs.inside.ViewerPiece.{progress_after_version, progress_after_types, progress_after_init}
-use Rattle.rfb_hello.specs.ViewerStanding.{StandsFor, setup_of}
+use Rattle.rfb_hello.specs.ViewerModel.{StandsFor, setup_of}
 use Rattle.rfb_hello.proofs.ServerStreamLaws.{screen_admitted}
 use Rattle.rfb_hello.proofs.ViewerReadingLaws.{opened, reason_short, reason_more, types_next, types_more, types_good}
 use Rattle.rfb_hello.proofs.ViewerReadingLaws.{types_bad}

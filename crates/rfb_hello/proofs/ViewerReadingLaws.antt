@@ -13,7 +13,7 @@ use Rattle.rfb_hello.specs.declared.viewer_hello.progress.Cause.{Cause}
 use Rattle.rfb_hello.specs.declared.viewer_hello.progress.Cause.TheVariants.{Refused, SecurityFailed}
 use Rattle.rfb_hello.specs.ServerHandshake.{ServerPoint, AwaitsSecurity, AwaitsResult, ServerItem, SecurityTypes}
 use Rattle.rfb_hello.specs.ServerHandshake.{IsWord, has_none}
-use Rattle.rfb_hello.specs.ServerReading.{reason, after_word, after_count, after_result, security, server_item}
+use Rattle.rfb_hello.specs.ServerItems.{reason, after_word, after_count, after_result, security, server_item}
 use Rattle.rfb_hello.specs.ViewerEnd.{OpensReason}
 use Rattle.rfb_hello.specs.inside.ViewerPiece.{fault_for}
 

@@ -19,11 +19,11 @@ use Rattle.rfb_hello.specs.declared.viewer_hello.progress.Progress.TheVariants.{
 use Rattle.arrayvec.specs.ArrayVec.{ArrayVec}
 use Rattle.rfb_hello.specs.KeptText.{KeptText, no_text, kept_of}
 use Rattle.rfb_hello.specs.ServerHandshake.{ServerPoint, AwaitsSecurity, AwaitsInit, IsWord}
-use Rattle.rfb_hello.specs.ServerReading.{server_item}
+use Rattle.rfb_hello.specs.ServerItems.{server_item}
 use Rattle.rfb_hello.specs.ViewerEnd.{ViewerSetup, viewer_end, OpensReason, AsksMemory, AsksForReason}
 use Rattle.rfb_hello.specs.inside.ViewerPiece.{fault_for}
 use Rattle.rfb_hello.specs.ViewerProgress.{ProgressStandsFor, reason_in}
-use Rattle.rfb_hello.specs.ViewerStanding.{StandsFor, IsReasonKept, KeepsReason}
+use Rattle.rfb_hello.specs.ViewerModel.{StandsFor, IsReasonKept, KeepsReason}
 use Rattle.rfb_hello.proofs.TextLemmas.{kept_none}
 use Rattle.rfb_hello.proofs.KeptTextLaws.{kept_on}
 use Rattle.rfb_hello.proofs.ViewerReadingLaws.{opened, reason_short, reason_more, reason_bad}

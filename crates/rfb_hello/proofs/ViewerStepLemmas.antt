@@ -8,10 +8,10 @@ use Rattle.rfb_hello.specs.declared.step.ViewerStep.{ViewerStep}
 use Rattle.rfb_hello.specs.declared.viewer_hello.ViewerHello.{ViewerHello}
 use Rattle.rfb_hello.specs.declared.viewer_hello.progress.Progress.{Progress}
 use Rattle.rfb_hello.specs.ServerHandshake.{ServerPoint, ServerItem, past_server_item}
-use Rattle.rfb_hello.specs.ServerReading.{server_item}
+use Rattle.rfb_hello.specs.ServerItems.{server_item}
 use Rattle.rfb_hello.specs.ViewerEnd.{ViewerSetup, viewer_end, viewer_tells}
 use Rattle.rfb_hello.specs.ViewerProgress.{ProgressStandsFor}
-use Rattle.rfb_hello.specs.ViewerStanding.{StandsFor, setup_of}
+use Rattle.rfb_hello.specs.ViewerModel.{StandsFor, setup_of}
 use Rattle.rfb_hello.proofs.ServerStreamLaws.{server_handshake_laws}
 
 pub viewer_machine : (setup : ViewerSetup) → IsMachine (viewer_end setup)

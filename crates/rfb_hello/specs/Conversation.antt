@@ -12,7 +12,7 @@ use Rattle.rfb_hello.specs.ClientHandshake.{ClientPoint, ClientItem, ProtocolVer
 use Rattle.rfb_hello.specs.ClientHandshake.{ClientInit, client_handshake}
 use Rattle.rfb_hello.specs.ServerHandshake.{ServerPoint, ServerItem, ProtocolVersion as ServerVersion, SecurityNone}
 use Rattle.rfb_hello.specs.ServerHandshake.{SecurityTypes, SecurityResult}
-use Rattle.rfb_hello.specs.ServerReading.{server_handshake}
+use Rattle.rfb_hello.specs.ServerItems.{server_handshake}
 use Rattle.rfb_hello.specs.ServerEnd.{ServerSetup, server_end, server_init_bytes, answer_bytes}
 use Rattle.rfb_hello.specs.ServerAnswers.{init_asked}
 use Rattle.rfb_hello.specs.ViewerEnd.{ViewerSetup, viewer_end, shared_flag}

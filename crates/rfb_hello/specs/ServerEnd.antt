@@ -4,7 +4,7 @@ use Rattle.std.specs.Prelude.{ℕ, List, [], ◌∷◌, ◌++◌, length, Option
 use Rattle.byteorder.specs.Endian.{big_bytes}
 use Rattle.arrayvec.specs.ArrayVec.{ArrayVec}
 use Rattle.rfb_pixel.specs.Format.{rgb888}
-use Rattle.rfb_pixel.specs.Reading.{format_bytes}
+use Rattle.rfb_pixel.specs.FormatBytes.{format_bytes}
 use Rattle.rfb_wire.specs.stream.End.{Machine}
 use Rattle.rfb_hello.specs.declared.version.Version.{Version}
 use Rattle.rfb_hello.specs.declared.version.Version.TheVariants.{V33, V37, V38}

@@ -15,7 +15,7 @@ use Rattle.rfb_hello.specs.ServerHandshake.{ServerPoint, AwaitsVersion, AwaitsSe
 use Rattle.rfb_hello.specs.ServerHandshake.{AwaitsName, ServerItem, ProtocolVersion, SecurityNone, SecurityTypes}
 use Rattle.rfb_hello.specs.ServerHandshake.{SecurityResult, ServerInit, Name, IsWord, SpellsServerInit, IsAdmitted}
 use Rattle.rfb_hello.specs.ServerHandshake.{past_server_item}
-use Rattle.rfb_hello.specs.ServerReading.{server_handshake}
+use Rattle.rfb_hello.specs.ServerItems.{server_handshake}
 use Rattle.rfb_hello.specs.ServerEnd.{as_reply}
 
 -- the version that a viewer goes up to, whether it shares the screen with others, how many places

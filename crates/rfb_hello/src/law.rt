@@ -23,15 +23,15 @@ ghost use Rattle.rfb_hello.specs.ServerHandshake.{Begun as ServerBegun, ServerIt
 ghost use Rattle.rfb_hello.specs.ServerHandshake.{ProtocolVersion as ServerVersion, SecurityNone};
 ghost use Rattle.rfb_hello.specs.ServerHandshake.{SecurityTypes, SecurityResult, server_item_says};
 ghost use Rattle.rfb_hello.specs.ServerHandshake.{goes_on as server_goes_on};
-ghost use Rattle.rfb_hello.specs.ServerReading.{server_handshake};
+ghost use Rattle.rfb_hello.specs.ServerItems.{server_handshake};
 ghost use Rattle.rfb_hello.specs.ServerEnd.{ServerSetup, server_tells, server_end, answer_bytes};
 ghost use Rattle.rfb_hello.specs.ViewerEnd.{ViewerSetup, viewer_tells, viewer_end};
 ghost use Rattle.rfb_hello.specs.ViewerAnswers.{choice_asked, reply_bytes};
 ghost use Rattle.rfb_hello.specs.ServerAnswers.{types_asked, result_asked, init_asked, IsSetup};
-ghost use Rattle.rfb_hello.specs.ServerStanding.{StandsFor, fault_of, is_open};
-ghost use Rattle.rfb_hello.specs.ViewerStanding.{StandsFor as ViewerStandsFor};
-ghost use Rattle.rfb_hello.specs.ViewerStanding.{fault_of as viewer_fault_of};
-ghost use Rattle.rfb_hello.specs.ViewerStanding.{is_open as viewer_is_open};
+ghost use Rattle.rfb_hello.specs.ServerModel.{StandsFor, fault_of, is_open};
+ghost use Rattle.rfb_hello.specs.ViewerModel.{StandsFor as ViewerStandsFor};
+ghost use Rattle.rfb_hello.specs.ViewerModel.{fault_of as viewer_fault_of};
+ghost use Rattle.rfb_hello.specs.ViewerModel.{is_open as viewer_is_open};
 ghost use Rattle.rfb_hello.specs.ToldOf.{IsReadyAt, IsScreenAt, IsViewerReadyAt};
 ghost use Rattle.rfb_hello.specs.Conversation.{ByServer, Converse, conversation, version_used};
 

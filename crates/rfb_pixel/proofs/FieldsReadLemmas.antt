@@ -7,7 +7,7 @@ use Rattle.rfb_pixel.specs.declared.fault.FormatFault.TheVariants.{BadMax}
 use Rattle.std.proofs.lemmas.Bool.Decides.{nat_tests}
 use Rattle.std.proofs.lemmas.Bool.{le-leb}
 use Rattle.rfb_pixel.specs.Channel.{is_max, width_of}
-use Rattle.rfb_pixel.specs.Reading.{number_at, first_fault, fault_of_fields}
+use Rattle.rfb_pixel.specs.FormatBytes.{number_at, first_fault, fault_of_fields}
 
 -- what the reading of a field gives
 abbrev pub field_read : ℕ → ℕ → Result Channel FormatFault

@@ -17,8 +17,8 @@ use Rattle.rfb_pixel.specs.Channel.{IsField, IsMax, IsMaxOf, EndsWithin, max_of,
 use Rattle.rfb_pixel.specs.Channel.{are_within, are_apart}
 use Rattle.rfb_pixel.specs.inside.Fields.{HasWidth}
 use Rattle.rfb_pixel.specs.Format.{PixelFormat, IsApart, IsFormat}
-use Rattle.rfb_pixel.specs.Reading.{AreBytes, Spells, number_at, field_at, red_at, green_at, blue_at, first_fault}
-use Rattle.rfb_pixel.specs.Reading.{fault_of_fields, Passes, IsFirstFault, format_bytes}
+use Rattle.rfb_pixel.specs.FormatBytes.{AreBytes, Spells, number_at, field_at, red_at, green_at, blue_at, first_fault}
+use Rattle.rfb_pixel.specs.FormatBytes.{fault_of_fields, Passes, IsFirstFault, format_bytes}
 use Rattle.rfb_pixel.proofs.ChannelLemmas.{ones_of_max, same_width, apart-passes, max-passes}
 
 -- fields of one maximum and one shift are one

@@ -1,6 +1,6 @@
 pub mod Bytes
 pub mod Channel
 pub mod Format
-pub mod Reading
+pub mod FormatBytes
 pub mod Rows
 pub mod inside

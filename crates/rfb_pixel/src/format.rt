@@ -9,8 +9,8 @@ ghost use Rattle.rfb_pixel.specs.Format.{pixel_bytes, pixel_number, seen_through
 ghost use Rattle.rfb_pixel.specs.Format.{IsColour, FieldsHold, IsOutsideFields, AgreeInFields};
 ghost use Rattle.rfb_pixel.specs.Format.{KeepsFullFields, FieldsKept};
 ghost use Rattle.rfb_pixel.specs.Format.{colour_of_bytes, pixel_of_bytes, seen_in_bytes};
-ghost use Rattle.rfb_pixel.specs.Reading.{AreBytes, Spells, Passes, IsFirstFault, first_fault};
-ghost use Rattle.rfb_pixel.specs.Reading.{fault_of_fields, format_bytes, number_at};
+ghost use Rattle.rfb_pixel.specs.FormatBytes.{AreBytes, Spells, Passes, IsFirstFault, first_fault};
+ghost use Rattle.rfb_pixel.specs.FormatBytes.{fault_of_fields, format_bytes, number_at};
 ghost use Rattle.rfb_pixel.specs.inside.Fields.{HasWidth};
 
 use crate::channel::{Channel, are_apart, are_within};

@@ -10,10 +10,10 @@ use Rattle.rfb_picture.specs.CellOrder.{HasNextCell}
 use Rattle.rfb_server.specs.declared.session.Session.{Session}
 use Rattle.rfb_server.specs.Progress.{is_ready}
 use Rattle.rfb_server.specs.Server.{Serving, ServerState}
-use Rattle.rfb_server.specs.Standing.{SessionStandsFor}
-use Rattle.rfb_server.specs.Following.{Follows}
-use Rattle.rfb_server.specs.Composing.{IsDue}
-use Rattle.rfb_server.specs.Updating.{HasAsked}
+use Rattle.rfb_server.specs.Model.{SessionStandsFor}
+use Rattle.rfb_server.specs.KnownScreen.{Follows}
+use Rattle.rfb_server.specs.Composition.{IsDue}
+use Rattle.rfb_server.specs.UpdateCall.{HasAsked}
 use Rattle.rfb_server.proofs.UpdatingLemmas.{ready_point}
 use Rattle.rfb_server.proofs.ComposesLemmas.{all_cells}
 

@@ -13,7 +13,7 @@ use Rattle.rfb_picture.proofs.GridLaws.{width-uniform, height-uniform}
 use Rattle.rfb_picture.proofs.AreaLaws.{area-added}
 use Rattle.rfb_server.specs.Request.{wanted_at}
 use Rattle.rfb_server.specs.inside.Marks.{AreAlike}
-use Rattle.rfb_server.specs.Following.{IsCaughtUp}
+use Rattle.rfb_server.specs.KnownScreen.{IsCaughtUp}
 use Rattle.rfb_server.specs.Record.{forgotten}
 use Rattle.rfb_server.specs.declared.session.Session.{Session}
 use Rattle.rfb_server.specs.inside.Sessions.{IsAskedFor}

@@ -7,7 +7,7 @@ use Rattle.std.proofs.lemmas.Bool.Decides.{nat_tests}
 use Rattle.std.proofs.lemmas.Nat.{pow_pos}
 use Rattle.std.proofs.lemmas.Nat.Bits.{bit_at_cat_low}
 use Rattle.rfb_picture.specs.Places.{has_bit, HasBitsBetween}
-use Rattle.rfb_server.specs.Composing.{count_row}
+use Rattle.rfb_server.specs.Composition.{count_row}
 use Rattle.rfb_server.proofs.CountLemmas.{row_same, at_most}
 use lib.Count.{ones_cat, ones-ones, ones-le}
 use lib.Pow.{shr_lt}

@@ -4,7 +4,7 @@ use Rattle.std.proofs.Common.{ℕ, ◌+◌, ◌≤◌, List, [], ◌∷◌, ◌+
 use Rattle.std.proofs.lemmas.Bool.{cases_lt}
 use Rattle.rfb_server.specs.Server.{ServerState}
 use Rattle.rfb_server.specs.Cells.{cell_of}
-use Rattle.rfb_server.specs.Composing.{Part, NoneNeeds, IsBoxOf, AreBoxes}
+use Rattle.rfb_server.specs.Composition.{Part, NoneNeeds, IsBoxOf, AreBoxes}
 
 module _ (across : ℕ) (s : ServerState) where
   none_more : (from n m : ℕ) → NoneNeeds across s from n → NoneNeeds across s n m → NoneNeeds across s from m

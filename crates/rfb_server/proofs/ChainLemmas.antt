@@ -12,7 +12,7 @@ use Rattle.rfb_server.specs.declared.hint.Hint.{Hint}
 use Rattle.rfb_server.specs.Claims.{IsTrue, IsCopiedOn, is_stale, is_claimed}
 use Rattle.rfb_server.specs.Request.{wanted_at}
 use Rattle.rfb_server.specs.Server.{black}
-use Rattle.rfb_server.specs.Following.{Follows}
+use Rattle.rfb_server.specs.KnownScreen.{Follows}
 use Rattle.rfb_server.proofs.ClaimLemmas.{claimed_row, row_claimed}
 
 module _ (session : Session) (before after : Grid Colour) (copy : Hint) (claim next : Claim)

@@ -18,7 +18,7 @@ use Rattle.rfb_server.specs.declared.hint.Hint.{Hint}
 use Rattle.rfb_server.specs.Claims.{IsTrue, IsClaimed, IsOfCopy, has_row, is_stale, is_claimed}
 use Rattle.rfb_server.specs.Request.{wanted_at}
 use Rattle.rfb_server.specs.Server.{black}
-use Rattle.rfb_server.specs.Following.{Follows, IsSameOutside}
+use Rattle.rfb_server.specs.KnownScreen.{Follows, IsSameOutside}
 
 -- nothing is claimed
 pub nothing_claimed : (screen : Grid Colour) (known : Grid (Option ℕ)) (form : PixelFormat)

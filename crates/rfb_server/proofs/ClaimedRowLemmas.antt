@@ -14,8 +14,8 @@ use Rattle.rfb_server.specs.declared.claim.Claim.{Claim}
 use Rattle.rfb_server.specs.declared.hint.Hint.{Hint}
 use Rattle.rfb_server.specs.declared.session.Session.{Session}
 use Rattle.rfb_server.specs.Claims.{IsTrue, IsAsFar, is_claimed, is_stale}
-use Rattle.rfb_server.specs.Composing.{count_row}
-use Rattle.rfb_server.specs.Following.{Follows}
+use Rattle.rfb_server.specs.Composition.{count_row}
+use Rattle.rfb_server.specs.KnownScreen.{Follows}
 use Rattle.rfb_server.specs.Record.{ShowsKnown}
 use Rattle.rfb_server.specs.Request.{wanted_at, differs}
 use Rattle.rfb_server.specs.Server.{black}

@@ -19,7 +19,7 @@ use Rattle.rfb_codec.proofs.WholeUpdateLaws.{update_read}
 use Rattle.rfb_server.specs.Server.{ServerState}
 use Rattle.rfb_server.specs.Request.{wanted, recorded, is_asked, is_whole}
 use Rattle.rfb_server.specs.Cells.{cell_of}
-use Rattle.rfb_server.specs.Composing.{Part, Move, sent_as, between, HaveTheirData, IsPlace, is_in_some, Composes}
+use Rattle.rfb_server.specs.Composition.{Part, Move, sent_as, between, HaveTheirData, IsPlace, is_in_some, Composes}
 use Rattle.rfb_server.specs.inside.Sends.{Sends}
 use Rattle.rfb_server.specs.inside.Copies.{Copies}
 

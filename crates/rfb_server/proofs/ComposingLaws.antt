@@ -7,7 +7,7 @@ use Rattle.rfb_codec.specs.Effect.{effects, IsAlike, Agrees}
 use Rattle.rfb_codec.specs.WholeUpdate.{update_of}
 use Rattle.rfb_server.specs.Server.{ServerState, black}
 use Rattle.rfb_server.specs.Request.{wanted, recorded, is_asked}
-use Rattle.rfb_server.specs.Composing.{Part, sent_as, between, IsPlace, Composes}
+use Rattle.rfb_server.specs.Composition.{Part, sent_as, between, IsPlace, Composes}
 
 -- over the area that was asked the picture is the screen, as it looks through the format
 pub shows_screen : (old new : ServerState) (bytes : List ℕ) (copies blocks : List Part)

@@ -15,8 +15,8 @@ use Rattle.rfb_codec.proofs.EffectLaws.{effect_painted, effects_picture, agrees_
 use Rattle.rfb_server.specs.Encodings.{is_listed}
 use Rattle.rfb_server.specs.Server.{ServerState}
 use Rattle.rfb_server.specs.Request.{wanted, recorded, is_asked, is_whole, differs}
-use Rattle.rfb_server.specs.Composing.{Part, Move, sent_as, between, moved, all_moved, is_right, IsGain, AllGain}
-use Rattle.rfb_server.specs.Composing.{IsCopy, AreCopies, HasItsData, IsPlace, is_in_some, IsDue}
+use Rattle.rfb_server.specs.Composition.{Part, Move, sent_as, between, moved, all_moved, is_right, IsGain, AllGain}
+use Rattle.rfb_server.specs.Composition.{IsCopy, AreCopies, HasItsData, IsPlace, is_in_some, IsDue}
 use Rattle.rfb_server.specs.inside.Copies.{Copies, IsCopied}
 use Rattle.rfb_server.proofs.SendsPushLemmas.{effects_push, spelled_push, data_push, in_push}
 use Rattle.rfb_server.proofs.CountLemmas.{missing_in_rows}

@@ -10,12 +10,12 @@ use Rattle.rfb_picture.proofs.GridLaws.{whole-changed, width-changed, height-cha
 use Rattle.rfb_picture.proofs.ScrollLaws.{holds_scrolled_to}
 use Rattle.rfb_codec.specs.Raw.{raw_pixel}
 use Rattle.rfb_server.specs.declared.session.Session.{Session}
-use Rattle.rfb_server.specs.Standing.{row_from}
+use Rattle.rfb_server.specs.Model.{row_from}
 use Rattle.rfb_server.specs.declared.hint.Hint.{Hint as HintOf}
 use Rattle.rfb_server.specs.Hints.{scroll_hint}
-use Rattle.rfb_server.specs.Following.{Follows, IsSameOutside, IsCopied, IsTold}
-use Rattle.rfb_server.specs.Drawing.{Stroke, Fill, Put, Rows, Pixels, Bytes, Copy, Scroll, Hint, IsInside}
-use Rattle.rfb_server.specs.Drawing.{drawn_by, area_of, copy_of, notice_of}
+use Rattle.rfb_server.specs.KnownScreen.{Follows, IsSameOutside, IsCopied, IsTold}
+use Rattle.rfb_server.specs.Strokes.{Stroke, Fill, Put, Rows, Pixels, Bytes, Copy, Scroll, Hint, IsInside}
+use Rattle.rfb_server.specs.Strokes.{drawn_by, area_of, copy_of, notice_of}
 use Rattle.rfb_server.proofs.FollowingLaws.{outside_changed}
 
 -- its rectangle lies on the screen

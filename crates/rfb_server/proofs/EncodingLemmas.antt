@@ -4,7 +4,7 @@ use Rattle.std.proofs.Common.{zero, ℕ, ◌++◌, ◌+◌, ◌<◌, ◌||◌, �
 use Rattle.std.proofs.lemmas.List.{take_more}
 use Rattle.rfb_wire.specs.declared.encoding.Encoding.{Encoding}
 use Rattle.rfb_wire.specs.declared.encoding.Encoding.TheVariants.{Raw, CopyRect, Rre, Hextile}
-use Rattle.rfb_server.specs.Composing.{may_send}
+use Rattle.rfb_server.specs.Composition.{may_send}
 use Rattle.rfb_server.specs.Encodings.{is_same, is_listed, times_listed, IsEachOnce}
 
 same_is : (a b : Encoding) → is_same a b ≡ true → a ≡ b

@@ -14,7 +14,7 @@ use Rattle.rfb_hello.specs.declared.version.Version.{Version}
 use Rattle.rfb_hello.specs.declared.fault.HelloFault.{HelloFault}
 use Rattle.rfb_hello.specs.ClientHandshake.{ClientItem}
 use Rattle.rfb_hello.specs.ServerEnd.{server_end}
-use Rattle.rfb_hello.specs.ServerStanding.{StandsFor as HelloStandsFor}
+use Rattle.rfb_hello.specs.ServerModel.{StandsFor as HelloStandsFor}
 use Rattle.rfb_server.specs.declared.event.ServerEvent.{ServerEvent}
 use Rattle.rfb_server.specs.declared.fault.ServerFault.{ServerFault}
 use Rattle.rfb_server.specs.declared.fault.ServerFault.TheVariants.{NoMemory}
@@ -24,8 +24,8 @@ use Rattle.rfb_server.specs.Fault.{fault_of_hello}
 use Rattle.rfb_server.specs.ClientBytes.{ClientAt, FromClient, client_two, client_bytes}
 use Rattle.rfb_server.specs.Server.{Serving, ServerState, server, AsksMemory}
 use Rattle.rfb_server.specs.Progress.{fault_in}
-use Rattle.rfb_server.specs.Standing.{SessionStandsFor, notes_in, notes_at}
-use Rattle.rfb_server.specs.Failing.{EndsAt, EndsAs}
+use Rattle.rfb_server.specs.Model.{SessionStandsFor, notes_in, notes_at}
+use Rattle.rfb_server.specs.Failed.{EndsAt, EndsAs}
 use Rattle.rfb_server.specs.inside.Slice.{StepsAs, RunsOutAs}
 use Rattle.rfb_server.proofs.ServerLaws.{server_machine, same_notes, session_noted}
 use Rattle.rfb_server.proofs.GreetLemmas.{IsSameBut, same_but, at_hello, quiet_stays, stays_first, told_first}

@@ -13,13 +13,13 @@ use Rattle.rfb_hello.specs.declared.server_hello.ServerHello.{ServerHello}
 use Rattle.rfb_hello.specs.declared.server_hello.progress.Progress.{Progress}
 use Rattle.rfb_hello.specs.declared.server_hello.progress.Progress.TheVariants.{Version as VersionPart}
 use Rattle.rfb_hello.specs.declared.server_hello.progress.Progress.TheVariants.{Choice, Init, Done, Failed}
-use Rattle.rfb_hello.specs.ServerStanding.{is_open, left_of}
+use Rattle.rfb_hello.specs.ServerModel.{is_open, left_of}
 use Rattle.rfb_hello.specs.ServerProgress.{is_open as goes_on, least_left}
 use Rattle.rfb_hello.specs.declared.fed.Fed.{Fed}
 use Rattle.rfb_server.specs.declared.event.ServerEvent.{ServerEvent}
 use Rattle.rfb_server.specs.declared.fault.ServerFault.{ServerFault}
 use Rattle.rfb_server.specs.declared.session.Session.{Session}
-use Rattle.rfb_server.specs.Following.{IsCaughtUp}
+use Rattle.rfb_server.specs.KnownScreen.{IsCaughtUp}
 use Rattle.rfb_server.specs.Intake.{Takes}
 use Rattle.rfb_server.specs.inside.Marks.{AreAlike, none_known, all_marked}
 use Rattle.rfb_server.specs.inside.Slice.{FeedsAs}

@@ -15,7 +15,7 @@ use Rattle.rfb_wire.specs.ClientMessage.{ClientMessage, ClientFault, SpellsClien
 use Rattle.rfb_wire.specs.ClientStream.{client_message}
 use Rattle.rfb_wire.proofs.ClientStreamLaws.{client_message_reads}
 use Rattle.rfb_hello.specs.ServerEnd.{as_reply}
-use Rattle.rfb_hello.specs.ServerStanding.{setup_of}
+use Rattle.rfb_hello.specs.ServerModel.{setup_of}
 use Rattle.rfb_hello.specs.declared.server_hello.ServerHello.{ServerHello}
 use Rattle.arrayvec.specs.ArrayVec.{ArrayVec}
 use Rattle.rfb_server.specs.declared.fault.ServerFault.{ServerFault}
@@ -27,7 +27,7 @@ use Rattle.rfb_server.specs.ClientBytes.{ClientAt, FromClient, client_bytes}
 use Rattle.rfb_server.specs.Told.{ServerTold, message_told}
 use Rattle.rfb_server.specs.Server.{Serving, ServerState, server, serves, message_acts, item_told, AsksMemory}
 use Rattle.rfb_server.specs.Progress.{ProgressStandsFor}
-use Rattle.rfb_server.specs.Standing.{SessionStandsFor}
+use Rattle.rfb_server.specs.Model.{SessionStandsFor}
 use Rattle.rfb_server.specs.inside.Sessions.{KeepsUp, BeginsMessage, BeginsList, IsAskedFor, HasFormat}
 use Rattle.rfb_server.proofs.ClaimLemmas.{nothing_claimed}
 

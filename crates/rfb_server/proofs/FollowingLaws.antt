@@ -7,7 +7,7 @@ use Rattle.rfb_picture.specs.Rect.{contains}
 use Rattle.rfb_picture.specs.Grid.{Grid, IsGrid, at_or, changed}
 use Rattle.rfb_picture.proofs.GridLaws.{at-changed, width-changed, height-changed}
 use Rattle.rfb_server.specs.Server.{black}
-use Rattle.rfb_server.specs.Following.{IsSameOutside}
+use Rattle.rfb_server.specs.KnownScreen.{IsSameOutside}
 
 -- a change inside a rectangle leaves the places outside
 pub outside_changed : (rect : Rect) (f : ℕ → ℕ → Colour → Colour) (picture : Grid Colour) → IsGrid picture →

@@ -24,7 +24,7 @@ use Rattle.rfb_hello.specs.ClientHandshake.{ProtocolVersion, SecurityType, Clien
 use Rattle.rfb_hello.specs.ClientHandshake.{client_handshake}
 use Rattle.rfb_hello.specs.ServerEnd.{ServerSetup, as_reply, server_tells as handshake_tells, server_end}
 use Rattle.rfb_hello.specs.ServerProgress.{ProgressStandsFor as HelloProgressStandsFor, is_open as goes_on}
-use Rattle.rfb_hello.specs.ServerStanding.{StandsFor as HelloStandsFor, is_open}
+use Rattle.rfb_hello.specs.ServerModel.{StandsFor as HelloStandsFor, is_open}
 use Rattle.rfb_server.specs.declared.session.Session.{Session}
 use Rattle.rfb_server.specs.declared.session.input.progress.Progress.TheVariants.{Handshake, Head}
 use Rattle.rfb_server.specs.Fault.{fault_of_hello}
@@ -32,7 +32,7 @@ use Rattle.rfb_server.specs.ClientBytes.{ClientAt, to_messages, client_two, clie
 use Rattle.rfb_server.specs.Told.{step_told}
 use Rattle.rfb_server.specs.Server.{Serving, ServerState, server, serves}
 use Rattle.rfb_server.specs.Progress.{ProgressStandsFor, is_partial, progress_after}
-use Rattle.rfb_server.specs.Standing.{SessionStandsFor}
+use Rattle.rfb_server.specs.Model.{SessionStandsFor}
 use Rattle.rfb_server.specs.inside.Sessions.{IsGreeted}
 use Rattle.rfb_server.proofs.ServerLaws.{client_bytes_laws}
 

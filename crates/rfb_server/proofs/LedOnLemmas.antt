@@ -13,7 +13,7 @@ use Rattle.rfb_picture.proofs.GridLaws.{contains_row, width-changed, height-chan
 use Rattle.rfb_server.specs.declared.claim.Claim.{Claim}
 use Rattle.rfb_server.specs.declared.hint.Hint.{Hint}
 use Rattle.rfb_server.specs.declared.session.Session.{Session}
-use Rattle.rfb_server.specs.Following.{Follows}
+use Rattle.rfb_server.specs.KnownScreen.{Follows}
 use Rattle.rfb_server.specs.inside.Copies.{SendsHint}
 use Rattle.rfb_server.specs.Claims.{IsTrue, IsClaimed, IsLedBy, IsLedOn, IsApartFrom, is_stale, is_claimed}
 use Rattle.rfb_server.specs.Request.{wanted_at}

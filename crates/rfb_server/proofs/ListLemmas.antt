@@ -24,7 +24,7 @@ use Rattle.rfb_server.specs.ClientBytes.{ClientAt}
 use Rattle.rfb_server.specs.Encodings.{with_encoding, known_among}
 use Rattle.rfb_server.specs.Server.{Serving, ServerState, server}
 use Rattle.rfb_server.specs.Progress.{ProgressStandsFor, IsListBegun}
-use Rattle.rfb_server.specs.Standing.{SessionStandsFor}
+use Rattle.rfb_server.specs.Model.{SessionStandsFor}
 use Rattle.rfb_server.specs.inside.Sessions.{KeepsUp}
 use Rattle.rfb_server.proofs.FeedingLemmas.{IsStill, here, stands_on, steps_more, steps_told}
 

@@ -16,7 +16,7 @@ use Rattle.rfb_server.specs.declared.session.Session.{Session}
 use Rattle.rfb_server.specs.Request.{wanted_at}
 use Rattle.rfb_server.specs.inside.Marks.{AreAlike}
 use Rattle.rfb_server.specs.Claims.{IsClaimed}
-use Rattle.rfb_server.specs.Following.{IsCaughtUp, IsSameOutside, Follows}
+use Rattle.rfb_server.specs.KnownScreen.{IsCaughtUp, IsSameOutside, Follows}
 use Rattle.rfb_server.specs.declared.hint.Hint.{Hint}
 use Rattle.rfb_server.specs.inside.Sessions.{IsSame, IsHinted, KeepsUp}
 

@@ -5,7 +5,7 @@ use Rattle.std.proofs.lemmas.List.{take_all}
 use Rattle.rfb_pixel.specs.declared.colour.Colour.{Colour}
 use Rattle.rfb_pixel.specs.declared.fault.FormatFault.{FormatFault}
 use Rattle.rfb_pixel.specs.Format.{PixelFormat}
-use Rattle.rfb_pixel.specs.Reading.{Spells, first_fault}
+use Rattle.rfb_pixel.specs.FormatBytes.{Spells, first_fault}
 use Rattle.rfb_picture.specs.declared.rect.Rect.{Rect}
 use Rattle.rfb_picture.specs.Grid.{Grid}
 use Rattle.rfb_picture.specs.Area.{Places, added}
@@ -21,7 +21,7 @@ use Rattle.rfb_wire.specs.ClientMessage.{SpellsClientMessage, FaultsClientMessag
 use Rattle.rfb_wire.specs.ClientStream.{client_message}
 use Rattle.rfb_wire.proofs.WaitLaws.{client_head_waits, encodings_wait, client_text_waits}
 use Rattle.rfb_hello.specs.ServerEnd.{as_reply}
-use Rattle.rfb_hello.specs.ServerStanding.{setup_of}
+use Rattle.rfb_hello.specs.ServerModel.{setup_of}
 use Rattle.rfb_hello.specs.KeptText.{KeptText, kept_of}
 use Rattle.rfb_server.specs.declared.session.Session.{Session}
 use Rattle.rfb_server.specs.declared.session.input.progress.Progress.TheVariants.{Head, CutText as CutTextPart}
@@ -32,7 +32,7 @@ use Rattle.rfb_server.specs.Server.{Serving, ServerState, server, message_acts, 
 use Rattle.rfb_server.specs.ClientBytes.{ClientAt}
 use Rattle.rfb_server.specs.Progress.{ProgressStandsFor, IsHeadBegun, is_head_begun}
 use Rattle.rfb_server.proofs.HeadLemmas.{begun_is, begun_misses}
-use Rattle.rfb_server.specs.Standing.{SessionStandsFor}
+use Rattle.rfb_server.specs.Model.{SessionStandsFor}
 use Rattle.rfb_server.specs.inside.Sessions.{BeginsMessage, BeginsList, IsAskedFor, HasFormat, KeepsUp}
 use Rattle.rfb_server.proofs.FeedingLemmas.{IsStill, IsActed, in_head, stands_on, steps_more, steps_told, steps_bad}
 use Rattle.rfb_server.proofs.FeedingLemmas.{up_begun, up_then, up_asked, up_format, up_list}

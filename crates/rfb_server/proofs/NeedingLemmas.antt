@@ -14,7 +14,7 @@ use Rattle.rfb_server.specs.declared.session.Session.{Session}
 use Rattle.rfb_server.specs.Request.{wanted_at, differs}
 use Rattle.rfb_server.specs.declared.session.update.needs.Columns.{Columns}
 use Rattle.rfb_server.specs.inside.Needs.{IsFirst, IsEnd, HasBox, HasInRow, IsLastOf, SpansRows, needs_of, rows_above}
-use Rattle.rfb_server.specs.Following.{Follows}
+use Rattle.rfb_server.specs.KnownScreen.{Follows}
 use Rattle.rfb_server.specs.Record.{is_known}
 
 -- ---- marks

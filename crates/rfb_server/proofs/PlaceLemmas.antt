@@ -28,8 +28,8 @@ use Rattle.rfb_server.specs.declared.session.input.progress.Progress.TheVariants
 use Rattle.rfb_server.specs.ClientBytes.{ClientAt, client_bytes}
 use Rattle.rfb_server.specs.Server.{Serving, ServerState, server, AsksMemory}
 use Rattle.rfb_server.specs.Progress.{IsHeadBegun, ProgressStandsFor}
-use Rattle.rfb_server.specs.Standing.{SessionStandsFor, notes_in}
-use Rattle.rfb_server.specs.Failing.{EndsAt, EndsAs}
+use Rattle.rfb_server.specs.Model.{SessionStandsFor, notes_in}
+use Rattle.rfb_server.specs.Failed.{EndsAt, EndsAs}
 use Rattle.rfb_server.specs.Counted.{IsPlacedIn}
 use Rattle.rfb_server.specs.inside.Slice.{AwaitsMore, FeedsAs, StepsAs, RunsOutAs}
 use Rattle.rfb_server.proofs.ServerLaws.{server_machine}

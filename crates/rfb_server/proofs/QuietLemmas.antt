@@ -15,7 +15,7 @@ use Rattle.rfb_picture.proofs.CopyLaws.{at-copied}
 use Rattle.rfb_server.specs.declared.hint.Hint.{Hint}
 use Rattle.rfb_server.specs.declared.session.Session.{Session}
 use Rattle.rfb_server.specs.Request.{wanted_at, differs}
-use Rattle.rfb_server.specs.Composing.{count_row, count_rows, count_in}
+use Rattle.rfb_server.specs.Composition.{count_row, count_rows, count_in}
 use Rattle.rfb_server.specs.declared.session.update.gains.Judged.{Judged}
 use Rattle.rfb_server.specs.declared.session.update.quiet.Quiet.{Quiet}
 use Rattle.rfb_server.specs.declared.claim.stale.Rows.{Rows}

@@ -22,8 +22,8 @@ use Rattle.rfb_server.specs.declared.session.Session.{Session}
 use Rattle.rfb_server.specs.Record.{ShowsKnown, TellsKnown, is_known}
 use Rattle.rfb_server.specs.Request.{wanted_at, differs}
 use Rattle.rfb_server.specs.Server.{black}
-use Rattle.rfb_server.specs.Composing.{count_row}
-use Rattle.rfb_server.specs.Following.{Follows}
+use Rattle.rfb_server.specs.Composition.{count_row}
+use Rattle.rfb_server.specs.KnownScreen.{Follows}
 use Rattle.rfb_server.specs.inside.Gains.{MayCopy, right_before, right_after}
 use Rattle.rfb_server.proofs.BitCountLemmas.{row_split}
 use Rattle.rfb_server.proofs.NeedingBits.{has_bit-up}

@@ -10,7 +10,7 @@ use Rattle.rfb_picture.specs.declared.rect.Rect.{Rect}
 use Rattle.rfb_picture.specs.Grid.{Grid}
 use Rattle.rfb_server.specs.declared.hint.Hint.{Hint}
 use Rattle.rfb_server.specs.declared.session.Session.{Session}
-use Rattle.rfb_server.specs.Composing.{count_row, count_rows}
+use Rattle.rfb_server.specs.Composition.{count_row, count_rows}
 use Rattle.rfb_server.specs.inside.Copies.{is_right_from}
 use Rattle.rfb_server.specs.inside.Gains.{line, part, right_before, right_after}
 use Rattle.rfb_server.proofs.CountLemmas.{row_same, rows_more}

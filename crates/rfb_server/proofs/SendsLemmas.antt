@@ -19,8 +19,8 @@ use Rattle.rfb_codec.proofs.EffectLaws.{effect_painted, effects_picture, agrees_
 use Rattle.rfb_server.specs.Server.{ServerState, black}
 use Rattle.rfb_server.specs.Request.{wanted_at, wanted, recorded, is_asked, is_whole, needs_at, needs_sending}
 use Rattle.rfb_server.specs.Cells.{cell_of, IsCell}
-use Rattle.rfb_server.specs.Composing.{Part, sent_as, between, IsPlace, HasItsData, IsBlockOf}
-use Rattle.rfb_server.specs.Composing.{IsBoxOf, is_in_some}
+use Rattle.rfb_server.specs.Composition.{Part, sent_as, between, IsPlace, HasItsData, IsBlockOf}
+use Rattle.rfb_server.specs.Composition.{IsBoxOf, is_in_some}
 use Rattle.rfb_server.specs.inside.Sends.{SendsPixels, Sends}
 use Rattle.rfb_server.proofs.BoxesLemmas.{boxes_none, boxes_push}
 use Rattle.rfb_server.proofs.SendsPushLemmas.{quiet_place, effects_push, spelled_push, data_push, blocks_push, in_push}

@@ -11,8 +11,8 @@ use Rattle.rfb_codec.specs.Effect.{effect, effects}
 use Rattle.rfb_codec.specs.WholeUpdate.{item_of, SpellsRectangles}
 use Rattle.rfb_server.specs.Server.{ServerState}
 use Rattle.rfb_server.specs.Request.{wanted, recorded, differs}
-use Rattle.rfb_server.specs.Composing.{Part, sent_as, between, HasItsData, HaveTheirData, IsBlockOf}
-use Rattle.rfb_server.specs.Composing.{AreBlocksOf, is_in_some}
+use Rattle.rfb_server.specs.Composition.{Part, sent_as, between, HasItsData, HaveTheirData, IsBlockOf}
+use Rattle.rfb_server.specs.Composition.{AreBlocksOf, is_in_some}
 
 -- ---- what needs no sending
 

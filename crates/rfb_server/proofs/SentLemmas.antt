@@ -19,9 +19,9 @@ use Rattle.rfb_codec.specs.Effect.{IsAlike, IsRecorded}
 use Rattle.rfb_server.specs.declared.session.Session.{Session}
 use Rattle.rfb_server.specs.Request.{wanted_at, differs}
 use Rattle.rfb_server.specs.inside.Marks.{AreAlike}
-use Rattle.rfb_server.specs.Following.{IsCaughtUp, Follows}
+use Rattle.rfb_server.specs.KnownScreen.{IsCaughtUp, Follows}
 use Rattle.rfb_server.specs.inside.Needs.{needs_of}
-use Rattle.rfb_server.specs.Composing.{may_send}
+use Rattle.rfb_server.specs.Composition.{may_send}
 use Rattle.rfb_server.specs.Encodings.{preferred}
 use Rattle.rfb_server.specs.inside.Rectangle.{SendsRect}
 use Rattle.rfb_server.specs.inside.Sends.{SendsPixels, AppendsPixels, may_need}

@@ -23,8 +23,8 @@ use Rattle.rfb_server.specs.declared.session.input.progress.Progress.TheVariants
 use Rattle.rfb_server.specs.ClientBytes.{ClientAt, client_two, client_bytes, client_bytes_say}
 use Rattle.rfb_server.specs.Server.{Serving, ServerState, server}
 use Rattle.rfb_server.specs.Progress.{ProgressStandsFor, fault_in}
-use Rattle.rfb_server.specs.Standing.{SessionStandsFor, StandsFor, session_fault, fault_of, with_screen, Notes}
-use Rattle.rfb_server.specs.Standing.{notes_in, notes_at}
+use Rattle.rfb_server.specs.Model.{SessionStandsFor, StandsFor, session_fault, fault_of, with_screen, Notes}
+use Rattle.rfb_server.specs.Model.{notes_in, notes_at}
 
 pub client_bytes_spelled : (offer : Version) → IsSpelled (client_bytes offer) (client_bytes_say offer)
 client_bytes_spelled offer = sequel_spelled (client_two offer) (client_item_says offer) (λ _. client_says)

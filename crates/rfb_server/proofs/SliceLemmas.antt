@@ -32,7 +32,7 @@ use Rattle.rfb_wire.specs.ClientHead.{client_head_size}
 use Rattle.rfb_wire.specs.declared.encoding.Encoding.{Encoding}
 use Rattle.arrayvec.specs.ArrayVec.{ArrayVec}
 use Rattle.rfb_hello.specs.KeptText.{KeptText}
-use Rattle.rfb_hello.specs.ServerStanding.{StandsFor as HelloStandsFor, setup_of}
+use Rattle.rfb_hello.specs.ServerModel.{StandsFor as HelloStandsFor, setup_of}
 use Rattle.std.specs.Prelude.{IfOk, IfErr}
 use Rattle.std.proofs.lemmas.Bool.Decides.{nat_tests}
 use Rattle.rfb_server.specs.declared.fault.ServerFault.{ServerFault}
@@ -47,7 +47,7 @@ use Rattle.rfb_server.specs.ClientBytes.{ClientAt, client_bytes, client_bytes_pe
 use Rattle.rfb_server.specs.Told.{seen}
 use Rattle.rfb_server.specs.Server.{Serving, server}
 use Rattle.rfb_server.specs.Progress.{ProgressStandsFor, IsHeadBegun, fault_in, is_idle}
-use Rattle.rfb_server.specs.Standing.{SessionStandsFor}
+use Rattle.rfb_server.specs.Model.{SessionStandsFor}
 use Rattle.rfb_server.specs.inside.Slice.{StepsAs, FeedsAs}
 use Rattle.rfb_server.specs.inside.Sessions.{KeepsUp}
 use Rattle.rfb_server.proofs.ServerLaws.{client_bytes_spelled, server_machine}

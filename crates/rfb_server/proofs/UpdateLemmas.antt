@@ -24,12 +24,12 @@ use Rattle.rfb_server.specs.inside.Sessions.{IsSame}
 use Rattle.rfb_server.specs.Server.{ServerState}
 use Rattle.rfb_server.specs.Request.{wanted, wanted_at, recorded, is_asked, is_whole, differs}
 use Rattle.rfb_server.specs.inside.Marks.{AreAlike}
-use Rattle.rfb_server.specs.Following.{IsCaughtUp, Follows}
+use Rattle.rfb_server.specs.KnownScreen.{IsCaughtUp, Follows}
 use Rattle.rfb_server.specs.inside.Needs.{needs_of}
-use Rattle.rfb_server.specs.Composing.{Part, Move, IsDue, Composes}
+use Rattle.rfb_server.specs.Composition.{Part, Move, IsDue, Composes}
 use Rattle.rfb_server.specs.inside.Sends.{IsKept, Sends, state_of, AppendsCells, IsEnough, may_need}
 use Rattle.rfb_server.specs.inside.Copies.{Copies, AppendsCopies, usable_hints}
-use Rattle.rfb_server.specs.Using.{AreUsed, usable}
+use Rattle.rfb_server.specs.UsedHints.{AreUsed, usable}
 use Rattle.rfb_server.proofs.ClaimLemmas.{nothing_claimed}
 use Rattle.rfb_server.proofs.UsingLemmas.{used_all}
 use Rattle.rfb_server.specs.Progress.{is_ready}

@@ -16,14 +16,14 @@ use Rattle.rfb_server.specs.declared.session.input.progress.Progress.TheVariants
 use Rattle.rfb_server.specs.ClientBytes.{ClientAt}
 use Rattle.rfb_server.specs.Server.{Serving, ServerState}
 use Rattle.rfb_server.specs.Progress.{ProgressStandsFor, is_ready, fault_in}
-use Rattle.rfb_server.specs.Standing.{SessionStandsFor, KeepsSession, Draws, with_screen}
+use Rattle.rfb_server.specs.Model.{SessionStandsFor, KeepsSession, Draws, with_screen}
 use Rattle.rfb_server.specs.inside.Sessions.{IsSame}
-use Rattle.rfb_server.specs.Composing.{Composes, IsDue}
+use Rattle.rfb_server.specs.Composition.{Composes, IsDue}
 use Rattle.rfb_server.specs.Hints.{hints_in}
-use Rattle.rfb_server.specs.Using.{AreUsed, usable}
+use Rattle.rfb_server.specs.UsedHints.{AreUsed, usable}
 use Rattle.rfb_server.specs.inside.Sends.{state_of}
 use Rattle.rfb_server.specs.inside.Composed.{IsAwaited, HasComposed, StaysIdle}
-use Rattle.rfb_server.specs.Updating.{SendsUpdate, OwesUpdate, OwesNone, NoneDue}
+use Rattle.rfb_server.specs.UpdateCall.{SendsUpdate, OwesUpdate, OwesNone, NoneDue}
 use Rattle.rfb_server.proofs.ServerLaws.{session_over, same_notes}
 
 -- a session that is ready stands between messages, or in one

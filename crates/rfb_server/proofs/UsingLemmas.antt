@@ -6,8 +6,8 @@ use Rattle.rfb_wire.specs.declared.encoding.Encoding.TheVariants.{CopyRect}
 use Rattle.rfb_server.specs.declared.hint.Hint.{Hint}
 use Rattle.rfb_server.specs.Encodings.{is_listed}
 use Rattle.rfb_server.specs.Server.{ServerState}
-use Rattle.rfb_server.specs.Composing.{Move, moved, all_moved}
-use Rattle.rfb_server.specs.Using.{move_of, IsOfUse, AreUsed, usable}
+use Rattle.rfb_server.specs.Composition.{Move, moved, all_moved}
+use Rattle.rfb_server.specs.UsedHints.{move_of, IsOfUse, AreUsed, usable}
 
 -- one item more from the front
 take_next : {X : Type 0} (xs : List X) (n : ℕ) (x : X) → slice_get xs n ≡ Some x → take (n + 1) xs ≡ take n xs ++ x ∷ []

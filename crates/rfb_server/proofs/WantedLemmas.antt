@@ -12,7 +12,7 @@ use Rattle.rfb_server.specs.declared.claim.Claim.{Claim}
 use Rattle.rfb_server.specs.declared.hint.Hint.{Hint}
 use Rattle.rfb_server.specs.declared.session.Session.{Session}
 use Rattle.rfb_server.specs.Claims.{IsTrue, IsSourceOf}
-use Rattle.rfb_server.specs.Following.{Follows}
+use Rattle.rfb_server.specs.KnownScreen.{Follows}
 use Rattle.rfb_server.specs.Record.{ShowsKnown}
 use Rattle.rfb_server.specs.inside.Gains.{MayCopy, IsKnownRow, part}
 use Rattle.rfb_server.proofs.ClaimLemmas.{claimed_row}

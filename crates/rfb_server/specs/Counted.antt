@@ -3,13 +3,13 @@
 use Rattle.std.specs.Prelude.{ℕ, ◌<◌, ◌≤◌, ◌≡◌, ◌≢◌, List, length}
 use Rattle.rfb_pixel.specs.declared.colour.Colour.{Colour}
 use Rattle.rfb_picture.specs.Grid.{Grid}
-use Rattle.rfb_wire.specs.stream.Placing.{RefusedWith, RunsOutWith, counted_on}
+use Rattle.rfb_wire.specs.stream.FaultPlace.{RefusedWith, RunsOutWith, counted_on}
 use Rattle.rfb_server.specs.declared.fault.ServerFault.{ServerFault}
 use Rattle.rfb_server.specs.declared.fault.ServerFault.TheVariants.{NoMemory}
 use Rattle.rfb_server.specs.declared.server.Server.{Server}
 use Rattle.rfb_server.specs.declared.session.Session.{Session}
 use Rattle.rfb_server.specs.Server.{Serving, server, AsksMemory}
-use Rattle.rfb_server.specs.Standing.{SessionStandsFor, StandsFor, taken_of}
+use Rattle.rfb_server.specs.Model.{SessionStandsFor, StandsFor, taken_of}
 
 -- the fault of a session comes with byte n: the bytes up to it are refused, or lead to where memory
 -- is asked for, and those before it are taken, whatever the session stood for

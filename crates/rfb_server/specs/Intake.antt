@@ -8,11 +8,11 @@ use Rattle.rfb_hello.specs.declared.fed.Fed.{Fed}
 use Rattle.rfb_server.specs.declared.event.ServerEvent.{ServerEvent}
 use Rattle.rfb_server.specs.declared.session.Session.{Session}
 use Rattle.rfb_server.specs.declared.drawing.notice.Notice.{Notice}
-use Rattle.rfb_server.specs.Drawing.{with_hint_of}
-use Rattle.rfb_server.specs.Following.{Follows, IsTold}
+use Rattle.rfb_server.specs.Strokes.{with_hint_of}
+use Rattle.rfb_server.specs.KnownScreen.{Follows, IsTold}
 use Rattle.rfb_server.specs.Hints.{hints_in}
 use Rattle.rfb_server.specs.Server.{Serving, server, first_server}
-use Rattle.rfb_server.specs.Standing.{SessionStandsFor, KeepsSession, with_screen}
+use Rattle.rfb_server.specs.Model.{SessionStandsFor, KeepsSession, with_screen}
 use Rattle.rfb_server.specs.Told.{seen}
 
 -- it was fed nothing, over whatever screen; it follows each screen of its size, and keeps no hint

@@ -9,7 +9,7 @@ use Rattle.rfb_wire.specs.stream.Sequel.{First, Second}
 use Rattle.rfb_hello.specs.KeptText.{KeptText}
 use Rattle.rfb_hello.specs.ServerEnd.{as_reply}
 use Rattle.rfb_hello.specs.declared.server_hello.ServerHello.{ServerHello}
-use Rattle.rfb_hello.specs.ServerStanding.{StandsFor as HelloStandsFor, is_open}
+use Rattle.rfb_hello.specs.ServerModel.{StandsFor as HelloStandsFor, is_open}
 use Rattle.rfb_server.specs.declared.fault.ServerFault.{ServerFault}
 use Rattle.rfb_server.specs.declared.session.input.progress.Progress.{Progress}
 use Rattle.rfb_server.specs.declared.session.input.progress.Progress.TheVariants.{Handshake, Head, Encodings, CutText}

@@ -7,7 +7,7 @@ use Rattle.rfb_picture.specs.declared.rect.Rect.{Rect}
 use Rattle.rfb_picture.specs.Area.{Places, asked_at}
 use Rattle.rfb_server.specs.declared.session.Session.{Session}
 use Rattle.rfb_server.specs.Cells.{cell_at}
-use Rattle.rfb_server.specs.Standing.{Notes, notes_in}
+use Rattle.rfb_server.specs.Model.{Notes, notes_in}
 
 -- the sum of the first costs
 abbrev pub sum_below : (ℕ → ℕ) → ℕ → ℕ

@@ -1,7 +1,7 @@
 -- Words of private contracts. No public clause reads them, so a reader can skip them.
 pub mod Marks
 pub mod Ended
-pub mod Entering
+pub mod NewSession
 pub mod Sessions
 pub mod Rectangle
 pub mod Needs

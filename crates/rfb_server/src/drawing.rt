@@ -39,7 +39,7 @@ pub enum Drawing<'a> {
 }
 
 impl Drawing<'_> {
-    ghost use Rattle.rfb_server.specs.Drawing.{IsInside, drawn_by, notice_of, stroke};
+    ghost use Rattle.rfb_server.specs.Strokes.{IsInside, drawn_by, notice_of, stroke};
 
     /// What the sessions over this screen are told of it. Refused is what leaves the screen, and
     /// what has not one colour for each of its places.

@@ -31,7 +31,7 @@ impl Model for EncodingList {
 impl EncodingList {
     ghost use Rattle.rfb_wire.specs.declared.encoding.Encoding.TheVariants.{CopyRect};
     ghost use Rattle.rfb_server.specs.Encodings.{is_listed, preferred, with_encoding};
-    ghost use Rattle.rfb_server.specs.Composing.{may_send};
+    ghost use Rattle.rfb_server.specs.Composition.{may_send};
 
     /// No encoding is listed.
     pub(crate) fn new() -> EncodingList

@@ -43,11 +43,11 @@ impl LateSession {
     ghost use Rattle.rfb_picture.specs.Grid.{Grid, Holds};
     ghost use Rattle.rfb_hello.specs.Version.{version_text};
     ghost use Rattle.rfb_server.specs.Server.{Serving, ServerState};
-    ghost use Rattle.rfb_server.specs.Standing.{SessionStandsFor, serving_with};
-    ghost use Rattle.rfb_server.specs.Standing.{KeepsSession, notes_in, session_fault};
-    ghost use Rattle.rfb_server.specs.Following.{Follows};
+    ghost use Rattle.rfb_server.specs.Model.{SessionStandsFor, serving_with};
+    ghost use Rattle.rfb_server.specs.Model.{KeepsSession, notes_in, session_fault};
+    ghost use Rattle.rfb_server.specs.KnownScreen.{Follows};
     ghost use Rattle.rfb_server.specs.Hints.{hints_in};
-    ghost use Rattle.rfb_server.specs.Updating.{SendsUpdate, OwesUpdate, OwesNone, HasAsked};
+    ghost use Rattle.rfb_server.specs.UpdateCall.{SendsUpdate, OwesUpdate, OwesNone, HasAsked};
     ghost use Rattle.rfb_server.specs.Intake.{IsUnfed, TakesNotice};
     ghost use Rattle.rfb_server.specs.Room.{GrowsWithin, update_room};
 

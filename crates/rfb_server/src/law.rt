@@ -17,12 +17,12 @@ ghost use Rattle.rfb_server.specs.Server.{messages_end, after_handshake};
 ghost use Rattle.rfb_server.specs.Told.{step_told};
 ghost use Rattle.rfb_server.specs.declared.server.Server.{Server};
 ghost use Rattle.rfb_server.specs.declared.session.Session.{Session};
-ghost use Rattle.rfb_server.specs.Following.{Follows};
-ghost use Rattle.rfb_server.specs.Standing.{StandsFor, fault_of, screen_of, notes_of, notes_at};
-ghost use Rattle.rfb_server.specs.Standing.{SessionStandsFor, session_of, session_fault, notes_in};
-ghost use Rattle.rfb_server.specs.Standing.{with_screen, server_over, taken_of};
+ghost use Rattle.rfb_server.specs.KnownScreen.{Follows};
+ghost use Rattle.rfb_server.specs.Model.{StandsFor, fault_of, screen_of, notes_of, notes_at};
+ghost use Rattle.rfb_server.specs.Model.{SessionStandsFor, session_of, session_fault, notes_in};
+ghost use Rattle.rfb_server.specs.Model.{with_screen, server_over, taken_of};
 ghost use Rattle.rfb_server.specs.Request.{wanted, recorded, is_asked};
-ghost use Rattle.rfb_server.specs.Composing.{Part, Composes, IsPlace, between, sent_as};
+ghost use Rattle.rfb_server.specs.Composition.{Part, Composes, IsPlace, between, sent_as};
 
 /// All that a client sends is read as RFC 6143 has it, its handshake and then its messages,
 /// whatever version was offered.

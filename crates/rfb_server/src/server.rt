@@ -2,7 +2,7 @@
 
 ghost use Rattle.std.specs.Prelude.{◌≡◌, ◌≢◌, ◌≤◌, ◌<◌, ℕ, List, [], ◌++◌, ◌+◌, length, vec_len};
 ghost use Rattle.std.specs.Prelude.{take, true, false, Some, None, Ok, IfOk, IfErr, OnErr};
-ghost use Rattle.rfb_server.specs.Following.{Follows};
+ghost use Rattle.rfb_server.specs.KnownScreen.{Follows};
 
 mod drawing;
 mod lending;
@@ -37,12 +37,12 @@ impl Server {
     ghost use Rattle.rfb_server.specs.Server.{Serving, ServerState, first_server, server};
     ghost use Rattle.rfb_server.specs.Server.{AsksMemory};
     ghost use Rattle.rfb_hello.specs.Version.{version_text};
-    ghost use Rattle.rfb_server.specs.Standing.{StandsFor, serving_with, serving_of, fault_of};
-    ghost use Rattle.rfb_server.specs.Standing.{screen_of, Keeps, notes_of, session_of, taken_of};
+    ghost use Rattle.rfb_server.specs.Model.{StandsFor, serving_with, serving_of, fault_of};
+    ghost use Rattle.rfb_server.specs.Model.{screen_of, Keeps, notes_of, session_of, taken_of};
     ghost use Rattle.rfb_server.specs.Counted.{CountsTo};
-    ghost use Rattle.rfb_wire.specs.stream.Placing.{counted_on};
-    ghost use Rattle.rfb_server.specs.Failing.{KeepsNotes};
-    ghost use Rattle.rfb_server.specs.Updating.{Updates, WasDue, StaysUnsent};
+    ghost use Rattle.rfb_wire.specs.stream.FaultPlace.{counted_on};
+    ghost use Rattle.rfb_server.specs.Failed.{KeepsNotes};
+    ghost use Rattle.rfb_server.specs.UpdateCall.{Updates, WasDue, StaysUnsent};
     ghost use Rattle.rfb_server.specs.Hints.{hints_of};
     ghost use Rattle.rfb_server.specs.Room.{GrowsWithin, room_for};
     ghost use Rattle.std.specs.Vec.{vec_capacity};

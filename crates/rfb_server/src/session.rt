@@ -56,11 +56,11 @@ impl Session {
     ghost use Rattle.rfb_pixel.specs.declared.colour.Colour.{Colour};
     ghost use Rattle.rfb_picture.specs.Grid.{Grid, IsGrid};
     ghost use Rattle.rfb_server.specs.Server.{Serving, ServerState, first_server};
-    ghost use Rattle.rfb_server.specs.Standing.{SessionStandsFor, serving_with, with_screen};
-    ghost use Rattle.rfb_server.specs.Standing.{KeepsSession, notes_in};
-    ghost use Rattle.rfb_server.specs.Following.{Follows, IsTold};
+    ghost use Rattle.rfb_server.specs.Model.{SessionStandsFor, serving_with, with_screen};
+    ghost use Rattle.rfb_server.specs.Model.{KeepsSession, notes_in};
+    ghost use Rattle.rfb_server.specs.KnownScreen.{Follows, IsTold};
     ghost use Rattle.rfb_server.specs.Hints.{hints_in};
-    ghost use Rattle.rfb_server.specs.Drawing.{with_hint_of};
+    ghost use Rattle.rfb_server.specs.Strokes.{with_hint_of};
     ghost use Rattle.rfb_hello.specs.Version.{version_text};
     ghost use Rattle.rfb_server.specs.Record.{ShowsKnown, TellsKnown};
     ghost use Rattle.rfb_server.specs.inside.Sessions.{IsMarked, IsHinted};

@@ -20,7 +20,7 @@ use Rattle.rfb_viewer.specs.ServerBytes.{ServerAt}
 use Rattle.rfb_viewer.specs.Viewer.{ViewerState}
 use Rattle.rfb_viewer.specs.Calls.{call_refusal, call_refused, request_refused, request_refusal, format_refusal}
 use Rattle.rfb_viewer.specs.Calls.{requested, formatted}
-use Rattle.rfb_viewer.specs.Standing.{StandsFor as ViewerStandsFor}
+use Rattle.rfb_viewer.specs.Model.{StandsFor as ViewerStandsFor}
 use Rattle.rfb_session.specs.declared.latest.Latest.{Latest}
 use Rattle.rfb_session.specs.declared.told.Refused.{Refused}
 use Rattle.rfb_session.specs.declared.link.Link.{Link}
@@ -30,7 +30,7 @@ use Rattle.rfb_session.specs.LinkSteps.{begun, calls}
 use Rattle.rfb_session.specs.InFlight.{Flight, Flies}
 use Rattle.rfb_session.specs.Network.{Network, IsReached}
 use Rattle.rfb_session.specs.Told.{refused_as}
-use Rattle.rfb_session.specs.LinkStanding.{LinkStandsFor}
+use Rattle.rfb_session.specs.LinkModel.{LinkStandsFor}
 use Rattle.rfb_session.specs.LinkBytes.{IsCalled, OnlySends, SendsMessage}
 use Rattle.rfb_session.specs.LinkCalls.{refusal_at}
 use Rattle.rfb_session.specs.declared.told.Told.{Told}

@@ -12,7 +12,7 @@ use Rattle.rfb_viewer.specs.Viewer.{Viewing, ViewerState, viewer}
 use Rattle.rfb_session.specs.Link.{Ends, server_of, LinkState}
 use Rattle.rfb_session.specs.LinkSteps.{MovesToViewer, MovesToServer}
 use Rattle.rfb_session.specs.InFlight.{AreMade, Flight, viewer_reply, server_reply}
-use Rattle.rfb_session.specs.Carrying.{Carries}
+use Rattle.rfb_session.specs.TwoEnds.{Carries}
 use Rattle.rfb_session.proofs.PhaseLemmas.{core}
 use Rattle.rfb_session.proofs.HoldsLemmas.{Holds, holds_to_viewer, holds_to_server}
 use Rattle.rfb_session.proofs.FlightLemmas.{viewer_moved, server_moved, viewer_good, server_good}

@@ -4,7 +4,7 @@ use Rattle.std.proofs.lemmas.List.{drop-append-le}
 use Rattle.rfb_pixel.specs.declared.colour.Colour.{Colour}
 use Rattle.rfb_picture.specs.Grid.{Grid}
 use Rattle.rfb_server.specs.declared.session.Session.{Session}
-use Rattle.rfb_server.specs.Updating.{SendsUpdate}
+use Rattle.rfb_server.specs.UpdateCall.{SendsUpdate}
 
 -- bytes that joined others stand after those that are left of these
 pub rest_of : (all more bytes : List ℕ) (k : ℕ) → k ≤ length all → more ≡ all ++ bytes →

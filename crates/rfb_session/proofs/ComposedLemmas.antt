@@ -7,20 +7,20 @@ use Rattle.rfb_pixel.specs.Format.{PixelFormat}
 use Rattle.rfb_picture.specs.Grid.{Grid}
 use Rattle.rfb_picture.specs.Area.{Places}
 use Rattle.rfb_server.specs.Server.{ServerState}
-use Rattle.rfb_server.specs.Standing.{SessionStandsFor, session_fault, notes_in, Notes}
-use Rattle.rfb_server.specs.Composing.{Composes}
+use Rattle.rfb_server.specs.Model.{SessionStandsFor, session_fault, notes_in, Notes}
+use Rattle.rfb_server.specs.Composition.{Composes}
 use Rattle.rfb_server.specs.Hints.{hints_in}
-use Rattle.rfb_server.specs.Updating.{HasSent, SendsUpdate, OwesUpdate, OwesNone}
+use Rattle.rfb_server.specs.UpdateCall.{HasSent, SendsUpdate, OwesUpdate, OwesNone}
 use Rattle.rfb_server.proofs.ServerLaws.{session_noted}
 use Rattle.rfb_viewer.specs.declared.viewer.Viewer.{Viewer}
-use Rattle.rfb_viewer.specs.Standing.{StandsFor as ViewerStandsFor}
+use Rattle.rfb_viewer.specs.Model.{StandsFor as ViewerStandsFor}
 use Rattle.rfb_session.specs.declared.event.Event.TheVariants.{Compose}
 use Rattle.rfb_session.specs.declared.told.Told.{Told}
 use Rattle.rfb_session.specs.declared.link.Link.{Link}
 use Rattle.rfb_session.specs.Latest.{composing_in}
 use Rattle.rfb_session.specs.Link.{LinkState, server_of, session_of}
 use Rattle.rfb_session.specs.LinkSteps.{ComposesOn, update_items}
-use Rattle.rfb_session.specs.LinkStanding.{LinkDoesOver, ComposesNothingOver}
+use Rattle.rfb_session.specs.LinkModel.{LinkDoesOver, ComposesNothingOver}
 use Rattle.rfb_session.specs.LinkBytes.{ComposesOver}
 use Rattle.rfb_session.proofs.NetworkLemmas.{reached_holds}
 use Rattle.rfb_session.proofs.SentLemmas.{composed_flies}

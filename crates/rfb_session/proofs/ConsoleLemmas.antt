@@ -1,14 +1,14 @@
 -- What a console does for its owner.
 use Rattle.std.proofs.Common.{◌≡◌, ◌≢◌, ◌<◌, ◌≤◌, ◌+◌, ◌∙◌, ℕ, List, Option, Some, None, subst, ap, arith}
 use Rattle.std.proofs.Common.{length, take, length-take}
-use Rattle.rfb_server.specs.Drawing.{Stroke, Fill as OneFill, Copy as OneCopy, Hint as OneHint, Scroll as OneScroll}
+use Rattle.rfb_server.specs.Strokes.{Stroke, Fill as OneFill, Copy as OneCopy, Hint as OneHint, Scroll as OneScroll}
 use Rattle.rfb_session.specs.declared.console.Console.{Console}
 use Rattle.rfb_session.specs.declared.console.Outcome.{Outcome}
 use Rattle.rfb_session.specs.declared.console.desk.Desk.{Desk}
 use Rattle.rfb_session.specs.declared.console.plan.Rules.{Rules}
 use Rattle.rfb_session.specs.declared.owner.order.OwnerLine.{OwnerLine}
 use Rattle.rfb_session.specs.declared.owner.order.OwnerLine.TheVariants as Line
-use Rattle.rfb_session.specs.owner.Drawing.{stroke_of}
+use Rattle.rfb_session.specs.owner.OwnerStroke.{stroke_of}
 use Rattle.rfb_session.specs.console.Console.{ByDoor, Draws, ObeysLine, Does, DoesOnDesk, KeepsOwner, KeepsButRooms}
 use Rattle.rfb_session.specs.console.Console.{KeepsDesk, Stays, Steps, waiting_at}
 use Rattle.rfb_session.specs.console.Console.{HearsOwner, Ignored, Heard, EndsOwner, EndedBefore, EndsNow}

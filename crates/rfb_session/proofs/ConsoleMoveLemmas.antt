@@ -2,8 +2,8 @@
 use Rattle.std.proofs.Common.{◌≡◌, ◌≢◌, ◌⊎◌, ◌<◌, ◌+◌, ◌∙◌, ◌==◌, ℕ, zero, suc, Bool, List, []}
 use Rattle.std.proofs.Common.{Option, Some, None, refl, ap, arith, inl, inr, length, take, if◌then◌else◌}
 use Rattle.std.proofs.lemmas.Bool.Decides.{eqb_tells, leb_tells}
-use Rattle.rfb_server.specs.Drawing.{Stroke, Bytes, Fill as OneFill, Copy as OneCopy, Hint as OneHint}
-use Rattle.rfb_server.specs.Drawing.{Scroll as OneScroll}
+use Rattle.rfb_server.specs.Strokes.{Stroke, Bytes, Fill as OneFill, Copy as OneCopy, Hint as OneHint}
+use Rattle.rfb_server.specs.Strokes.{Scroll as OneScroll}
 use Rattle.rfb_session.specs.declared.console.Outcome.{Outcome}
 use Rattle.rfb_session.specs.declared.console.desk.Desk.{Desk}
 use Rattle.rfb_session.specs.declared.console.desk.Hold.TheVariants.{Begins}
@@ -16,7 +16,7 @@ use Rattle.rfb_session.specs.doors.Events.{Received, Wrote, Turned, came_by}
 use Rattle.rfb_session.specs.doors.Tenants.{Happening, Told, Opened, Declined}
 use Rattle.rfb_session.specs.owner.Lines.{IsInPlace}
 use Rattle.rfb_session.specs.owner.Reader.{known_after}
-use Rattle.rfb_session.specs.owner.Telling.{leave_line}
+use Rattle.rfb_session.specs.owner.ShareLines.{leave_line}
 use Rattle.rfb_session.specs.Share.{waits_at}
 use Rattle.rfb_session.specs.console.Desk.{lines_of}
 use Rattle.rfb_session.specs.declared.share.event.SeatEvent.{SeatEvent}

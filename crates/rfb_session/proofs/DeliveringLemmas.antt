@@ -7,11 +7,11 @@ use Rattle.rfb_wire.specs.stream.End.{FedBy, RefusedBy}
 use Rattle.rfb_hello.specs.Version.{version_text}
 use Rattle.rfb_server.specs.declared.fault.ServerFault.{ServerFault}
 use Rattle.rfb_server.specs.Server.{Serving, server}
-use Rattle.rfb_server.specs.Standing.{SessionStandsFor}
+use Rattle.rfb_server.specs.Model.{SessionStandsFor}
 use Rattle.rfb_server.specs.Told.{ServerTold}
 use Rattle.rfb_viewer.specs.declared.fault.ViewerFault.{ViewerFault}
 use Rattle.rfb_viewer.specs.Viewer.{Viewing, viewer}
-use Rattle.rfb_viewer.specs.Standing.{StandsFor as ViewerStandsFor}
+use Rattle.rfb_viewer.specs.Model.{StandsFor as ViewerStandsFor}
 use Rattle.rfb_viewer.specs.Told.{ViewerTold}
 use Rattle.rfb_session.specs.declared.event.Event.TheVariants.{ToServer, ToViewer}
 use Rattle.rfb_session.specs.declared.told.Told.{Told}
@@ -21,10 +21,10 @@ use Rattle.rfb_session.specs.Latest.{composing_in}
 use Rattle.rfb_session.specs.Link.{Ends, LinkState, first_link}
 use Rattle.rfb_session.specs.LinkSteps.{MovesToViewer, MovesToServer, flight_to_viewer, flight_to_server}
 use Rattle.rfb_session.specs.InFlight.{viewer_reply, server_reply}
-use Rattle.rfb_session.specs.Carrying.{Carries}
+use Rattle.rfb_session.specs.TwoEnds.{Carries}
 use Rattle.rfb_session.specs.Network.{Network, Steps, IsReached}
-use Rattle.rfb_session.specs.LinkStanding.{LinkStandsFor, ServesOver, AreNew, LinkDoes}
-use Rattle.rfb_session.specs.inside.Delivering.{DeliversToViewer, DeliversToServer}
+use Rattle.rfb_session.specs.LinkModel.{LinkStandsFor, ServesOver, AreNew, LinkDoes}
+use Rattle.rfb_session.specs.inside.LinkDelivery.{DeliversToViewer, DeliversToServer}
 use Rattle.rfb_session.proofs.NetworkLemmas.{reached_holds}
 use Rattle.rfb_session.proofs.FlightLemmas.{first_flies}
 use Rattle.rfb_session.proofs.MoveLemmas.{viewer_flight, server_flight, viewer_moves_join, server_moves_join}

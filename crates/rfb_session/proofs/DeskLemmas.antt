@@ -9,7 +9,7 @@ use Rattle.std.proofs.lemmas.Bool.Decides.{eqb_tells, leb_tells}
 use Rattle.rfb_pixel.specs.declared.colour.Colour.{Colour}
 use Rattle.rfb_picture.specs.Grid.{Grid}
 use Rattle.rfb_picture.specs.Places.{has_bit}
-use Rattle.rfb_wire.specs.stream.Placing.{counted_on}
+use Rattle.rfb_wire.specs.stream.FaultPlace.{counted_on}
 use Rattle.rfb_session.specs.declared.console.desk.Desk.{Desk}
 use Rattle.rfb_session.specs.declared.console.guest.Guest.{Guest}
 use Rattle.rfb_session.specs.declared.console.guest.Progress.{Progress}
@@ -22,8 +22,8 @@ use Rattle.rfb_session.specs.declared.share.seat.ShareSeat.{ShareSeat}
 use Rattle.rfb_session.specs.Share.{seat_in, screen_of}
 use Rattle.rfb_session.specs.ShareWork.{RestsIn}
 use Rattle.rfb_session.specs.ShareSteps.{HearsBy, RefusesAs, asks_alone}
-use Rattle.rfb_session.specs.owner.Telling.{leave_line}
-use Rattle.rfb_session.specs.console.Telling.{leave_lines, told_line}
+use Rattle.rfb_session.specs.owner.ShareLines.{leave_line}
+use Rattle.rfb_session.specs.console.SeatLines.{leave_lines, told_line}
 use Rattle.rfb_session.specs.console.Desk.{nobody, guest_at, lines_of, is_over, tells_in, KeepsRules}
 use Rattle.rfb_session.specs.console.Viewers.{Parts, TellsEvent, CountsTold}
 use Rattle.rfb_session.specs.console.Turns.{ComposesUpTo, ComposesOne, TriesOne}

@@ -12,8 +12,8 @@ use Rattle.rfb_session.specs.declared.share.seat.ShareSeat.{ShareSeat}
 use Rattle.rfb_session.specs.Rounds.{first_after, is_left}
 use Rattle.rfb_session.specs.Share.{seat_in, screen_of, canvas_of, viewer_of, serving_in, waiting_for}
 use Rattle.rfb_session.specs.ShareSteps.{KeepsScreen}
-use Rattle.rfb_session.specs.owner.Telling.{leave_line}
-use Rattle.rfb_session.specs.console.Telling.{leave_lines}
+use Rattle.rfb_session.specs.owner.ShareLines.{leave_line}
+use Rattle.rfb_session.specs.console.SeatLines.{leave_lines}
 use Rattle.rfb_session.specs.console.Desk.{nobody, guest_at, lines_of, is_over, tells_in}
 use Rattle.rfb_session.specs.console.Time.{stamped, is_slow, is_stuck, waits_for}
 use Rattle.rfb_session.specs.console.Viewers.{LetsAllGo}

@@ -6,7 +6,7 @@ use Rattle.std.proofs.lemmas.Bool.Decides.{eqb_tells}
 use Rattle.std.proofs.lemmas.List.{length-set}
 use Rattle.rfb_session.specs.declared.doors.place.Place.{Place}
 use Rattle.rfb_session.specs.declared.doors.place.Place.TheVariants.{Empty}
-use Rattle.rfb_session.specs.doors.Waiting.{IsOver}
+use Rattle.rfb_session.specs.doors.Wants.{IsOver}
 use Rattle.rfb_session.specs.doors.Lives.{Closes}
 use Rattle.rfb_session.proofs.DoorTurnLemmas.{slice_get-set_same, slice_get-set_other}
 

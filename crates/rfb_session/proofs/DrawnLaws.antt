@@ -4,7 +4,7 @@ use Rattle.std.proofs.lemmas.Bool.{cases_lt}
 use Rattle.rfb_pixel.specs.declared.colour.Colour.{Colour}
 use Rattle.rfb_picture.specs.declared.rect.Rect.{Rect}
 use Rattle.rfb_picture.specs.Grid.{Grid, Holds}
-use Rattle.rfb_server.specs.Standing.{HoldsBoth}
+use Rattle.rfb_server.specs.Model.{HoldsBoth}
 
 pub held_or_not : (rect : Rect) (g : Grid Colour) → Holds g rect ⊎ (Holds g rect → ⊥)
 held_or_not rect g = by (cases_lt g.width (rect.x + rect.w)) (cases_lt g.height (rect.y + rect.h))

@@ -2,8 +2,8 @@
 use Rattle.std.proofs.Common.{◌≡◌, ◌≢◌, Option, Some, None, inl, inr, refl, sym, ap, ◌∙◌, subst}
 use Rattle.rfb_pixel.specs.declared.colour.Colour.{Colour}
 use Rattle.rfb_picture.specs.Grid.{Grid}
-use Rattle.rfb_server.specs.Drawing.{Stroke, IsInside, drawn_by, hint_of}
-use Rattle.rfb_server.specs.Standing.{KeepsSession}
+use Rattle.rfb_server.specs.Strokes.{Stroke, IsInside, drawn_by, hint_of}
+use Rattle.rfb_server.specs.Model.{KeepsSession}
 use Rattle.rfb_server.proofs.ServerLaws.{session_over}
 use Rattle.rfb_session.specs.declared.told.Refused.{Refused}
 use Rattle.rfb_session.specs.declared.told.Refused.TheVariants.{Outside}
@@ -12,7 +12,7 @@ use Rattle.rfb_session.specs.declared.world.World.{World}
 use Rattle.rfb_session.specs.Latest.{composing_in}
 use Rattle.rfb_session.specs.declared.link.Link.{Link}
 use Rattle.rfb_session.specs.Link.{Ends, LinkState}
-use Rattle.rfb_session.specs.LinkStanding.{LinkStandsFor, ChangesSession}
+use Rattle.rfb_session.specs.LinkModel.{LinkStandsFor, ChangesSession}
 use Rattle.rfb_session.specs.Network.{Network, Strokes}
 use Rattle.rfb_session.specs.Told.{RefusesUnless}
 use Rattle.rfb_session.specs.World.{StandsFor, GivesScreen, DrawsOnBytes, DrawsWorld, hints_in}

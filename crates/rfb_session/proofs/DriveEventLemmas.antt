@@ -13,7 +13,7 @@ use Rattle.rfb_session.specs.drive.driver.DriveHistory.{NextText, NoText, RunsTe
 use Rattle.rfb_session.specs.drive.driver.Driver.{KeepsRig, ends}
 use Rattle.rfb_session.specs.drive.driver.Input.{taken}
 use Rattle.rfb_session.specs.drive.driver.Rigs.{Rigging}
-use Rattle.rfb_session.specs.drive.driver.Running.{LastLine, LongLine, NextLine, NoLine, RunsLines}
+use Rattle.rfb_session.specs.drive.driver.LineRun.{LastLine, LongLine, NextLine, NoLine, RunsLines}
 use Rattle.rfb_session.specs.drive.driver.Steps.{Added, Adds, Dropped, EndsDoor, FailsDoor, HearsAt}
 use Rattle.rfb_session.specs.drive.driver.Steps.{NoRoomToAdd, WritesDoor}
 use Rattle.rfb_session.proofs.DriverLineLemmas.{ended_by, line_stays, line_taken, long_ends}

@@ -9,10 +9,10 @@ use Rattle.rfb_session.specs.declared.drive.driver.outcome.DriveOutcome.TheVaria
 use Rattle.rfb_session.specs.doors.Events.{Event, Received, Ended, Failed, Wrote, Turned, came, came_by, Runs}
 use Rattle.rfb_session.specs.drive.driver.DriveHistory.{IsRun, RunsAt, texts_joined}
 use Rattle.rfb_session.specs.drive.driver.Rigs.{Rigging}
-use Rattle.rfb_session.specs.drive.driver.Running.{LastLine, LongLine, NextLine, NoLine, RunsLines}
+use Rattle.rfb_session.specs.drive.driver.LineRun.{LastLine, LongLine, NextLine, NoLine, RunsLines}
 use Rattle.rfb_session.specs.drive.driver.Steps.{DriverSteps}
-use Rattle.rfb_session.specs.drive.driver.Turning.{AllEnded, EndedBefore, GivesUp, GivesUpFirst, GoesOn, InTime, IsLate}
-use Rattle.rfb_session.specs.drive.driver.Turning.{Keeps, KeptPicture, NotLate, NothingShown, Silent, TooLate, Went}
+use Rattle.rfb_session.specs.drive.driver.DriverTurn.{AllEnded, EndedBefore, GivesUp, GivesUpFirst, GoesOn, InTime, IsLate}
+use Rattle.rfb_session.specs.drive.driver.DriverTurn.{Keeps, KeptPicture, NotLate, NothingShown, Silent, TooLate, Went}
 use Rattle.rfb_session.proofs.DriverLineLemmas.{ended_by, line_stays, long_ends}
 use Rattle.rfb_session.proofs.DriverStepLemmas.{ends_with_keeps, finishes_if_keeps}
 use Rattle.rfb_session.proofs.DriveEventLemmas.{GoesOnYet, ends_come, fails_come, goes, hears_come}

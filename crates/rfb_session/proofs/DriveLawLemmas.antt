@@ -4,7 +4,7 @@ use Rattle.std.proofs.Common.{Option, Some, None, Bool, true, false, arith, nat_
 use Rattle.std.proofs.lemmas.Bool.Decides.{nat_tests}
 use Rattle.std.specs.Prelude.{if◌then◌else◌}
 use Rattle.std.specs.Str.{chars}
-use Rattle.rfb_wire.specs.stream.Placing.{counted_on}
+use Rattle.rfb_wire.specs.stream.FaultPlace.{counted_on}
 use Rattle.rfb_session.specs.console.Time.{IsBefore}
 use Rattle.rfb_session.specs.declared.drive.drive_line.DriveLine.{DriveLine}
 use Rattle.rfb_session.specs.declared.drive.drive_line.DriveLine.TheVariants as Line
@@ -13,10 +13,10 @@ use Rattle.rfb_session.specs.declared.drive.driver.task.Task.{Task}
 use Rattle.rfb_session.specs.declared.drive.driver.task.Task.TheVariants.{Idle, Sending, Still, Wait, Change, Expect}
 use Rattle.rfb_session.specs.declared.drive.key_event.KeyEvent.{KeyEvent}
 use Rattle.rfb_session.specs.declared.drive.words.Place.{Place}
-use Rattle.rfb_session.specs.drive.Typing.{typed}
+use Rattle.rfb_session.specs.drive.Keyboard.{typed}
 use Rattle.rfb_session.specs.drive.driver.DriveLaws.{IsQuietBefore, IsSince, buttons_after}
-use Rattle.rfb_session.specs.drive.driver.Sending.{Act, OfKey, OfPointer, OfText, acts_of, clicks, mask_of, pressed_at}
-use Rattle.rfb_session.specs.drive.driver.Sending.{turning}
+use Rattle.rfb_session.specs.drive.driver.Acts.{Act, OfKey, OfPointer, OfText, acts_of, clicks, mask_of, pressed_at}
+use Rattle.rfb_session.specs.drive.driver.Acts.{turning}
 use Rattle.rfb_session.specs.drive.driver.Tasks.{due, lateness}
 
 -- ---- buttons

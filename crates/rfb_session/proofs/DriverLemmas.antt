@@ -10,8 +10,8 @@ use Rattle.rfb_session.specs.declared.drive.driver.Driver.{Driver}
 use Rattle.rfb_session.specs.declared.drive.words.Likeness.{Likeness}
 use Rattle.rfb_session.specs.declared.drive.words.Place.{Place}
 use Rattle.rfb_session.specs.drive.driver.Rigs.{Rigging}
-use Rattle.rfb_session.specs.drive.driver.Running.{Begins, SendsLine}
-use Rattle.rfb_session.specs.drive.driver.Sending.{place_or}
+use Rattle.rfb_session.specs.drive.driver.LineRun.{Begins, SendsLine}
+use Rattle.rfb_session.specs.drive.driver.Acts.{place_or}
 
 true_not_false : true ≡ false → ⊥
 true_not_false e = cc e

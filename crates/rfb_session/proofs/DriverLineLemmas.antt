@@ -3,7 +3,7 @@ use Rattle.std.proofs.Common.{◌≡◌, ◌∙◌, ◌≤◌, ◌<◌, ◌+◌,
 use Rattle.std.proofs.Common.{None, Result, Ok, Err, refl, sym, ap, subst, inl, inr, arith, length, drop, length-drop}
 use Rattle.std.specs.Prelude.{is_some, ◌⊎◌, ◌&&◌, ◌^◌, ◌-◌, not, min}
 use Rattle.rfb_picture.specs.declared.rect.Rect.{Rect}
-use Rattle.rfb_wire.specs.stream.Placing.{counted_on}
+use Rattle.rfb_wire.specs.stream.FaultPlace.{counted_on}
 use Rattle.rfb_session.specs.declared.drive.drive_line.DriveLine.{DriveLine}
 use Rattle.rfb_session.specs.declared.drive.drive_line.DriveLine.TheVariants as Line
 use Rattle.rfb_session.specs.declared.drive.driver.Driver.{Driver}
@@ -19,12 +19,12 @@ use Rattle.rfb_session.specs.declared.drive.driver.task.Task.TheVariants as Wait
 use Rattle.rfb_session.specs.drive.driver.Driver.{KeepsRig, Refuses, ends, ends_after, with_note}
 use Rattle.rfb_session.specs.drive.driver.Input.{IsLineOf, taken}
 use Rattle.rfb_session.specs.drive.driver.Rigs.{Rigging}
-use Rattle.rfb_session.specs.drive.driver.Running.{AwaitsChange, AwaitsFound, AwaitsPicture, Bad, Begins, Begun}
-use Rattle.rfb_session.specs.drive.driver.Running.{Blank, FailsFor, FinishesOrFails, LetsSend, NoPart, NoRoom}
-use Rattle.rfb_session.specs.drive.driver.Running.{NoRoomForLine, NoRoomForText, NoRoomToSpell, NoScreen, NoText, Off}
-use Rattle.rfb_session.specs.drive.driver.Running.{On, PartOff, PartOn, Pasted, Pastes, PictureOff, Ran, RunsLine}
-use Rattle.rfb_session.specs.drive.driver.Running.{RunsRead, SavedPart, Saves, SendsLine, Sent, Shown, Skipped}
-use Rattle.rfb_session.specs.drive.driver.Running.{RefusesLong, Rests, Unlike_yet, may_begin, millis, with_task}
+use Rattle.rfb_session.specs.drive.driver.LineRun.{AwaitsChange, AwaitsFound, AwaitsPicture, Bad, Begins, Begun}
+use Rattle.rfb_session.specs.drive.driver.LineRun.{Blank, FailsFor, FinishesOrFails, LetsSend, NoPart, NoRoom}
+use Rattle.rfb_session.specs.drive.driver.LineRun.{NoRoomForLine, NoRoomForText, NoRoomToSpell, NoScreen, NoText, Off}
+use Rattle.rfb_session.specs.drive.driver.LineRun.{On, PartOff, PartOn, Pasted, Pastes, PictureOff, Ran, RunsLine}
+use Rattle.rfb_session.specs.drive.driver.LineRun.{RunsRead, SavedPart, Saves, SendsLine, Sent, Shown, Skipped}
+use Rattle.rfb_session.specs.drive.driver.LineRun.{RefusesLong, Rests, Unlike_yet, may_begin, millis, with_task}
 use Rattle.rfb_session.specs.drive.driver.Tasks.{is_idle}
 use Rattle.rfb_session.proofs.DriverStepLemmas.{ends_keeps, ends_with_keeps, finishes_if_keeps, finishes_keeps}
 

@@ -11,7 +11,7 @@ use Rattle.rfb_codec.specs.Effect.{effect, effects, IsAlike, Agrees}
 use Rattle.rfb_codec.specs.WholeUpdate.{update_of}
 use Rattle.rfb_codec.proofs.EffectLaws.{effects_left}
 use Rattle.rfb_server.specs.Request.{needs_sending}
-use Rattle.rfb_server.specs.Composing.{Part, sent_as, between, Composes, IsDue}
+use Rattle.rfb_server.specs.Composition.{Part, sent_as, between, Composes, IsDue}
 use Rattle.rfb_server.proofs.ComposingLaws.{shows_screen}
 use Rattle.rfb_viewer.specs.ServerBytes.{ServerAt, FromServer, server_two}
 use Rattle.rfb_viewer.specs.Viewer.{ViewerState, viewer, shows, picture_after, effect_on}

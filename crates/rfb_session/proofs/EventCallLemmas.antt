@@ -31,7 +31,7 @@ use Rattle.rfb_session.specs.Link.{Ends, LinkState}
 use Rattle.rfb_session.specs.LinkBytes.{ActsOnBytes, SendsPlain, MovesNone, refusal_on}
 use Rattle.rfb_session.specs.LinkCalls.{refusal_at, StepsByCall, DoesCall, CallsOnBytes}
 use Rattle.rfb_session.specs.LinkCalls.{IsRefusedCall, call_refusal_on}
-use Rattle.rfb_session.specs.LinkStanding.{LinkDoes, LosesOn, IsLostOn, IsRefusedOn}
+use Rattle.rfb_session.specs.LinkModel.{LinkDoes, LosesOn, IsLostOn, IsRefusedOn}
 use Rattle.rfb_session.specs.LinkSteps.{sends}
 use Rattle.rfb_session.specs.Network.{Network, Steps}
 use Rattle.rfb_session.specs.Told.{refused_as, moved_by, RefusesAs, ComposesAs, TellsAlone}

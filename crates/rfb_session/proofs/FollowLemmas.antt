@@ -7,9 +7,9 @@ use Rattle.rfb_pixel.specs.declared.colour.Colour.{Colour}
 use Rattle.rfb_picture.specs.declared.rect.Rect.{Rect}
 use Rattle.rfb_picture.specs.Grid.{Grid, Holds}
 use Rattle.rfb_server.specs.declared.session.Session.{Session}
-use Rattle.rfb_server.specs.Following.{Follows, IsTold}
-use Rattle.rfb_server.specs.Standing.{notes_in}
-use Rattle.rfb_server.specs.Drawing.{Stroke, drawn_by, notice_of}
+use Rattle.rfb_server.specs.KnownScreen.{Follows, IsTold}
+use Rattle.rfb_server.specs.Model.{notes_in}
+use Rattle.rfb_server.specs.Strokes.{Stroke, drawn_by, notice_of}
 use Rattle.rfb_server.proofs.DrawingLaws.{follows_stroke}
 use Rattle.rfb_session.specs.Slots.{seat_at, OnSlot}
 use Rattle.rfb_session.proofs.SlotLemmas.{not_both, on_seat, each_seat, all_seats, seat_set_same}

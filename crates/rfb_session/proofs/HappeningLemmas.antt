@@ -2,8 +2,8 @@
 use Rattle.std.proofs.Common.{◌≡◌, false, ◌⊎◌, inl, inr, Result, Ok, Err, IfOk, IsOk, sym, subst}
 use Rattle.rfb_pixel.specs.declared.colour.Colour.{Colour}
 use Rattle.rfb_picture.specs.Grid.{Grid}
-use Rattle.rfb_server.specs.Composing.{IsDue}
-use Rattle.rfb_server.specs.Drawing.{Stroke, IsInside}
+use Rattle.rfb_server.specs.Composition.{IsDue}
+use Rattle.rfb_server.specs.Strokes.{Stroke, IsInside}
 use Rattle.rfb_viewer.specs.declared.call.Call.{Call}
 use Rattle.rfb_session.specs.declared.event.Event.{Event}
 use Rattle.rfb_session.specs.declared.event.Event.TheVariants.{Compose}
@@ -13,11 +13,11 @@ use Rattle.rfb_session.specs.declared.world.World.{World}
 use Rattle.rfb_session.specs.Link.{Ends, server_of}
 use Rattle.rfb_session.specs.LinkCalls.{DoesCall, CallsOnBytes, IsRefusedCall}
 use Rattle.rfb_session.specs.LinkBytes.{ActsOnBytes}
-use Rattle.rfb_session.specs.LinkStanding.{Arrives, LinkStandsFor, LinkDoesOver, LosesOn, ComposesNothingOver}
+use Rattle.rfb_session.specs.LinkModel.{Arrives, LinkStandsFor, LinkDoesOver, LosesOn, ComposesNothingOver}
 use Rattle.rfb_session.specs.Network.{Network, Steps, Strokes}
 use Rattle.rfb_session.specs.Told.{RefusesUnless, Tells, TellsAlone}
 use Rattle.rfb_session.specs.World.{Acts, HintsAs, DrawsWorld, IsDrawing, IsRefused, IsLost, ComposesNothing, hints_in}
-use Rattle.rfb_session.specs.inside.Happening.{Happens, TakesNoMemory}
+use Rattle.rfb_session.specs.inside.WorldStep.{Happens, TakesNoMemory}
 use Rattle.rfb_session.proofs.EventCallLemmas.{IsEventOf, does_event, refused_event}
 use Rattle.rfb_session.proofs.WorldLemmas.{link_does, link_does_over}
 

@@ -8,8 +8,8 @@ use Rattle.rfb_viewer.specs.declared.event.ViewerEvent.{ViewerEvent}
 use Rattle.rfb_viewer.specs.declared.fault.ViewerFault.{ViewerFault}
 use Rattle.rfb_viewer.specs.declared.fault.ViewerFault.TheVariants.{NoMemory}
 use Rattle.rfb_viewer.specs.declared.viewer.Viewer.{Viewer}
-use Rattle.rfb_viewer.specs.Showing.{Shows}
-use Rattle.rfb_viewer.specs.Standing.{StandsFor as ViewerStandsFor, picture_of}
+use Rattle.rfb_viewer.specs.ShownPieces.{Shows}
+use Rattle.rfb_viewer.specs.Model.{StandsFor as ViewerStandsFor, picture_of}
 use Rattle.rfb_viewer.specs.Told.{seen}
 use Rattle.rfb_viewer.proofs.LendLemmas.{shows_at}
 use Rattle.rfb_session.specs.declared.share.Share.{Share}

@@ -16,7 +16,7 @@ use Rattle.rfb_viewer.specs.declared.fault.CallFault.{CallFault}
 use Rattle.rfb_viewer.specs.declared.viewer.Viewer.{Viewer}
 use Rattle.rfb_viewer.specs.Calls.{requested}
 use Rattle.rfb_viewer.specs.ServerBytes.{FromServer}
-use Rattle.rfb_viewer.specs.Standing.{StandsFor as ViewerStandsFor}
+use Rattle.rfb_viewer.specs.Model.{StandsFor as ViewerStandsFor}
 use Rattle.rfb_viewer.specs.Told.{ViewerTold, UpdateDone}
 use Rattle.rfb_viewer.specs.Viewer.{ViewerState, first_viewer, viewer as viewer_end}
 use Rattle.rfb_viewer.proofs.ViewerLaws.{viewer_machine}

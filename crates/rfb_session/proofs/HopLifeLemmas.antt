@@ -2,7 +2,7 @@
 use Rattle.std.proofs.Common.{◌≡◌, ℕ, List, Option, Some, None, Result, refl, sym, subst, ◌∙◌}
 use Rattle.rfb_pixel.specs.declared.colour.Colour.{Colour}
 use Rattle.rfb_picture.specs.Grid.{Grid}
-use Rattle.rfb_server.specs.Following.{Follows}
+use Rattle.rfb_server.specs.KnownScreen.{Follows}
 use Rattle.rfb_server.specs.Server.{Serving}
 use Rattle.rfb_viewer.specs.declared.call.Call.{Call}
 use Rattle.rfb_viewer.specs.declared.fault.AppendFault.{AppendFault}

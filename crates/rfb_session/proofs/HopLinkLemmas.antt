@@ -9,7 +9,7 @@ use Rattle.rfb_wire.specs.stream.Sequel.{First, Second}
 use Rattle.rfb_wire.specs.stream.End.{acts}
 use Rattle.rfb_codec.specs.UpdateStream.{UpdatePoint}
 use Rattle.rfb_hello.specs.ServerHandshake.{ServerPoint}
-use Rattle.rfb_server.specs.Composing.{sent_as}
+use Rattle.rfb_server.specs.Composition.{sent_as}
 use Rattle.rfb_viewer.specs.declared.fault.CallFault.{CallFault}
 use Rattle.rfb_viewer.specs.Calls.{requested, formatted, with_format}
 use Rattle.rfb_viewer.specs.ServerBytes.{ServerAt, FromServer}

@@ -13,7 +13,7 @@ use Rattle.rfb_viewer.specs.declared.fault.AppendFault.{AppendFault}
 use Rattle.rfb_viewer.specs.declared.viewer.Viewer.{Viewer}
 use Rattle.rfb_viewer.specs.Messages.{request_message}
 use Rattle.rfb_viewer.specs.ServerBytes.{ServerAt}
-use Rattle.rfb_viewer.specs.Standing.{StandsFor}
+use Rattle.rfb_viewer.specs.Model.{StandsFor}
 use Rattle.rfb_viewer.specs.Told.{Ready}
 use Rattle.rfb_viewer.specs.Viewer.{ViewerState, viewer as viewer_end}
 use Rattle.rfb_session.specs.declared.console.desk.Desk.{Desk}

@@ -5,7 +5,7 @@ use Rattle.rfb_pixel.specs.declared.colour.Colour.{Colour}
 use Rattle.rfb_pixel.specs.Format.{seen_through}
 use Rattle.rfb_picture.specs.Grid.{Grid}
 use Rattle.rfb_server.specs.Server.{black}
-use Rattle.rfb_viewer.specs.Showing.{Shows}
+use Rattle.rfb_viewer.specs.ShownPieces.{Shows}
 use Rattle.rfb_session.specs.Headline.{IsHeadline, ShowsLatest, ShowsComposing, due_picture}
 use Rattle.rfb_session.specs.Hops.{Moment, over, GoesBelow, GoesTo, HasUpdate, IsSeen, IsRun, Once, IsBetween}
 use Rattle.rfb_session.specs.Hops.{ShowsServers, ShowsTwice, ShowsThrough, IsPassedOn}

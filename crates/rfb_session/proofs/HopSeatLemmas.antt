@@ -9,9 +9,9 @@ use Rattle.rfb_picture.specs.Grid.{Grid, IsGrid, at_or, grid, with_rows}
 use Rattle.rfb_picture.specs.Rect.{contains, rect}
 use Rattle.rfb_picture.proofs.GridLaws.{changed_is, place_below}
 use Rattle.rfb_hello.specs.declared.fed.Fed.{Fed}
-use Rattle.rfb_server.specs.Drawing.{Stroke, Rows, IsInside, drawn_by}
-use Rattle.rfb_server.specs.Following.{Follows}
-use Rattle.rfb_server.specs.Standing.{Notes}
+use Rattle.rfb_server.specs.Strokes.{Stroke, Rows, IsInside, drawn_by}
+use Rattle.rfb_server.specs.KnownScreen.{Follows}
+use Rattle.rfb_server.specs.Model.{Notes}
 use Rattle.rfb_server.proofs.ServerLaws.{session_over}
 use Rattle.rfb_viewer.specs.declared.call.Call.{Call}
 use Rattle.rfb_viewer.specs.declared.event.ViewerEvent.{ViewerEvent}

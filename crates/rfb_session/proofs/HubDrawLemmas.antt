@@ -6,9 +6,9 @@ use Rattle.rfb_pixel.specs.declared.colour.Colour.{Colour}
 use Rattle.rfb_picture.specs.declared.rect.Rect.{Rect}
 use Rattle.rfb_picture.specs.Grid.{Grid, Holds}
 use Rattle.rfb_hello.specs.declared.version.Version.{Version}
-use Rattle.rfb_server.specs.Following.{Follows}
-use Rattle.rfb_server.specs.Drawing.{Stroke, IsInside, drawn_by, notice_of}
-use Rattle.rfb_server.specs.Standing.{notes_in, serving_with}
+use Rattle.rfb_server.specs.KnownScreen.{Follows}
+use Rattle.rfb_server.specs.Strokes.{Stroke, IsInside, drawn_by, notice_of}
+use Rattle.rfb_server.specs.Model.{notes_in, serving_with}
 use Rattle.rfb_session.specs.declared.hub.Hub.{Hub}
 use Rattle.rfb_session.specs.declared.hub.event.HubEvent.{HubEvent}
 use Rattle.rfb_session.specs.declared.hub.event.HubTold.{HubTold}

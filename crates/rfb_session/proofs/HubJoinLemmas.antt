@@ -3,13 +3,13 @@ use Rattle.std.proofs.Common.{◌≡◌, ℕ, List, [], false, sym, subst}
 use Rattle.rfb_pixel.specs.declared.colour.Colour.{Colour}
 use Rattle.rfb_picture.specs.Grid.{Grid, IsGrid}
 use Rattle.rfb_server.specs.declared.session.Session.{Session}
-use Rattle.rfb_server.specs.Following.{Follows}
+use Rattle.rfb_server.specs.KnownScreen.{Follows}
 use Rattle.rfb_server.specs.Hints.{hints_in}
 use Rattle.rfb_server.specs.Server.{first_server}
-use Rattle.rfb_server.specs.Standing.{SessionStandsFor, serving_with, with_screen}
+use Rattle.rfb_server.specs.Model.{SessionStandsFor, serving_with, with_screen}
 use Rattle.rfb_viewer.specs.declared.viewer.Viewer.{Viewer}
 use Rattle.rfb_viewer.specs.Viewer.{first_viewer}
-use Rattle.rfb_viewer.specs.Standing.{StandsFor as ViewerStandsFor, viewing_with}
+use Rattle.rfb_viewer.specs.Model.{StandsFor as ViewerStandsFor, viewing_with}
 use Rattle.rfb_session.specs.declared.hub.Hub.{Hub}
 use Rattle.rfb_viewer.specs.declared.setup.ViewerSetup.{ViewerSetup as Setup}
 use Rattle.rfb_session.specs.declared.hub.seat.HubSeat.{HubSeat}
@@ -17,7 +17,7 @@ use Rattle.rfb_session.specs.declared.link.Link.{Link}
 use Rattle.rfb_session.specs.Hub.{serving_in, IsFreshSeat}
 use Rattle.rfb_session.specs.HubSeats.{ends_of}
 use Rattle.rfb_session.specs.Link.{Ends, first_link}
-use Rattle.rfb_session.specs.LinkStanding.{LinkStandsFor, AreNew}
+use Rattle.rfb_session.specs.LinkModel.{LinkStandsFor, AreNew}
 
 pub fresh_seat : (hub : Hub) (setup : Setup) (session : Session) (viewer : Viewer) (link : Link)
     (seat : HubSeat) (w h : ℕ) (name : List ℕ) → w ≡ hub.screen.width → h ≡ hub.screen.height →

@@ -4,7 +4,7 @@ use Rattle.std.proofs.Common.{ap, ◌∙◌, subst}
 use Rattle.std.proofs.lemmas.Bool.{cases_eq}
 use Rattle.rfb_pixel.specs.declared.colour.Colour.{Colour}
 use Rattle.rfb_picture.specs.Grid.{Grid}
-use Rattle.rfb_server.specs.Drawing.{Stroke, notice_of, Fill as OneFill, Copy as OneCopy, Hint as OneHint}
+use Rattle.rfb_server.specs.Strokes.{Stroke, notice_of, Fill as OneFill, Copy as OneCopy, Hint as OneHint}
 use Rattle.rfb_server.specs.Server.{Serving}
 use Rattle.rfb_server.proofs.ServerLaws.{session_going}
 use Rattle.rfb_viewer.proofs.ViewerLaws.{viewer_going}
@@ -25,7 +25,7 @@ use Rattle.rfb_session.specs.HubSteps.{HubSteps, RunsHub}
 use Rattle.rfb_session.specs.Slots.{OnSlot, StaysUnless}
 use Rattle.rfb_session.specs.InFlight.{AreMade}
 use Rattle.rfb_session.specs.Link.{Ends, first_link}
-use Rattle.rfb_session.specs.LinkStanding.{server_fault_of, viewer_fault_of}
+use Rattle.rfb_session.specs.LinkModel.{server_fault_of, viewer_fault_of}
 use Rattle.rfb_session.specs.Network.{Network, IsReached}
 use Rattle.rfb_session.proofs.HubSlotLemmas.{some_fault}
 use Rattle.rfb_session.proofs.SlotLemmas.{one_seat, not_both, not_clear, other, on_seat}

@@ -13,7 +13,7 @@ use Rattle.rfb_session.specs.declared.told.Delivery.{Delivery}
 use Rattle.rfb_session.specs.declared.told.NoMemory.{NoMemory}
 use Rattle.rfb_session.specs.declared.told.Told.{Told}
 use Rattle.rfb_session.specs.LinkCalls.{DoesCall, CallsOnBytes}
-use Rattle.rfb_session.specs.LinkStanding.{Arrives, LinkDoes, LinkDoesOver, LosesOn}
+use Rattle.rfb_session.specs.LinkModel.{Arrives, LinkDoes, LinkDoesOver, LosesOn}
 use Rattle.rfb_session.specs.Told.{TellsAlone}
 use Rattle.rfb_session.specs.HubSeats.{event_of, LinkActs, LinkHints, SoleAs, SeatDoes}
 use Rattle.rfb_session.proofs.EventCallLemmas.{IsEventOf, does_event}

@@ -2,7 +2,7 @@
 use Rattle.std.proofs.Common.{◌≡◌, ◌≢◌, Bool, true, false, ℕ, List, Option, Some, None, refl, subst}
 use Rattle.rfb_pixel.specs.declared.colour.Colour.{Colour}
 use Rattle.rfb_picture.specs.Grid.{Grid}
-use Rattle.rfb_server.specs.Following.{Follows}
+use Rattle.rfb_server.specs.KnownScreen.{Follows}
 use Rattle.rfb_session.specs.declared.hub.event.HubFault.{HubFault}
 use Rattle.rfb_session.specs.declared.hub.event.SlotEvent.{SlotEvent}
 use Rattle.rfb_session.specs.declared.hub.seat.HubSeat.{HubSeat}

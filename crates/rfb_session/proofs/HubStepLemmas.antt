@@ -23,10 +23,10 @@ use Rattle.rfb_session.specs.HubSteps.{JoinsAs, Beyond, Taken, Joined, LeavesAs,
 use Rattle.rfb_session.specs.HubSteps.{Fed, EndsAs, NoneThere, Happened, StaysAs, IsOther, HubActs, SlotSteps}
 use Rattle.rfb_session.specs.HubSteps.{SlotTells, SlotsDo, HubSteps}
 use Rattle.rfb_session.specs.Slots.{StaysUnless}
-use Rattle.rfb_session.specs.HubTelling.{IsMere, TellsFor, hub_refusal}
+use Rattle.rfb_session.specs.HubAnswers.{IsMere, TellsFor, hub_refusal}
 use Rattle.rfb_session.specs.InFlight.{AreMade}
 use Rattle.rfb_session.specs.Link.{Ends}
-use Rattle.rfb_session.specs.LinkStanding.{LinkStandsFor}
+use Rattle.rfb_session.specs.LinkModel.{LinkStandsFor}
 use Rattle.rfb_session.specs.Network.{Network, Steps, IsReached}
 use Rattle.rfb_session.specs.Told.{Tells}
 use Rattle.rfb_session.proofs.HubSlotLemmas.{some_fault}

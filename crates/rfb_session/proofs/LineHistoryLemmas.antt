@@ -12,8 +12,8 @@ use Rattle.rfb_session.specs.declared.owner.reader.OwnerReader.{OwnerReader}
 use Rattle.rfb_session.specs.doors.Events.{Received, Ended, Failed, Wrote, Turned, came, left, ends}
 use Rattle.rfb_session.specs.doors.Tenants.{Happening, Told, Opened, Declined, events_in}
 use Rattle.rfb_session.specs.owner.Reader.{Feeds, ComesTo}
-use Rattle.rfb_session.specs.owner.Telling.{leave_line}
-use Rattle.rfb_session.specs.console.Telling.{leave_lines, come_line, busy_line}
+use Rattle.rfb_session.specs.owner.ShareLines.{leave_line}
+use Rattle.rfb_session.specs.console.SeatLines.{leave_lines, come_line, busy_line}
 use Rattle.rfb_session.specs.console.Desk.{guest_at, lines_of, is_over}
 use Rattle.rfb_session.specs.declared.share.event.SeatEvent.{SeatEvent}
 use Rattle.rfb_session.specs.console.Viewers.{HearsAt, Took, Refused, MakesRoom}

@@ -8,7 +8,7 @@ use Rattle.rfb_session.specs.declared.engine.fault.EngineFault.TheVariants.{Serv
 use Rattle.rfb_session.specs.declared.engine.fault.EngineFault.TheVariants.{Viewer as ViewerEnded, Truncated, Device}
 use Rattle.rfb_session.specs.declared.engine.fault.EngineFault.TheVariants.{NoMemory as EngineNoMemory}
 use Rattle.rfb_session.specs.ViewEngine.{RunsInTurn, KeepsLast, KeepsFirst}
-use Rattle.rfb_session.specs.Looking.{due_until, Looks, HasLooked, StopsLooking}
+use Rattle.rfb_session.specs.EngineRead.{due_until, Looks, HasLooked, StopsLooking}
 use Rattle.rfb_session.specs.Watcher.{EndsLooking}
 use Rattle.rfb_session.proofs.WrittenLemmas.{rest_is}
 use Rattle.rfb_session.specs.Wire.{Writing}

@@ -1,7 +1,7 @@
 -- Bytes that reach an end that has failed have no effect.
 use Rattle.std.proofs.Common.{ℕ, ◌+◌, List, drop, drop-drop, refl, ap, ◌∙◌}
 use Rattle.rfb_session.specs.declared.link.Link.{Link}
-use Rattle.rfb_session.specs.LinkStanding.{LosesToViewer, LosesToServer}
+use Rattle.rfb_session.specs.LinkModel.{LosesToViewer, LosesToServer}
 
 pub no_viewer_loss : (w : Link) → LosesToViewer w 0 w
 no_viewer_loss w = record {

@@ -4,7 +4,7 @@ use Rattle.std.proofs.Math.Logic.{∥∥₁_map}
 use Rattle.rfb_wire.specs.stream.End.{FedBy}
 use Rattle.rfb_viewer.specs.declared.fault.ViewerFault.{ViewerFault}
 use Rattle.rfb_viewer.specs.declared.viewer.Viewer.{Viewer}
-use Rattle.rfb_viewer.specs.Standing.{StandsFor, fault_of}
+use Rattle.rfb_viewer.specs.Model.{StandsFor, fault_of}
 use Rattle.rfb_viewer.specs.Told.{ViewerTold}
 use Rattle.rfb_viewer.specs.Viewer.{Viewing, ViewerState, viewer as viewer_end}
 use Rattle.rfb_session.specs.declared.share.screen.Screen.{Screen}

@@ -8,7 +8,7 @@ use Rattle.rfb_pixel.specs.declared.colour.Colour.{Colour}
 use Rattle.rfb_picture.specs.declared.rect.Rect.{Rect}
 use Rattle.rfb_picture.specs.Grid.{Grid}
 use Rattle.rfb_wire.specs.stream.End.{FedBy, RefusedBy, RunsOutBy, StaysFailed}
-use Rattle.rfb_wire.specs.stream.Placing.{counted_on}
+use Rattle.rfb_wire.specs.stream.FaultPlace.{counted_on}
 use Rattle.rfb_hello.specs.declared.fed.Fed.{Fed}
 use Rattle.rfb_viewer.specs.declared.call.Call.{Call}
 use Rattle.rfb_viewer.specs.declared.fault.AppendFault.{AppendFault}
@@ -19,9 +19,9 @@ use Rattle.rfb_viewer.specs.declared.viewer.Viewer.{Viewer}
 use Rattle.rfb_viewer.specs.Call.{called}
 use Rattle.rfb_viewer.specs.Counted.{CountsTo}
 use Rattle.rfb_viewer.specs.Damage.{damage_of, damaging, IsDamaged, KeepsDamage, IsSameOutside, colour_at, holds}
-use Rattle.rfb_viewer.specs.Failing.{KeepsPicture, KeepsReason}
+use Rattle.rfb_viewer.specs.Failed.{KeepsPicture, KeepsReason}
 use Rattle.rfb_viewer.specs.Moved.{moving, HasMoved, KeepsMoved}
-use Rattle.rfb_viewer.specs.Standing.{StandsFor, fault_of, picture_of, making_of, taken_of}
+use Rattle.rfb_viewer.specs.Model.{StandsFor, fault_of, picture_of, making_of, taken_of}
 use Rattle.rfb_viewer.specs.Told.{seen}
 use Rattle.rfb_viewer.specs.Viewer.{Viewing, ViewerState, AsksMemory, viewer as viewer_end}
 use Rattle.rfb_session.specs.Mirrors.{shown_of, seen_by, IsViewing, StandsOrFailed, TakesBytes, FailsAt}

@@ -17,10 +17,10 @@ use Rattle.rfb_hello.specs.ServerHandshake.{AwaitsName, Begun, ProtocolVersion, 
 use Rattle.rfb_hello.specs.ServerHandshake.{SecurityResult, ServerInit, Name}
 use Rattle.rfb_viewer.specs.declared.fault.ViewerFault.{ViewerFault}
 use Rattle.rfb_viewer.specs.declared.viewer.Viewer.{Viewer}
-use Rattle.rfb_viewer.specs.Failing.{ShowsLast, KeepsPicture}
+use Rattle.rfb_viewer.specs.Failed.{ShowsLast, KeepsPicture}
 use Rattle.rfb_viewer.specs.ServerBytes.{ServerAt, FromServer, server_two, server_bytes, server_bytes_say}
-use Rattle.rfb_viewer.specs.Showing.{ShowsAt}
-use Rattle.rfb_viewer.specs.Standing.{StandsFor}
+use Rattle.rfb_viewer.specs.ShownPieces.{ShowsAt}
+use Rattle.rfb_viewer.specs.Model.{StandsFor}
 use Rattle.rfb_viewer.specs.Told.{ViewerTold}
 use Rattle.rfb_viewer.specs.Viewer.{Viewing, ViewerState, viewer, shows, picture_after}
 use Rattle.rfb_viewer.proofs.CallLemmas.{shown_columns, shown_rows}

@@ -8,7 +8,7 @@ use Rattle.rfb_wire.specs.stream.Sequel.{First, Second}
 use Rattle.rfb_codec.specs.UpdateStream.{UpdatePoint}
 use Rattle.rfb_hello.specs.ServerHandshake.{ServerPoint}
 use Rattle.rfb_viewer.specs.ServerBytes.{ServerAt}
-use Rattle.rfb_server.specs.Drawing.{Stroke, drawn_by}
+use Rattle.rfb_server.specs.Strokes.{Stroke, drawn_by}
 use Rattle.rfb_server.proofs.DrawingLaws.{width_drawn, height_drawn}
 use Rattle.rfb_session.specs.declared.event.Event.{Event}
 use Rattle.rfb_session.specs.declared.event.Event.TheVariants.{Fill, Put, Copy, Hint, Request, SetFormat, SetEncodings}

@@ -6,8 +6,8 @@ use Rattle.std.specs.Io.KnownBytes.{Consumes, Keeps, IsAtEnd}
 use Rattle.std.proofs.KnownBytes.{Consumes-nil, Consumes-trans, Consumes-kept}
 use Rattle.rfb_viewer.specs.declared.fault.ViewerFault.{ViewerFault}
 use Rattle.rfb_viewer.specs.declared.viewer.Viewer.{Viewer}
-use Rattle.rfb_session.specs.Watching.{viewer_driven, ViewerRuns, EndsWithin, IsWatched}
-use Rattle.rfb_session.specs.Playing.{most, Played, AllPlayed, PlayedUntil}
+use Rattle.rfb_session.specs.ViewerActs.{viewer_driven, ViewerRuns, EndsWithin, IsWatched}
+use Rattle.rfb_session.specs.Playback.{most, Played, AllPlayed, PlayedUntil}
 use Rattle.rfb_session.proofs.EngineRunLemmas.{ran_none, ran_then}
 
 -- ---- one read

@@ -8,12 +8,12 @@ use Rattle.rfb_viewer.specs.declared.fault.ViewerFault.{ViewerFault}
 use Rattle.rfb_viewer.specs.declared.viewer.Viewer.{Viewer}
 use Rattle.rfb_viewer.specs.Told.{ViewerTold, Reply, Ready, UpdateDone, Bell, CutText, ColourMapSkipped}
 use Rattle.rfb_session.specs.InFlight.{viewer_reply}
-use Rattle.rfb_session.specs.Watching.{viewer_driven, WasFed, EndsBy, EndsWithin, StandsBetween, ends_told}
+use Rattle.rfb_session.specs.ViewerActs.{viewer_driven, WasFed, EndsBy, EndsWithin, StandsBetween, ends_told}
 use Rattle.rfb_session.specs.declared.engine.fault.EngineFault.{EngineFault}
 use Rattle.rfb_session.specs.declared.engine.fault.EngineFault.TheVariants.{Truncated, Device, Viewer as ViewerEnded}
-use Rattle.rfb_session.specs.Playing.{AllPlayed, Played, PlayedUntil, StopsPlaying}
-use Rattle.rfb_session.specs.PlayingSome.{WasCounted, IsWatchedFirst, PlayedFirst}
-use Rattle.rfb_session.specs.PlayingSome.{AreEnough, AreFewer, AreNoFewer, AreNoMore, StopsPlayingUpTo}
+use Rattle.rfb_session.specs.Playback.{AllPlayed, Played, PlayedUntil, StopsPlaying}
+use Rattle.rfb_session.specs.FirstUpdates.{WasCounted, IsWatchedFirst, PlayedFirst}
+use Rattle.rfb_session.specs.FirstUpdates.{AreEnough, AreFewer, AreNoFewer, AreNoMore, StopsPlayingUpTo}
 use Rattle.rfb_session.proofs.WrittenLemmas.{rest_is}
 use Rattle.rfb_session.proofs.EngineRunLemmas.{ran_then, ran_fed}
 use Rattle.rfb_session.proofs.PlayLemmas.{Watched, Reading}

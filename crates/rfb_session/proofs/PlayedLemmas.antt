@@ -5,10 +5,10 @@ use Rattle.rfb_pixel.specs.Format.{IsFormat, rgb888}
 use Rattle.rfb_picture.specs.Grid.{uniform}
 use Rattle.rfb_server.specs.declared.server.Server.{Server}
 use Rattle.rfb_server.specs.Server.{black, first_server}
-use Rattle.rfb_server.specs.Standing.{StandsFor as ServerStandsFor}
+use Rattle.rfb_server.specs.Model.{StandsFor as ServerStandsFor}
 use Rattle.rfb_viewer.specs.declared.viewer.Viewer.{Viewer}
 use Rattle.rfb_viewer.specs.Viewer.{first_viewer}
-use Rattle.rfb_viewer.specs.Standing.{StandsFor as ViewerStandsFor}
+use Rattle.rfb_viewer.specs.Model.{StandsFor as ViewerStandsFor}
 use Rattle.rfb_session.specs.declared.event.Event.{Event}
 use Rattle.rfb_session.specs.declared.world.World.{World}
 use Rattle.rfb_session.specs.Headline.{IsHeadline}

@@ -8,19 +8,19 @@ use Rattle.rfb_picture.specs.Grid.{Grid}
 use Rattle.rfb_wire.specs.stream.End.{FedBy}
 use Rattle.rfb_server.specs.Server.{Serving, server}
 use Rattle.rfb_server.specs.declared.session.Session.{Session}
-use Rattle.rfb_server.specs.Standing.{SessionStandsFor, session_fault}
+use Rattle.rfb_server.specs.Model.{SessionStandsFor, session_fault}
 use Rattle.rfb_server.specs.Told.{ServerTold}
 use Rattle.rfb_viewer.specs.Viewer.{Viewing, viewer}
 use Rattle.rfb_viewer.specs.declared.viewer.Viewer.{Viewer}
-use Rattle.rfb_viewer.specs.Standing.{StandsFor as ViewerStandsFor, fault_of}
+use Rattle.rfb_viewer.specs.Model.{StandsFor as ViewerStandsFor, fault_of}
 use Rattle.rfb_viewer.specs.Told.{ViewerTold}
 use Rattle.rfb_session.specs.declared.link.Link.{Link}
 use Rattle.rfb_session.specs.InFlight.{viewer_reply, server_reply}
 use Rattle.rfb_session.specs.LinkBytes.{session_driven, IsSole, sole_told, HearsOver, SessionEndsBy, ReachesSession}
 use Rattle.rfb_session.specs.LinkBytes.{TellsSole, ViewerEndsBy, ReachesViewer}
 use Rattle.rfb_session.specs.EngineRun.{TakesNone}
-use Rattle.rfb_session.specs.Watching.{viewer_driven, ViewerFeeds, ends_told}
-use Rattle.rfb_session.specs.inside.Delivering.{HasHeard, EndsHearing, HasWatched, EndsWatching}
+use Rattle.rfb_session.specs.ViewerActs.{viewer_driven, ViewerFeeds, ends_told}
+use Rattle.rfb_session.specs.inside.LinkDelivery.{HasHeard, EndsHearing, HasWatched, EndsWatching}
 use Rattle.rfb_session.proofs.EngineRunLemmas.{feeds_none, feeds_once, feeds_then, takes_none, takes_none_then}
 use Rattle.rfb_session.proofs.DeliveringLemmas.{fed_first}
 

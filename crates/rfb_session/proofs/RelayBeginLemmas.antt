@@ -11,7 +11,7 @@ use Rattle.rfb_viewer.specs.declared.viewer.Viewer.{Viewer}
 use Rattle.rfb_viewer.specs.declared.fault.CallFault.{CallFault}
 use Rattle.rfb_viewer.specs.Call.{append_refusal_of}
 use Rattle.rfb_viewer.specs.Calls.{request_refusal, requested}
-use Rattle.rfb_viewer.specs.Standing.{StandsFor}
+use Rattle.rfb_viewer.specs.Model.{StandsFor}
 use Rattle.rfb_viewer.specs.Viewer.{Viewing, ViewerState}
 use Rattle.rfb_viewer.specs.Messages.{request_message}
 use Rattle.rfb_viewer.specs.declared.fault.AppendFault.{AppendFault}

@@ -13,7 +13,7 @@ use Rattle.rfb_viewer.specs.Call.{called, is_noted, message_bytes, refusal_for}
 use Rattle.rfb_viewer.specs.Calls.{call_refused, requested}
 use Rattle.rfb_viewer.specs.Messages.{request_message}
 use Rattle.rfb_viewer.specs.ServerBytes.{ServerAt}
-use Rattle.rfb_viewer.specs.Standing.{StandsFor}
+use Rattle.rfb_viewer.specs.Model.{StandsFor}
 use Rattle.rfb_viewer.specs.Viewer.{Viewing, ViewerState}
 use Rattle.rfb_session.specs.declared.console.Outcome.{Outcome}
 use Rattle.rfb_session.specs.declared.console.Outcome.TheVariants.{NoMemory}
@@ -21,7 +21,7 @@ use Rattle.rfb_session.specs.declared.console.desk.Desk.{Desk}
 use Rattle.rfb_session.specs.declared.share.Share.{Share}
 use Rattle.rfb_session.specs.Mirrors.{MakesCall}
 use Rattle.rfb_session.specs.Share.{seat_in, viewer_of}
-use Rattle.rfb_session.specs.ShareAsking.{SomeAsked}
+use Rattle.rfb_session.specs.ShareWaiters.{SomeAsked}
 use Rattle.rfb_session.specs.relay.Calls.{Asks, Passes, NoDesk, Made, ended_by}
 use Rattle.rfb_session.specs.relay.Desk.{AsksFrom, NobodyWaits, SomeWait, CallsShare, NoViewer, Calls, ask_call}
 use Rattle.rfb_session.specs.relay.Desk.{whole_of}

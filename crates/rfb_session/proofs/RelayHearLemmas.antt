@@ -5,7 +5,7 @@ use Rattle.rfb_codec.specs.UpdateStream.{UpdatePoint}
 use Rattle.rfb_viewer.specs.declared.event.ViewerEvent.{ViewerEvent}
 use Rattle.rfb_viewer.specs.declared.event.ViewerEvent.TheVariants as Said
 use Rattle.rfb_viewer.specs.declared.viewer.Viewer.{Viewer}
-use Rattle.rfb_viewer.specs.Standing.{StandsFor}
+use Rattle.rfb_viewer.specs.Model.{StandsFor}
 use Rattle.rfb_viewer.specs.Told.{seen}
 use Rattle.rfb_viewer.specs.Viewer.{ViewerState}
 use Rattle.rfb_session.specs.declared.console.Console.{Console}

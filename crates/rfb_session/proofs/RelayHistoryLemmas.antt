@@ -3,7 +3,7 @@ use Rattle.std.proofs.Common.{◌≡◌, ◌++◌, ◌∙◌, ℕ, true, false, 
 use Rattle.std.proofs.Common.{refl, sym, ap, subst, arith, length, take, drop}
 use Rattle.std.proofs.Common.{append-nil, append_assoc, take-append-drop}
 use Rattle.rfb_viewer.specs.declared.setup.ViewerSetup.{ViewerSetup}
-use Rattle.rfb_viewer.specs.Standing.{StandsFor}
+use Rattle.rfb_viewer.specs.Model.{StandsFor}
 use Rattle.rfb_viewer.specs.Viewer.{first_viewer}
 use Rattle.rfb_session.specs.declared.relay.Relay.{Relay}
 use Rattle.rfb_session.specs.declared.relay.setup.Given.{Given}

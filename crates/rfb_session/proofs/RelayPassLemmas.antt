@@ -2,7 +2,7 @@
 use Rattle.std.proofs.Common.{◌≡◌, ◌++◌, ◌∙◌, ◌||◌, ℕ, Bool, true, false, not, List, []}
 use Rattle.std.proofs.Common.{Option, None, refl, sym, ap, subst, inr, take, append-nil}
 use Rattle.rfb_viewer.specs.declared.viewer.Viewer.{Viewer}
-use Rattle.rfb_viewer.specs.Standing.{StandsFor}
+use Rattle.rfb_viewer.specs.Model.{StandsFor}
 use Rattle.rfb_viewer.specs.Viewer.{ViewerState}
 use Rattle.rfb_session.specs.declared.relay.Relay.{Relay}
 use Rattle.rfb_session.specs.declared.relay.presence.Presence.{Presence}

@@ -18,7 +18,7 @@ use Rattle.rfb_viewer.specs.declared.viewer.progress.Progress.TheVariants.{Data,
 use Rattle.rfb_viewer.specs.Calls.{is_requestable, refusal_if, request_refused}
 use Rattle.rfb_viewer.specs.Progress.{ProgressStandsFor, IsReadyAt}
 use Rattle.rfb_viewer.specs.ServerBytes.{ServerAt}
-use Rattle.rfb_viewer.specs.Standing.{StandsFor}
+use Rattle.rfb_viewer.specs.Model.{StandsFor}
 use Rattle.rfb_viewer.specs.Viewer.{Viewing, ViewerState}
 use Rattle.rfb_viewer.proofs.LendLemmas.{shows_at}
 use Rattle.rfb_session.specs.declared.share.Share.{Share}

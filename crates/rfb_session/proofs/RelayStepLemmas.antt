@@ -5,7 +5,7 @@ use Rattle.std.proofs.Common.{Result, refl, sym, ap, subst, inl, inr, nat_lt, co
 use Rattle.std.proofs.Common.{◌||◌}
 use Rattle.std.proofs.Common.{length, arith}
 use Rattle.rfb_hello.specs.declared.fed.Fed.{Fed}
-use Rattle.rfb_wire.specs.stream.Placing.{counted_on}
+use Rattle.rfb_wire.specs.stream.FaultPlace.{counted_on}
 use Rattle.rfb_viewer.specs.declared.event.ViewerEvent.{ViewerEvent}
 use Rattle.rfb_viewer.specs.declared.fault.AppendFault.{AppendFault}
 use Rattle.rfb_session.specs.declared.console.Console.{Console}

@@ -5,7 +5,7 @@ use Rattle.rfb_wire.specs.stream.Sequel.{Second}
 use Rattle.rfb_viewer.specs.declared.viewer.Viewer.{Viewer}
 use Rattle.rfb_viewer.specs.Calls.{requested}
 use Rattle.rfb_viewer.specs.Messages.{request_message}
-use Rattle.rfb_viewer.specs.Standing.{StandsFor}
+use Rattle.rfb_viewer.specs.Model.{StandsFor}
 use Rattle.rfb_viewer.specs.Viewer.{Viewing, ViewerState}
 use Rattle.rfb_session.specs.declared.console.Outcome.{Outcome}
 use Rattle.rfb_session.specs.declared.console.desk.Desk.{Desk}
@@ -14,7 +14,7 @@ use Rattle.rfb_session.specs.declared.relay.presence.Presence.{Presence}
 use Rattle.rfb_session.specs.declared.relay.presence.Presence.TheVariants.{Coming, Shown, Gone as Lost}
 use Rattle.rfb_session.specs.declared.share.seat.ShareSeat.{ShareSeat}
 use Rattle.rfb_session.specs.Share.{screen_of, seat_in, viewer_of}
-use Rattle.rfb_session.specs.ShareAsking.{HasAskedIn, SomeAsked}
+use Rattle.rfb_session.specs.ShareWaiters.{HasAskedIn, SomeAsked}
 use Rattle.rfb_session.specs.relay.Calls.{Asks as AsksNow}
 use Rattle.rfb_session.specs.relay.Desk.{whole_of}
 use Rattle.rfb_session.specs.relay.History.{IsComing, IsShowing, HasGone, Asks, NotAsked, AskedOnce, SomeWait}

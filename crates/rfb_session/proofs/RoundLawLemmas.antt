@@ -2,8 +2,8 @@
 use Rattle.std.proofs.Common.{◌≡◌, ◌⊎◌, ◌<◌, ◌+◌, ◌||◌, ℕ, Bool, true, false, []}
 use Rattle.std.proofs.Common.{Option, Some, None, refl, ap, subst, arith, inl, inr}
 use Rattle.std.proofs.lemmas.Bool.{false≢true}
-use Rattle.rfb_server.specs.Standing.{session_fault}
-use Rattle.rfb_server.specs.Updating.{OwesUpdate}
+use Rattle.rfb_server.specs.Model.{session_fault}
+use Rattle.rfb_server.specs.UpdateCall.{OwesUpdate}
 use Rattle.rfb_session.specs.declared.console.desk.Desk.{Desk}
 use Rattle.rfb_session.specs.declared.share.seat.ShareSeat.{ShareSeat}
 use Rattle.rfb_session.specs.Rounds.{seats_before, first_after, is_left}

@@ -6,7 +6,7 @@ use Rattle.std.proofs.lemmas.Bool.Decides.{eqb_tells}
 use Rattle.rfb_pixel.specs.declared.colour.Colour.{Colour}
 use Rattle.rfb_picture.specs.Grid.{Grid}
 use Rattle.rfb_picture.specs.Places.{has_bit}
-use Rattle.rfb_server.specs.Drawing.{Stroke, notice_of}
+use Rattle.rfb_server.specs.Strokes.{Stroke, notice_of}
 use Rattle.rfb_server.specs.Server.{Serving}
 use Rattle.rfb_session.specs.declared.console.desk.Desk.{Desk}
 use Rattle.rfb_session.specs.declared.share.Share.{Share}
@@ -16,7 +16,7 @@ use Rattle.rfb_session.specs.declared.share.event.Heard.{Heard}
 use Rattle.rfb_session.specs.declared.share.event.ShareFault.{ShareFault}
 use Rattle.rfb_session.specs.declared.share.seat.ShareSeat.{ShareSeat}
 use Rattle.rfb_session.specs.doors.Events.{left}
-use Rattle.rfb_session.specs.owner.Drawing.{DrawsOne, Drawn, Outside}
+use Rattle.rfb_session.specs.owner.OwnerStroke.{DrawsOne, Drawn, Outside}
 use Rattle.rfb_session.specs.Share.{seat_in, screen_of, canvas_of, viewer_of, serving_in, waits_at}
 use Rattle.rfb_session.specs.ShareLives.{Lives, LivesAt}
 use Rattle.rfb_session.specs.ShareSeats.{IsNotifiedIn}

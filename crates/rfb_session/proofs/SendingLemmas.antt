@@ -6,7 +6,7 @@ use Rattle.std.specs.Prelude.{IfOk, is_ok, if◌then◌else◌}
 use Rattle.std.specs.declared.alloc.AllocError.{AllocError}
 use Rattle.rfb_session.specs.declared.drive.key_event.KeyEvent.{KeyEvent}
 use Rattle.rfb_session.specs.declared.drive.words.Place.{Place}
-use Rattle.rfb_session.specs.drive.driver.Sending.{Act, OfKey, OfPointer, act_bytes, clicks, spelled}
+use Rattle.rfb_session.specs.drive.driver.Acts.{Act, OfKey, OfPointer, act_bytes, clicks, spelled}
 
 -- bytes were appended, if there was memory for them
 pub grown : (r : Result (Unit {0}) AllocError) (old new bytes want : List ℕ) →

@@ -12,7 +12,7 @@ use Rattle.rfb_codec.specs.UpdateStream.{UpdatePoint}
 use Rattle.rfb_codec.specs.WholeUpdate.{update_of}
 use Rattle.rfb_hello.specs.ServerHandshake.{ServerPoint}
 use Rattle.rfb_server.specs.ClientBytes.{ClientAt, FromClient, client_two}
-use Rattle.rfb_server.specs.Composing.{sent_as, between}
+use Rattle.rfb_server.specs.Composition.{sent_as, between}
 use Rattle.rfb_server.proofs.ServerLaws.{client_bytes_laws}
 use Rattle.rfb_viewer.specs.declared.fault.CallFault.TheVariants.{Busy}
 use Rattle.rfb_viewer.specs.ServerBytes.{ServerAt, FromServer, server_two}

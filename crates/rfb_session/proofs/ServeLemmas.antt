@@ -13,10 +13,10 @@ use Rattle.rfb_server.specs.declared.event.ServerEvent.{ServerEvent}
 use Rattle.rfb_server.specs.declared.server.Server.{Server}
 use Rattle.rfb_server.specs.Told.{seen}
 use Rattle.rfb_server.specs.Server.{Serving, ServerState, server, AsksMemory}
-use Rattle.rfb_server.specs.Standing.{StandsFor, Draws, Keeps as KeepsServer, with_screen, screen_of, fault_of}
-use Rattle.rfb_server.specs.Failing.{KeepsNotes}
-use Rattle.rfb_server.specs.Composing.{Composes}
-use Rattle.rfb_server.specs.Updating.{Updates, StaysUnsent}
+use Rattle.rfb_server.specs.Model.{StandsFor, Draws, Keeps as KeepsServer, with_screen, screen_of, fault_of}
+use Rattle.rfb_server.specs.Failed.{KeepsNotes}
+use Rattle.rfb_server.specs.Composition.{Composes}
+use Rattle.rfb_server.specs.UpdateCall.{Updates, StaysUnsent}
 use Rattle.rfb_session.specs.declared.engine.fault.EngineFault.{EngineFault}
 use Rattle.rfb_session.specs.declared.engine.fault.EngineFault.TheVariants.{Server as ServerEnded}
 use Rattle.rfb_session.specs.declared.engine.fault.EngineFault.TheVariants.{Viewer as ViewerEnded, Truncated, Device}

@@ -8,7 +8,7 @@ use Rattle.rfb_session.specs.declared.engine.fault.EngineFault.TheVariants.{Serv
 use Rattle.rfb_session.specs.declared.engine.fault.EngineFault.TheVariants.{Viewer as ViewerEnded}
 use Rattle.rfb_session.specs.declared.engine.fault.EngineFault.TheVariants.{Truncated, Device}
 use Rattle.rfb_session.specs.declared.engine.fault.EngineFault.TheVariants.{NoMemory}
-use Rattle.rfb_session.specs.Playing.{most}
+use Rattle.rfb_session.specs.Playback.{most}
 use Rattle.rfb_session.specs.ServeEngine.{StopsHearing, StopsUpdating}
 use Rattle.rfb_session.specs.ServeOrder.{TurnOver, TurnsOver, NoTurn, NextTurn, TurnsToEnd}
 use Rattle.rfb_session.specs.ServeOrder.{StopsTurnOver, MissesRead, StopsInHearing, StopsInUpdating}

@@ -9,7 +9,7 @@ use Rattle.rfb_session.specs.declared.engine.fault.EngineFault.TheVariants.{Serv
 use Rattle.rfb_session.specs.declared.engine.fault.EngineFault.TheVariants.{Viewer as ViewerEnded, Truncated, Device}
 use Rattle.rfb_session.specs.declared.engine.fault.EngineFault.TheVariants.{NoMemory as EngineNoMemory}
 use Rattle.rfb_session.specs.Devices.{AppendsBeginning}
-use Rattle.rfb_session.specs.Playing.{most}
+use Rattle.rfb_session.specs.Playback.{most}
 use Rattle.rfb_session.specs.Wire.{by_bytes}
 use Rattle.rfb_session.specs.ServeEngine.{server_driven, ServerRuns, RunsToIdle, KeepsIdle, RunsFromIdle, IsHeard}
 use Rattle.rfb_session.specs.ServeEngine.{IsUpdated, StopsHearing, StopsUpdating, AllServed, ServedSome, StopsServing}

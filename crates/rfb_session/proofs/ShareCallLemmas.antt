@@ -17,8 +17,8 @@ use Rattle.rfb_server.proofs.ServerLaws.{session_going}
 use Rattle.rfb_viewer.specs.declared.viewer.Viewer.{Viewer}
 use Rattle.rfb_viewer.specs.Calls.{call_refusal, requested, formatted}
 use Rattle.rfb_viewer.specs.ServerBytes.{FromServer}
-use Rattle.rfb_viewer.specs.Showing.{Shows}
-use Rattle.rfb_viewer.specs.Standing.{StandsFor as ViewerStandsFor, fault_of}
+use Rattle.rfb_viewer.specs.ShownPieces.{Shows}
+use Rattle.rfb_viewer.specs.Model.{StandsFor as ViewerStandsFor, fault_of}
 use Rattle.rfb_viewer.proofs.ViewerLaws.{viewer_going}
 use Rattle.rfb_viewer.specs.Viewer.{Viewing, ViewerState, viewer as viewer_end}
 use Rattle.rfb_session.specs.declared.event.Event.{Event}

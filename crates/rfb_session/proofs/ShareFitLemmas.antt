@@ -19,9 +19,9 @@ use Rattle.rfb_server.specs.declared.late.feeding.LateFault.TheVariants.{Session
 use Rattle.rfb_server.specs.declared.session.Session.{Session}
 use Rattle.rfb_server.specs.ClientBytes.{ClientAt}
 use Rattle.rfb_server.specs.Server.{Serving, ServerState, server, first_server}
-use Rattle.rfb_server.specs.Standing.{SessionStandsFor, KeepsSession, session_fault, with_screen}
+use Rattle.rfb_server.specs.Model.{SessionStandsFor, KeepsSession, session_fault, with_screen}
 use Rattle.rfb_server.specs.Told.{ServerTold}
-use Rattle.rfb_server.specs.Updating.{SendsUpdate}
+use Rattle.rfb_server.specs.UpdateCall.{SendsUpdate}
 use Rattle.rfb_server.proofs.ServerLaws.{session_over}
 use Rattle.rfb_session.specs.declared.share.waiting.Waiting.{Waiting}
 use Rattle.rfb_session.specs.declared.share.waiting.Waiting.TheVariants.{Answers, Update}

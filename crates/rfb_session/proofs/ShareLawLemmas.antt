@@ -19,7 +19,7 @@ use Rattle.rfb_session.specs.Share.{seat_in, screen_of, serving_in, waits_at, wa
 use Rattle.rfb_session.specs.ShareLives.{Lives, LivesAt, GoesOn}
 use Rattle.rfb_session.specs.ShareSeats.{waiting_in, ComposesAt, WritesAt, IsNotifiedIn}
 use Rattle.rfb_session.specs.ShareSlots.{ComposesIn, WantsRoomIn}
-use Rattle.rfb_server.specs.Drawing.{Stroke, notice_of}
+use Rattle.rfb_server.specs.Strokes.{Stroke, notice_of}
 use Rattle.rfb_session.specs.ShareSteps.{JoinsAs, Full, Joined, DrawsOn, ReceivesAs}
 use Rattle.rfb_session.specs.ShareSteps.{RefusesAs, NoneHeard, SeatEmptied, SeatEnded, WritesAs, ComposesAs}
 use Rattle.rfb_session.specs.ShareSteps.{WantsRoomAs, KeepsScreen}

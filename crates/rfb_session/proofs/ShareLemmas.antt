@@ -9,10 +9,10 @@ use Rattle.rfb_picture.specs.Grid.{Grid, IsGrid}
 use Rattle.rfb_picture.specs.Places.{has_bit}
 use Rattle.rfb_hello.specs.Version.{version_text}
 use Rattle.rfb_server.specs.declared.session.Session.{Session}
-use Rattle.rfb_server.specs.Following.{Follows}
+use Rattle.rfb_server.specs.KnownScreen.{Follows}
 use Rattle.rfb_server.specs.Hints.{hints_in}
 use Rattle.rfb_server.specs.Server.{Serving, first_server}
-use Rattle.rfb_server.specs.Standing.{SessionStandsFor, serving_with, with_screen}
+use Rattle.rfb_server.specs.Model.{SessionStandsFor, serving_with, with_screen}
 use Rattle.rfb_server.specs.declared.event.ServerEvent.{ServerEvent}
 use Rattle.rfb_server.specs.Told.{ServerTold, Reply, Ready, Key, Pointer, CutText}
 use Rattle.rfb_server.specs.Told.{seen, event_told}

@@ -7,12 +7,12 @@ use Rattle.rfb_wire.specs.stream.End.{FedBy, RunsOutBy}
 use Rattle.rfb_hello.specs.Version.{version_text}
 use Rattle.rfb_server.specs.declared.fault.ServerFault.{ServerFault}
 use Rattle.rfb_server.specs.declared.session.Session.{Session}
-use Rattle.rfb_server.specs.Failing.{EndsAs, EndsAt}
+use Rattle.rfb_server.specs.Failed.{EndsAs, EndsAt}
 use Rattle.rfb_server.specs.Server.{Serving, server, first_server}
-use Rattle.rfb_server.specs.Standing.{SessionStandsFor, KeepsSession, Notes, session_fault}
-use Rattle.rfb_server.specs.Standing.{with_screen}
+use Rattle.rfb_server.specs.Model.{SessionStandsFor, KeepsSession, Notes, session_fault}
+use Rattle.rfb_server.specs.Model.{with_screen}
 use Rattle.rfb_server.specs.Told.{ServerTold}
-use Rattle.rfb_server.specs.Updating.{SendsUpdate}
+use Rattle.rfb_server.specs.UpdateCall.{SendsUpdate}
 use Rattle.rfb_server.proofs.ServerLaws.{session_over}
 use Rattle.rfb_session.specs.declared.share.seat.ShareSeat.{ShareSeat}
 use Rattle.rfb_session.specs.EngineRun.{Fed, Did, fed_in, sent_in}

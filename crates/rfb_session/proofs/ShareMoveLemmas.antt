@@ -13,9 +13,9 @@ use Rattle.rfb_picture.proofs.GridLaws.{same_grid, place_below}
 use Rattle.rfb_codec.specs.Effect.{IsAlike}
 use Rattle.rfb_server.specs.declared.drawing.notice.Notice.{Notice}
 use Rattle.rfb_server.specs.declared.hint.Hint.{Hint}
-use Rattle.rfb_server.specs.Drawing.{Hint as Hinted, notice_of, hint_told}
-use Rattle.rfb_server.specs.Following.{Follows, IsTold}
-use Rattle.rfb_server.specs.Following.{IsSameOutside as IsOutside}
+use Rattle.rfb_server.specs.Strokes.{Hint as Hinted, notice_of, hint_told}
+use Rattle.rfb_server.specs.KnownScreen.{Follows, IsTold}
+use Rattle.rfb_server.specs.KnownScreen.{IsSameOutside as IsOutside}
 use Rattle.rfb_server.specs.Hints.{hints_in}
 use Rattle.rfb_server.specs.Server.{black}
 use Rattle.rfb_server.proofs.DrawingLaws.{follows_stroke}

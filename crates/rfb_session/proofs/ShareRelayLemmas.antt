@@ -8,8 +8,8 @@ use Rattle.rfb_pixel.specs.declared.colour.Colour.{Colour}
 use Rattle.rfb_picture.specs.declared.rect.Rect.{Rect}
 use Rattle.rfb_picture.specs.Grid.{Grid, IsGrid}
 use Rattle.rfb_codec.specs.Effect.{IsAlike}
-use Rattle.rfb_server.specs.Following.{Follows}
-use Rattle.rfb_server.specs.Standing.{notes_in}
+use Rattle.rfb_server.specs.KnownScreen.{Follows}
+use Rattle.rfb_server.specs.Model.{notes_in}
 use Rattle.rfb_viewer.specs.declared.viewer.Viewer.{Viewer}
 use Rattle.rfb_viewer.specs.declared.viewer.moved.Move.{Move}
 use Rattle.rfb_viewer.specs.Damage.{IsSameOutside}

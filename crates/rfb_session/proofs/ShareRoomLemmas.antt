@@ -3,7 +3,7 @@ use Rattle.std.proofs.Common.{◌≡◌, ℕ, ◌+◌, ◌≤◌, List, [], ◌�
 use Rattle.std.proofs.Common.{refl, ap, subst, arith}
 use Rattle.byteorder.specs.Endian.{big_bytes}
 use Rattle.rfb_pixel.specs.Format.{rgb888}
-use Rattle.rfb_pixel.specs.Reading.{format_bytes}
+use Rattle.rfb_pixel.specs.FormatBytes.{format_bytes}
 use Rattle.rfb_wire.specs.ClientMessage.{ClientMessage, SetPixelFormat, SetEncodings}
 use Rattle.rfb_wire.specs.ClientMessage.{FramebufferUpdateRequest, KeyEvent, PointerEvent}
 use Rattle.rfb_wire.specs.ClientMessage.{ClientCutText}

@@ -15,7 +15,7 @@ use Rattle.rfb_server.specs.declared.session.Session.{Session}
 use Rattle.rfb_server.specs.ClientBytes.{ClientAt}
 use Rattle.rfb_server.specs.Server.{Serving, server}
 use Rattle.rfb_server.specs.Hints.{hints_in}
-use Rattle.rfb_server.specs.Standing.{SessionStandsFor, session_fault, session_serving}
+use Rattle.rfb_server.specs.Model.{SessionStandsFor, session_fault, session_serving}
 use Rattle.rfb_server.specs.Told.{ServerTold}
 use Rattle.rfb_session.specs.declared.share.seat.ShareSeat.{ShareSeat}
 use Rattle.rfb_session.specs.declared.share.waiting.Waiting.{Waiting}

@@ -4,9 +4,9 @@ use Rattle.std.proofs.Common.{append-nil, Some}
 use Rattle.std.proofs.Common.{inl, inr, refl, sym, ap, ◌∙◌, subst}
 use Rattle.rfb_pixel.specs.declared.colour.Colour.{Colour}
 use Rattle.rfb_picture.specs.Grid.{Grid}
-use Rattle.rfb_server.specs.Composing.{Composes}
+use Rattle.rfb_server.specs.Composition.{Composes}
 use Rattle.rfb_server.specs.Server.{ServerState}
-use Rattle.rfb_server.specs.Standing.{SessionStandsFor}
+use Rattle.rfb_server.specs.Model.{SessionStandsFor}
 use Rattle.rfb_viewer.specs.declared.viewer.Viewer.{Viewer}
 use Rattle.rfb_session.specs.declared.event.Event.TheVariants.{Compose as OfCompose}
 use Rattle.rfb_session.specs.declared.share.Share.{Share}

@@ -10,12 +10,12 @@ use Rattle.rfb_hello.specs.Version.{version_text}
 use Rattle.rfb_server.specs.declared.fault.ServerFault.{ServerFault}
 use Rattle.rfb_server.specs.declared.fault.ServerFault.TheVariants.{NoMemory}
 use Rattle.rfb_server.specs.declared.session.Session.{Session}
-use Rattle.rfb_server.specs.Failing.{EndsAs}
+use Rattle.rfb_server.specs.Failed.{EndsAs}
 use Rattle.rfb_server.specs.Server.{Serving, server, first_server}
-use Rattle.rfb_server.specs.Standing.{SessionStandsFor, with_screen}
+use Rattle.rfb_server.specs.Model.{SessionStandsFor, with_screen}
 use Rattle.rfb_server.proofs.ServerLaws.{client_bytes_laws, session_over}
 use Rattle.rfb_viewer.specs.declared.viewer.Viewer.{Viewer}
-use Rattle.rfb_viewer.specs.Standing.{StandsFor as ViewerStandsFor}
+use Rattle.rfb_viewer.specs.Model.{StandsFor as ViewerStandsFor}
 use Rattle.rfb_viewer.specs.Told.{ViewerTold}
 use Rattle.rfb_viewer.specs.Viewer.{first_viewer, viewer as viewer_end}
 use Rattle.rfb_session.specs.declared.share.Share.{Share}
@@ -23,15 +23,15 @@ use Rattle.rfb_session.specs.declared.share.event.Heard.{Heard}
 use Rattle.rfb_session.specs.declared.share.event.ShareFault.TheVariants.{Session as OfSession}
 use Rattle.rfb_session.specs.declared.share.event.ShareFault.TheVariants.{NoMemory as Wanting}
 use Rattle.rfb_session.specs.declared.share.seat.ShareSeat.{ShareSeat}
-use Rattle.rfb_session.specs.Carrying.{Carries}
+use Rattle.rfb_session.specs.TwoEnds.{Carries}
 use Rattle.rfb_session.specs.InFlight.{AreMade, Flies, first_flight, server_reply, viewer_reply}
 use Rattle.rfb_session.specs.Link.{Ends, first_link}
-use Rattle.rfb_session.specs.LinkStanding.{ServesOver}
+use Rattle.rfb_session.specs.LinkModel.{ServesOver}
 use Rattle.rfb_session.specs.declared.event.Event.TheVariants.{ToServer as OfServer, ToViewer as OfViewer}
 use Rattle.rfb_session.specs.Network.{Network, Strokes}
 use Rattle.rfb_session.specs.Share.{seat_in, screen_of, serving_in, waits_at, waiting_for}
 use Rattle.rfb_session.specs.ShareSeats.{waiting_in, WritesAt, IsNotifiedIn}
-use Rattle.rfb_server.specs.Drawing.{Stroke, IsInside, drawn_by, notice_of}
+use Rattle.rfb_server.specs.Strokes.{Stroke, IsInside, drawn_by, notice_of}
 use Rattle.rfb_session.specs.ShareSteps.{JoinsAs, Full, Joined, DrawsOn}
 use Rattle.rfb_session.specs.ShareSteps.{ReceivesAs, RefusesAs, NoneHeard, SeatEmptied, SeatEnded, WritesAs}
 use Rattle.rfb_session.specs.ShareViewers.{IsWatchedBy, GoesOn, fresh_over}

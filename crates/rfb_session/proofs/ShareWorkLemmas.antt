@@ -9,8 +9,8 @@ use Rattle.rfb_pixel.specs.declared.colour.Colour.{Colour}
 use Rattle.rfb_picture.specs.Grid.{Grid}
 use Rattle.rfb_picture.specs.Places.{has_bit}
 use Rattle.rfb_server.specs.declared.session.Session.{Session}
-use Rattle.rfb_server.specs.Standing.{session_fault, with_screen}
-use Rattle.rfb_server.specs.Updating.{OwesUpdate, NoneDue}
+use Rattle.rfb_server.specs.Model.{session_fault, with_screen}
+use Rattle.rfb_server.specs.UpdateCall.{OwesUpdate, NoneDue}
 use Rattle.rfb_server.proofs.ServerLaws.{session_over}
 use Rattle.rfb_session.specs.declared.share.Share.{Share}
 use Rattle.rfb_session.specs.declared.share.event.Composing.{Composing}

@@ -8,12 +8,12 @@ use Rattle.rfb_wire.specs.stream.End.{acts}
 use Rattle.rfb_wire.specs.stream.Sequel.{First, Second}
 use Rattle.rfb_viewer.specs.ServerBytes.{ServerAt, FromServer}
 use Rattle.rfb_viewer.specs.Viewer.{Viewing, ViewerState, viewer}
-use Rattle.rfb_viewer.specs.Showing.{Shows, ShowsAt}
-use Rattle.rfb_viewer.specs.Standing.{StandsFor as ViewerStandsFor}
+use Rattle.rfb_viewer.specs.ShownPieces.{Shows, ShowsAt}
+use Rattle.rfb_viewer.specs.Model.{StandsFor as ViewerStandsFor}
 use Rattle.rfb_session.specs.declared.link.Link.{Link}
 use Rattle.rfb_session.specs.Link.{Ends, LinkState, viewer_stream}
 use Rattle.rfb_session.specs.Headline.{due_picture}
-use Rattle.rfb_session.specs.LinkStanding.{LinkStandsFor}
+use Rattle.rfb_session.specs.LinkModel.{LinkStandsFor}
 
 -- with no byte of the next item it shows the picture
 pub shown_whole : (at : ServerAt) (picture stored : Option (Grid Colour)) →

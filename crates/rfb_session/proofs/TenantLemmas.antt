@@ -11,7 +11,7 @@ use Rattle.rfb_session.specs.declared.doors.place.Place.{Place}
 use Rattle.rfb_session.specs.declared.doors.place.Place.TheVariants.{Empty, Held}
 use Rattle.rfb_session.specs.doors.Events.{Event, Stepping, Runs, came, left, ends}
 use Rattle.rfb_session.specs.doors.Devices.{flag_of}
-use Rattle.rfb_session.specs.doors.Waiting.{IsOver}
+use Rattle.rfb_session.specs.doors.Wants.{IsOver}
 use Rattle.rfb_session.specs.doors.Places.{is_held}
 use Rattle.rfb_session.specs.doors.Lives.{Telling, Opening, Declining, Closes, PlaceTurns, Lives, Still, Then}
 use Rattle.rfb_session.specs.doors.Lives.{OpensAt, TurnsAway}

@@ -4,7 +4,7 @@ use Rattle.std.proofs.Common.{sym, ◌∙◌, subst, append-nil, length-take-le,
 use Rattle.std.specs.Io.KnownBytes.{Consumes}
 use Rattle.std.proofs.KnownBytes.{Consumes-nil, Consumes-trans}
 use Rattle.rfb_server.specs.declared.server.Server.{Server}
-use Rattle.rfb_server.specs.Updating.{StaysUnsent}
+use Rattle.rfb_server.specs.UpdateCall.{StaysUnsent}
 use Rattle.rfb_session.specs.declared.engine.fault.EngineFault.{EngineFault}
 use Rattle.rfb_session.specs.ServeEngine.{AllServed, ServedSome, StopsServing}
 use Rattle.rfb_session.specs.Turns.{Showing, Turns, TurnsNoMore, StopsTurn, FailsToRead, FailsToHear, FailsToUpdate}

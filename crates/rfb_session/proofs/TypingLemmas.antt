@@ -4,7 +4,7 @@ use Rattle.std.proofs.Common.{Result, Ok, Err, length, take}
 use Rattle.std.specs.Prelude.{IfErr}
 use Rattle.std.specs.declared.alloc.AllocError.{AllocError}
 use Rattle.rfb_session.specs.declared.drive.key_event.KeyEvent.{KeyEvent}
-use Rattle.rfb_session.specs.drive.Typing.{typed, typed_char}
+use Rattle.rfb_session.specs.drive.Keyboard.{typed, typed_char}
 
 typed-append : (a b : List ℕ) → typed (a ++ b) ≡ typed a ++ typed b
 typed-append [] b = refl

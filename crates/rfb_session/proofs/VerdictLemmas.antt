@@ -22,8 +22,8 @@ use Rattle.rfb_session.specs.declared.engine.fault.EngineFault.TheVariants.{Serv
 use Rattle.rfb_session.specs.declared.engine.fault.EngineFault.TheVariants.{Viewer as ViewerEnded, Truncated, Device}
 use Rattle.rfb_session.specs.declared.engine.fault.EngineFault.TheVariants.{NoMemory as EngineNoMemory}
 use Rattle.rfb_session.specs.EngineRun.{Step, Fed, Did, Runs, Ran, fed_in, updates_in}
-use Rattle.rfb_session.specs.Watching.{ViewerAct, Asked, PassedOver, Asks, viewer_driven, ends_told, StandsBetween}
-use Rattle.rfb_session.specs.Playing.{AllPlayed, PlayedUntil, StopsPlaying}
+use Rattle.rfb_session.specs.ViewerActs.{ViewerAct, Asked, PassedOver, Asks, viewer_driven, ends_told, StandsBetween}
+use Rattle.rfb_session.specs.Playback.{AllPlayed, PlayedUntil, StopsPlaying}
 use Rattle.rfb_session.specs.Verdict.{updates_told, answer_to, IsAnsweredAs, IsJudged, JudgesAll}
 
 -- ---- states that differ by requests alone

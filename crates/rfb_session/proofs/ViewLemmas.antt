@@ -10,18 +10,18 @@ use Rattle.rfb_picture.specs.declared.rect.Rect.{Rect}
 use Rattle.rfb_viewer.specs.declared.fault.CallFault.{CallFault}
 use Rattle.rfb_viewer.specs.Calls.{request_refusal, requested}
 use Rattle.rfb_viewer.specs.Messages.{request_message}
-use Rattle.rfb_viewer.specs.Showing.{Shows}
+use Rattle.rfb_viewer.specs.ShownPieces.{Shows}
 use Rattle.rfb_viewer.specs.declared.viewer.Viewer.{Viewer}
 use Rattle.rfb_viewer.specs.Told.{ViewerTold, Reply, Ready, UpdateDone, Bell, CutText, ColourMapSkipped}
 use Rattle.rfb_viewer.specs.Viewer.{Viewing, ViewerState}
-use Rattle.rfb_viewer.specs.Standing.{StandsFor}
+use Rattle.rfb_viewer.specs.Model.{StandsFor}
 use Rattle.rfb_session.specs.Devices.{AppendsBeginning}
 use Rattle.rfb_session.specs.InFlight.{viewer_reply}
 use Rattle.rfb_session.specs.EngineRun.{Step, Fed, Did}
-use Rattle.rfb_session.specs.Watching.{ViewerAct, Asked, PassedOver, whole_area, viewer_driven, ends_told, WasFed}
+use Rattle.rfb_session.specs.ViewerActs.{ViewerAct, Asked, PassedOver, whole_area, viewer_driven, ends_told, WasFed}
 use Rattle.rfb_session.specs.ViewEngine.{due_after, due, AsksInTurn, RunsInTurn, KeepsLast}
-use Rattle.rfb_session.specs.Looking.{AsksForScreen, HasAsked, IsCutInAsking, due_until, IsAnswered, IsCutInAnswer}
-use Rattle.rfb_session.specs.Looking.{Looks, IsLookCutOff}
+use Rattle.rfb_session.specs.EngineRead.{AsksForScreen, HasAsked, IsCutInAsking, due_until, IsAnswered, IsCutInAnswer}
+use Rattle.rfb_session.specs.EngineRead.{Looks, IsLookCutOff}
 use Rattle.rfb_session.specs.Wire.{Writing}
 use Rattle.rfb_session.proofs.WrittenLemmas.{whole_beginning}
 use Rattle.rfb_session.proofs.EngineRunLemmas.{joined, only_one}

@@ -7,7 +7,7 @@ use Rattle.rfb_session.specs.declared.engine.fault.EngineFault.TheVariants.{Serv
 use Rattle.rfb_session.specs.declared.engine.fault.EngineFault.TheVariants.{Viewer as ViewerEnded}
 use Rattle.rfb_session.specs.declared.engine.fault.EngineFault.TheVariants.{Truncated, Device}
 use Rattle.rfb_session.specs.declared.engine.fault.EngineFault.TheVariants.{NoMemory}
-use Rattle.rfb_session.specs.Looking.{HasLooked, StopsLooking}
+use Rattle.rfb_session.specs.EngineRead.{HasLooked, StopsLooking}
 use Rattle.rfb_session.specs.ViewEngine.{KeepsFirst}
 use Rattle.rfb_session.specs.ViewOrder.{LookOver, LooksOver, StopsLookOver, EndsTooEarly}
 use Rattle.rfb_session.specs.ViewOrder.{MissesLook, StopsInLooking, StopsViewInOrder}

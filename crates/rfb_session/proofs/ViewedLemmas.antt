@@ -10,7 +10,7 @@ use Rattle.rfb_session.specs.declared.engine.fault.EngineFault.TheVariants.{Serv
 use Rattle.rfb_session.specs.declared.engine.fault.EngineFault.TheVariants.{Viewer as ViewerEnded, Truncated, Device}
 use Rattle.rfb_session.specs.declared.engine.fault.EngineFault.TheVariants.{NoMemory as EngineNoMemory}
 use Rattle.rfb_session.specs.ViewEngine.{RunsInTurn, HasViewed, HasMissed, ViewedSome, StopsViewing}
-use Rattle.rfb_session.specs.Looking.{due_until, Looks, HasLooked, StopsLooking}
+use Rattle.rfb_session.specs.EngineRead.{due_until, Looks, HasLooked, StopsLooking}
 use Rattle.rfb_session.specs.Watcher.{EndsLooking, EndsViewing}
 use Rattle.rfb_session.proofs.WrittenLemmas.{whole_beginning}
 use Rattle.rfb_session.proofs.PlayLemmas.{none_left}

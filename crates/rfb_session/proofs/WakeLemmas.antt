@@ -7,8 +7,8 @@ use Rattle.std.specs.Prelude.{slice_index_or}
 use Rattle.std.proofs.lemmas.Bool.{false≢true}
 use Rattle.std.proofs.lemmas.Bool.Decides.{leb_tells}
 use Rattle.std.proofs.lemmas.List.{get_or_default}
-use Rattle.rfb_server.specs.Standing.{session_fault}
-use Rattle.rfb_server.specs.Updating.{OwesUpdate}
+use Rattle.rfb_server.specs.Model.{session_fault}
+use Rattle.rfb_server.specs.UpdateCall.{OwesUpdate}
 use Rattle.rfb_session.specs.declared.console.desk.Desk.{Desk}
 use Rattle.rfb_session.specs.declared.console.desk.Hold.{Hold}
 use Rattle.rfb_session.specs.declared.console.desk.Hold.TheVariants.{Shown, Begins, Since}

@@ -5,8 +5,8 @@ use Rattle.std.specs.Io.KnownBytes.{Consumes}
 use Rattle.std.proofs.KnownBytes.{Consumes-nil, Consumes-trans}
 use Rattle.rfb_viewer.specs.declared.viewer.Viewer.{Viewer}
 use Rattle.rfb_viewer.specs.Told.{ViewerTold}
-use Rattle.rfb_session.specs.Watching.{WasFed, ends_told}
-use Rattle.rfb_session.specs.Looking.{MayAsk}
+use Rattle.rfb_session.specs.ViewerActs.{WasFed, ends_told}
+use Rattle.rfb_session.specs.EngineRead.{MayAsk}
 use Rattle.rfb_session.specs.Watcher.{Listening, Hears, HearsAll, NoCall, NextCall, NextRequest, HearsOf, HearsRead}
 use Rattle.rfb_session.proofs.WrittenLemmas.{rest_is}
 

@@ -4,9 +4,9 @@ use Rattle.rfb_pixel.specs.declared.colour.Colour.{Colour}
 use Rattle.rfb_picture.specs.Grid.{Grid}
 use Rattle.rfb_server.specs.declared.server.Server.{Server}
 use Rattle.rfb_server.specs.declared.session.Session.{Session}
-use Rattle.rfb_server.specs.Drawing.{Stroke}
+use Rattle.rfb_server.specs.Strokes.{Stroke}
 use Rattle.rfb_server.specs.Server.{first_server}
-use Rattle.rfb_server.specs.Standing.{SessionStandsFor, with_screen, screen_of, session_of}
+use Rattle.rfb_server.specs.Model.{SessionStandsFor, with_screen, screen_of, session_of}
 use Rattle.rfb_server.proofs.ServerLaws.{session_over}
 use Rattle.rfb_viewer.specs.declared.viewer.Viewer.{Viewer}
 use Rattle.rfb_session.specs.declared.event.Event.{Event}
@@ -14,7 +14,7 @@ use Rattle.rfb_session.specs.declared.told.Told.{Told}
 use Rattle.rfb_session.specs.declared.world.World.{World}
 use Rattle.rfb_session.specs.Link.{Ends, first_link}
 use Rattle.rfb_session.specs.Network.{Network, Steps, StepsAll, Strokes, Then, IsReached}
-use Rattle.rfb_session.specs.LinkStanding.{LinkStandsFor, AreNew, LinkDoes, LinkDoesOver}
+use Rattle.rfb_session.specs.LinkModel.{LinkStandsFor, AreNew, LinkDoes, LinkDoesOver}
 use Rattle.rfb_session.specs.World.{StandsFor, AreFresh, Does, first_network}
 
 -- ---- what is reached

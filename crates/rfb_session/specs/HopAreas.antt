@@ -10,7 +10,7 @@ use Rattle.rfb_wire.specs.ClientMessage.{SetPixelFormat, SetEncodings, Framebuff
 use Rattle.rfb_wire.specs.ClientMessage.{KeyEvent, PointerEvent, ClientCutText}
 use Rattle.rfb_wire.specs.stream.Sequel.{First, Second}
 use Rattle.rfb_server.specs.ClientBytes.{FromClient}
-use Rattle.rfb_server.specs.Drawing.{Stroke}
+use Rattle.rfb_server.specs.Strokes.{Stroke}
 use Rattle.rfb_server.specs.Server.{black}
 use Rattle.rfb_session.specs.declared.event.Event.{Event}
 use Rattle.rfb_session.specs.declared.event.Event.TheVariants.{Request}

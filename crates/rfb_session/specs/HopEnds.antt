@@ -2,7 +2,7 @@
 -- viewer of a seat of that share stand for a moment.
 use Rattle.std.specs.Prelude.{◌≡◌, ℕ, List, Option, Some, None}
 use Rattle.rfb_viewer.specs.declared.viewer.Viewer.{Viewer}
-use Rattle.rfb_viewer.specs.Standing.{StandsFor as ViewerStandsFor}
+use Rattle.rfb_viewer.specs.Model.{StandsFor as ViewerStandsFor}
 use Rattle.rfb_session.specs.declared.share.Share.{Share}
 use Rattle.rfb_session.specs.Hops.{Moment, GoesTo, Opens, Renews, over}
 use Rattle.rfb_session.specs.InFlight.{Flies}

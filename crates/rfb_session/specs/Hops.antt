@@ -9,7 +9,7 @@ use Rattle.rfb_picture.specs.Area.{asked_at}
 use Rattle.rfb_wire.specs.stream.Sequel.{Second}
 use Rattle.rfb_codec.specs.UpdateStream.{UpdatePoint}
 use Rattle.rfb_server.specs.Server.{black}
-use Rattle.rfb_viewer.specs.Showing.{Shows}
+use Rattle.rfb_viewer.specs.ShownPieces.{Shows}
 use Rattle.rfb_session.specs.Headline.{AnswersSome, ShowsComposing}
 use Rattle.rfb_session.specs.Link.{Ends, Composing, LinkState}
 use Rattle.rfb_session.specs.Network.{Network, Goes, IsFirst, IsReached}

@@ -2,19 +2,19 @@
 use Rattle.std.specs.Prelude.{◌≡◌, ℕ, ◌≤◌, Bool, false, [], length, Option, Some, None}
 use Rattle.rfb_pixel.specs.declared.colour.Colour.{Colour}
 use Rattle.rfb_picture.specs.Grid.{Grid}
-use Rattle.rfb_server.specs.Following.{Follows}
+use Rattle.rfb_server.specs.KnownScreen.{Follows}
 use Rattle.rfb_server.specs.Hints.{hints_in}
 use Rattle.rfb_server.specs.Server.{Serving}
-use Rattle.rfb_server.specs.Standing.{serving_with}
+use Rattle.rfb_server.specs.Model.{serving_with}
 use Rattle.rfb_session.specs.declared.hub.Hub.{Hub}
 use Rattle.rfb_session.specs.declared.hub.event.HubEvent.{HubEvent}
 use Rattle.rfb_session.specs.declared.hub.event.HubEvent.TheVariants.{Of, Foreign}
 use Rattle.rfb_viewer.specs.declared.setup.ViewerSetup.{ViewerSetup as Setup}
 use Rattle.rfb_session.specs.declared.hub.seat.HubSeat.{HubSeat}
 use Rattle.rfb_session.specs.Link.{Ends, first_link}
-use Rattle.rfb_session.specs.LinkStanding.{LinkStandsFor, server_fault_of, viewer_fault_of}
-use Rattle.rfb_session.specs.LinkStanding.{number_of}
-use Rattle.rfb_session.specs.LinkStanding.{shown_on}
+use Rattle.rfb_session.specs.LinkModel.{LinkStandsFor, server_fault_of, viewer_fault_of}
+use Rattle.rfb_session.specs.LinkModel.{number_of}
+use Rattle.rfb_session.specs.LinkModel.{shown_on}
 use Rattle.rfb_session.specs.Headline.{IsHeadline, ShowsKnown, ShowsLatest, due_picture}
 use Rattle.rfb_session.specs.HubSeats.{ends_of, SeatStandsFor, HasFewSlotBytes}
 use Rattle.rfb_session.specs.InFlight.{AreMade}

@@ -2,14 +2,14 @@
 use Rattle.std.specs.Prelude.{◌≡◌, ◌≢◌, ◌⊎◌, ℕ, true, false, List, [], ◌++◌, None}
 use Rattle.rfb_pixel.specs.declared.colour.Colour.{Colour}
 use Rattle.rfb_picture.specs.Grid.{Grid}
-use Rattle.rfb_server.specs.Following.{Follows, IsTold}
+use Rattle.rfb_server.specs.KnownScreen.{Follows, IsTold}
 use Rattle.rfb_server.specs.Hints.{hints_in}
 use Rattle.rfb_server.specs.Server.{Serving}
 use Rattle.rfb_server.specs.declared.drawing.notice.Notice.{Notice}
-use Rattle.rfb_server.specs.Drawing.{hint_told, with_hint_of}
-use Rattle.rfb_server.specs.Standing.{KeepsSession}
-use Rattle.rfb_server.specs.Updating.{OwesUpdate}
-use Rattle.rfb_viewer.specs.Standing.{viewing_with}
+use Rattle.rfb_server.specs.Strokes.{hint_told, with_hint_of}
+use Rattle.rfb_server.specs.Model.{KeepsSession}
+use Rattle.rfb_server.specs.UpdateCall.{OwesUpdate}
+use Rattle.rfb_viewer.specs.Model.{viewing_with}
 use Rattle.rfb_session.specs.declared.event.Event.{Event}
 use Rattle.rfb_session.specs.declared.event.Event.TheVariants.{Request as OfRequest}
 use Rattle.rfb_session.specs.declared.event.Event.TheVariants.{SetFormat as OfFormat}
@@ -32,10 +32,10 @@ use Rattle.rfb_session.specs.declared.told.Told.{Told}
 use Rattle.rfb_session.specs.Link.{Ends}
 use Rattle.rfb_session.specs.LinkBytes.{ActsOnBytes, ComposesOver, TellsSole}
 use Rattle.rfb_session.specs.LinkBytes.{MovesNone, refusal_on}
-use Rattle.rfb_session.specs.LinkStanding.{LinkDoesOver, LinkStandsFor, LosesOn, ChangesSession}
-use Rattle.rfb_session.specs.LinkStanding.{server_fault_of}
+use Rattle.rfb_session.specs.LinkModel.{LinkDoesOver, LinkStandsFor, LosesOn, ChangesSession}
+use Rattle.rfb_session.specs.LinkModel.{server_fault_of}
 use Rattle.rfb_session.specs.Told.{TellsAlone}
-use Rattle.rfb_session.specs.LinkStanding.{IsRefusedOn, IsLostOn, ComposesNothingOver}
+use Rattle.rfb_session.specs.LinkModel.{IsRefusedOn, IsLostOn, ComposesNothingOver}
 use Rattle.rfb_session.specs.Network.{Network}
 use Rattle.rfb_session.specs.World.{HasFewBytes}
 

@@ -5,11 +5,11 @@ use Rattle.rfb_pixel.specs.declared.colour.Colour.{Colour}
 use Rattle.rfb_picture.specs.Grid.{Grid, Holds, filled, copied, with_row, uniform}
 use Rattle.rfb_picture.specs.Places.{has_bit}
 use Rattle.rfb_hello.specs.declared.version.Version.TheVariants.{V38}
-use Rattle.rfb_server.specs.Drawing.{Stroke, IsInside, drawn_by, notice_of}
-use Rattle.rfb_server.specs.Drawing.{Fill as OneFill, Put as OnePut, Copy as OneCopy}
-use Rattle.rfb_server.specs.Drawing.{Hint as OneHint}
+use Rattle.rfb_server.specs.Strokes.{Stroke, IsInside, drawn_by, notice_of}
+use Rattle.rfb_server.specs.Strokes.{Fill as OneFill, Put as OnePut, Copy as OneCopy}
+use Rattle.rfb_server.specs.Strokes.{Hint as OneHint}
 use Rattle.rfb_server.specs.Server.{black}
-use Rattle.rfb_server.specs.Standing.{row_from, HoldsBoth, serving_with}
+use Rattle.rfb_server.specs.Model.{row_from, HoldsBoth, serving_with}
 use Rattle.rfb_session.specs.declared.event.Event.TheVariants.{Fill as OfFill, Put as OfPut}
 use Rattle.rfb_session.specs.declared.event.Event.TheVariants.{Copy as OfCopy, Hint as OfHint}
 use Rattle.rfb_session.specs.declared.hub.Hub.{Hub}
@@ -28,7 +28,7 @@ use Rattle.rfb_session.specs.Hub.{seat_in, serving_in, IsFreshSeat, IsEmptyHub, 
 use Rattle.rfb_session.specs.HubSeats.{event_of, SeatDoes, SeatStandsFor, TakesForeign}
 use Rattle.rfb_session.specs.HubSeats.{IsNotifiedOn}
 use Rattle.rfb_session.specs.HubSlots.{SparesIn}
-use Rattle.rfb_session.specs.HubTelling.{IsMere, TellsFor}
+use Rattle.rfb_session.specs.HubAnswers.{IsMere, TellsFor}
 use Rattle.rfb_session.specs.InFlight.{AreMade}
 use Rattle.rfb_session.specs.Link.{Ends}
 use Rattle.rfb_session.specs.Network.{Network, Steps, Strokes, IsReached}

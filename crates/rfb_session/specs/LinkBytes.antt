@@ -11,23 +11,23 @@ use Rattle.rfb_server.specs.declared.fault.ServerFault.{ServerFault}
 use Rattle.rfb_server.specs.declared.fault.ServerFault.TheVariants.{NoMemory as ServerWants}
 use Rattle.rfb_server.specs.declared.session.Session.{Session}
 use Rattle.rfb_server.specs.ClientBytes.{ClientAt, FromClient}
-use Rattle.rfb_server.specs.Failing.{EndsAs}
+use Rattle.rfb_server.specs.Failed.{EndsAs}
 use Rattle.rfb_server.specs.Hints.{hints_in}
 use Rattle.rfb_server.specs.Server.{Serving, ServerState, server}
-use Rattle.rfb_server.specs.Standing.{SessionStandsFor, session_fault, notes_in}
+use Rattle.rfb_server.specs.Model.{SessionStandsFor, session_fault, notes_in}
 use Rattle.rfb_server.specs.Told.{ServerTold, Reply, Ready, Key as KeyTold}
 use Rattle.rfb_server.specs.Told.{Pointer as PointerTold, CutText as TextTold}
-use Rattle.rfb_server.specs.Updating.{SendsUpdate, OwesNone}
+use Rattle.rfb_server.specs.UpdateCall.{SendsUpdate, OwesNone}
 use Rattle.rfb_viewer.specs.declared.fault.ViewerFault.{ViewerFault}
 use Rattle.rfb_viewer.specs.declared.fault.ViewerFault.TheVariants.{NoMemory as ViewerWants}
 use Rattle.rfb_viewer.specs.declared.viewer.Viewer.{Viewer}
 use Rattle.rfb_viewer.specs.declared.fault.CallFault.{CallFault}
-use Rattle.rfb_viewer.specs.Refusing.{call_refused_by, request_refused_by, format_refused_by}
+use Rattle.rfb_viewer.specs.Refusals.{call_refused_by, request_refused_by, format_refused_by}
 use Rattle.rfb_viewer.specs.Calls.{requested, formatted}
 use Rattle.rfb_viewer.specs.Damage.{damage_of, ended_of}
 use Rattle.rfb_viewer.specs.Messages.{format_message, encodings_message, request_message}
 use Rattle.rfb_viewer.specs.Messages.{key_message, pointer_message, text_message}
-use Rattle.rfb_viewer.specs.Standing.{StandsFor as ViewerStandsFor, KeepsRest, picture_of, fault_of}
+use Rattle.rfb_viewer.specs.Model.{StandsFor as ViewerStandsFor, KeepsRest, picture_of, fault_of}
 use Rattle.rfb_viewer.specs.Viewer.{Viewing, ViewerState}
 use Rattle.rfb_session.specs.declared.event.Event.{Event}
 use Rattle.rfb_session.specs.declared.event.Event.TheVariants.{Request, SetFormat, SetEncodings}
@@ -38,7 +38,7 @@ use Rattle.rfb_session.specs.declared.told.Told.{Told}
 use Rattle.rfb_session.specs.Told.{refused_as}
 use Rattle.rfb_session.specs.Latest.{composing_in}
 use Rattle.rfb_session.specs.EngineRun.{Step, Fed, Did, Driven, FeedsOn, TakesNone}
-use Rattle.rfb_session.specs.Watching.{ViewerFeeds, EndsBy}
+use Rattle.rfb_session.specs.ViewerActs.{ViewerFeeds, EndsBy}
 use Rattle.rfb_session.specs.ServeEngine.{ServerAct, Serves, server_sends}
 
 -- ---- calls of the viewer

@@ -10,7 +10,7 @@ use Rattle.rfb_session.specs.declared.told.Told.{Told}
 use Rattle.rfb_session.specs.InFlight.{AreMade}
 use Rattle.rfb_session.specs.Link.{Ends, LinkState}
 use Rattle.rfb_session.specs.LinkBytes.{SendsMessage}
-use Rattle.rfb_session.specs.LinkStanding.{LinkStandsFor}
+use Rattle.rfb_session.specs.LinkModel.{LinkStandsFor}
 use Rattle.rfb_session.specs.LinkSteps.{begun, calls}
 use Rattle.rfb_session.specs.Network.{Network, IsReached}
 use Rattle.rfb_session.specs.Told.{refused_as}

@@ -19,7 +19,7 @@ use Rattle.rfb_codec.specs.UpdateStream.{Message}
 use Rattle.rfb_codec.specs.WholeUpdate.{update_of}
 use Rattle.rfb_server.specs.ClientBytes.{FromClient}
 use Rattle.rfb_server.specs.Server.{server}
-use Rattle.rfb_server.specs.Composing.{Part, sent_as, Composes, IsDue}
+use Rattle.rfb_server.specs.Composition.{Part, sent_as, Composes, IsDue}
 use Rattle.rfb_viewer.specs.declared.fault.CallFault.{CallFault}
 use Rattle.rfb_viewer.specs.ServerBytes.{FromServer}
 use Rattle.rfb_viewer.specs.Viewer.{ViewerState, viewer}

@@ -7,7 +7,7 @@ use Rattle.rfb_picture.specs.Grid.{Grid, uniform}
 use Rattle.rfb_server.specs.Server.{black}
 use Rattle.rfb_wire.specs.ClientMessage.{SpellsClientMessage}
 use Rattle.rfb_wire.specs.stream.End.{FedBy, RefusedBy, RunsOutBy}
-use Rattle.rfb_wire.specs.stream.Placing.{counted_on}
+use Rattle.rfb_wire.specs.stream.FaultPlace.{counted_on}
 use Rattle.rfb_hello.specs.declared.fed.Fed.{Fed}
 use Rattle.rfb_viewer.specs.declared.call.Call.{Call}
 use Rattle.rfb_viewer.specs.declared.fault.AppendFault.{AppendFault}
@@ -21,9 +21,9 @@ use Rattle.rfb_viewer.specs.Call.{append_refusal_of, called, is_noted, message_b
 use Rattle.rfb_viewer.specs.Call.{refused_by}
 use Rattle.rfb_viewer.specs.Counted.{CountsTo}
 use Rattle.rfb_viewer.specs.Damage.{damage_of, ended_of, damaging, IsDamaged, KeepsDamage}
-use Rattle.rfb_viewer.specs.Failing.{KeepsPicture, KeepsReason}
+use Rattle.rfb_viewer.specs.Failed.{KeepsPicture, KeepsReason}
 use Rattle.rfb_viewer.specs.Moved.{moved_of, moving, HasMoved, KeepsMoved}
-use Rattle.rfb_viewer.specs.Standing.{StandsFor, KeepsRest, fault_of, picture_of, making_of, taken_of}
+use Rattle.rfb_viewer.specs.Model.{StandsFor, KeepsRest, fault_of, picture_of, making_of, taken_of}
 use Rattle.rfb_viewer.specs.Told.{seen}
 use Rattle.rfb_viewer.specs.Viewer.{Viewing, ViewerState, AsksMemory, viewer as viewer_end}
 

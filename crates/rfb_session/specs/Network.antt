@@ -2,8 +2,8 @@
 use Rattle.std.specs.Prelude.{◌≡◌, List, [], ◌∷◌, length, ◌⊎◌}
 use Rattle.rfb_pixel.specs.declared.colour.Colour.{Colour}
 use Rattle.rfb_picture.specs.Grid.{Grid, Holds, filled, copied, with_row}
-use Rattle.rfb_server.specs.Drawing.{Stroke, IsInside, drawn_by}
-use Rattle.rfb_server.specs.Standing.{row_from, HoldsBoth}
+use Rattle.rfb_server.specs.Strokes.{Stroke, IsInside, drawn_by}
+use Rattle.rfb_server.specs.Model.{row_from, HoldsBoth}
 use Rattle.rfb_session.specs.declared.event.Event.{Event}
 use Rattle.rfb_session.specs.declared.event.Event.TheVariants.{Fill, Put, Copy, Hint, Request}
 use Rattle.rfb_session.specs.declared.event.Event.TheVariants.{SetFormat, SetEncodings, Key}

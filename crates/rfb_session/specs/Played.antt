@@ -5,8 +5,8 @@ use Rattle.rfb_picture.specs.Grid.{uniform}
 use Rattle.rfb_wire.specs.declared.encoding.Encoding.TheVariants.{Raw}
 use Rattle.rfb_hello.specs.declared.version.Version.TheVariants.{V38}
 use Rattle.rfb_server.specs.Server.{black}
-use Rattle.rfb_server.specs.Standing.{serving_with}
-use Rattle.rfb_viewer.specs.Standing.{viewing_with}
+use Rattle.rfb_server.specs.Model.{serving_with}
+use Rattle.rfb_viewer.specs.Model.{viewing_with}
 use Rattle.rfb_session.specs.declared.event.Event.{Event}
 use Rattle.rfb_session.specs.declared.world.World.{World}
 use Rattle.rfb_session.specs.Link.{Ends}

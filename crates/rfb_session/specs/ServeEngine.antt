@@ -12,16 +12,16 @@ use Rattle.rfb_server.specs.declared.server.Server.{Server}
 use Rattle.rfb_server.specs.ClientBytes.{ClientAt, FromClient, is_between}
 use Rattle.rfb_server.specs.Told.{ServerTold}
 use Rattle.rfb_server.specs.Server.{Serving, ServerState, server, AsksMemory}
-use Rattle.rfb_server.specs.Standing.{StandsFor, Keeps as KeepsAll, with_screen, fault_of}
-use Rattle.rfb_server.specs.Failing.{KeepsNotes}
-use Rattle.rfb_server.specs.Composing.{Part, Composes, IsDue}
-use Rattle.rfb_server.specs.Updating.{Updates, WasDue}
+use Rattle.rfb_server.specs.Model.{StandsFor, Keeps as KeepsAll, with_screen, fault_of}
+use Rattle.rfb_server.specs.Failed.{KeepsNotes}
+use Rattle.rfb_server.specs.Composition.{Part, Composes, IsDue}
+use Rattle.rfb_server.specs.UpdateCall.{Updates, WasDue}
 use Rattle.rfb_session.specs.declared.engine.fault.EngineFault.{EngineFault}
 use Rattle.rfb_session.specs.declared.engine.fault.EngineFault.TheVariants.{Server as ServerEnded, Viewer, Truncated}
 use Rattle.rfb_session.specs.declared.engine.fault.EngineFault.TheVariants.{Device, NoMemory}
 use Rattle.rfb_session.specs.Devices.{AppendsBeginning}
 use Rattle.rfb_session.specs.InFlight.{server_reply}
-use Rattle.rfb_session.specs.Playing.{most}
+use Rattle.rfb_session.specs.Playback.{most}
 use Rattle.rfb_session.specs.EngineRun.{Step, Fed, Did, Driven, Ran, RunsOn, FeedsOn}
 use Rattle.rfb_session.specs.Wire.{Writing, by_bytes}
 

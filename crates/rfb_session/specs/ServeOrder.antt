@@ -4,7 +4,7 @@ use Rattle.std.specs.Prelude.{◌≡◌, ℕ, ◌≤◌, ◌+◌, ◌-◌, ◌^�
 use Rattle.rfb_server.specs.declared.server.Server.{Server}
 use Rattle.rfb_session.specs.declared.engine.fault.EngineFault.{EngineFault}
 use Rattle.rfb_session.specs.declared.engine.fault.EngineFault.TheVariants.{Truncated, Device}
-use Rattle.rfb_session.specs.Playing.{most}
+use Rattle.rfb_session.specs.Playback.{most}
 use Rattle.rfb_session.specs.ServeEngine.{IsGreeting, StopsHearing, StopsUpdating}
 use Rattle.rfb_session.specs.Turns.{Showing, IsAnsweredBy, IsTurn}
 use Rattle.rfb_session.specs.Wire.{Came, Ended, Missed, Known, Stepping, Sends, SendsSome, by_steps}

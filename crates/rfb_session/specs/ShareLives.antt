@@ -6,9 +6,9 @@ use Rattle.rfb_picture.specs.Grid.{Grid}
 use Rattle.rfb_hello.specs.Version.{version_text}
 use Rattle.rfb_server.specs.declared.fault.ServerFault.{ServerFault}
 use Rattle.rfb_server.specs.declared.session.Session.{Session}
-use Rattle.rfb_server.specs.Failing.{EndsAs}
+use Rattle.rfb_server.specs.Failed.{EndsAs}
 use Rattle.rfb_server.specs.Server.{Serving, ServerState, first_server}
-use Rattle.rfb_server.specs.Standing.{SessionStandsFor, session_fault, with_screen}
+use Rattle.rfb_server.specs.Model.{SessionStandsFor, session_fault, with_screen}
 use Rattle.rfb_server.specs.Told.{ServerTold}
 use Rattle.rfb_session.specs.declared.share.Share.{Share}
 use Rattle.rfb_session.specs.declared.share.seat.ShareSeat.{ShareSeat}

@@ -5,9 +5,9 @@ use Rattle.rfb_picture.specs.declared.rect.Rect.{Rect}
 use Rattle.rfb_picture.specs.Grid.{Grid}
 use Rattle.rfb_codec.specs.Effect.{IsAlike}
 use Rattle.rfb_server.specs.declared.hint.Hint.{Hint}
-use Rattle.rfb_server.specs.Following.{Follows}
+use Rattle.rfb_server.specs.KnownScreen.{Follows}
 use Rattle.rfb_server.specs.Hints.{hints_in, with_hint}
-use Rattle.rfb_server.specs.Standing.{HoldsBoth}
+use Rattle.rfb_server.specs.Model.{HoldsBoth}
 use Rattle.rfb_viewer.specs.declared.viewer.moved.Move.{Move}
 use Rattle.rfb_viewer.specs.Damage.{IsSameOutside}
 use Rattle.rfb_session.specs.declared.share.seat.ShareSeat.{ShareSeat}

@@ -9,7 +9,7 @@ use Rattle.rfb_hello.specs.ClientHandshake.{AwaitsVersion, AwaitsChoice, AwaitsI
 use Rattle.rfb_server.specs.declared.session.Session.{Session}
 use Rattle.rfb_server.specs.ClientBytes.{ClientAt}
 use Rattle.rfb_server.specs.Server.{Serving, ServerState}
-use Rattle.rfb_server.specs.Standing.{SessionStandsFor, session_fault}
+use Rattle.rfb_server.specs.Model.{SessionStandsFor, session_fault}
 use Rattle.rfb_session.specs.declared.share.waiting.Waiting.{Waiting}
 use Rattle.rfb_session.specs.declared.share.waiting.Waiting.TheVariants.{Answers, Update}
 

@@ -7,17 +7,17 @@ use Rattle.rfb_wire.specs.stream.End.{FedBy}
 use Rattle.rfb_hello.specs.Version.{version_text}
 use Rattle.rfb_server.specs.declared.fault.ServerFault.{ServerFault}
 use Rattle.rfb_server.specs.declared.session.Session.{Session}
-use Rattle.rfb_server.specs.Failing.{EndsAs}
-use Rattle.rfb_server.specs.Following.{Follows, IsTold}
+use Rattle.rfb_server.specs.Failed.{EndsAs}
+use Rattle.rfb_server.specs.KnownScreen.{Follows, IsTold}
 use Rattle.rfb_server.specs.Hints.{hints_in}
 use Rattle.rfb_server.specs.Room.{update_room}
 use Rattle.rfb_server.specs.Server.{Serving, server, first_server}
 use Rattle.rfb_server.specs.declared.drawing.notice.Notice.{Notice}
-use Rattle.rfb_server.specs.Drawing.{hint_told, with_hint_of}
-use Rattle.rfb_server.specs.Standing.{SessionStandsFor, session_fault, session_serving}
-use Rattle.rfb_server.specs.Standing.{KeepsSession, with_screen}
+use Rattle.rfb_server.specs.Strokes.{hint_told, with_hint_of}
+use Rattle.rfb_server.specs.Model.{SessionStandsFor, session_fault, session_serving}
+use Rattle.rfb_server.specs.Model.{KeepsSession, with_screen}
 use Rattle.rfb_server.specs.Told.{ServerTold}
-use Rattle.rfb_server.specs.Updating.{SendsUpdate, OwesUpdate, OwesNone}
+use Rattle.rfb_server.specs.UpdateCall.{SendsUpdate, OwesUpdate, OwesNone}
 use Rattle.rfb_session.specs.declared.share.event.Composing.{Composing}
 use Rattle.rfb_session.specs.declared.share.event.Composing.TheVariants.{Composed, NotDue}
 use Rattle.rfb_session.specs.declared.share.event.Composing.TheVariants.{Waiting as Waits}

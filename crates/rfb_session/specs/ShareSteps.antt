@@ -4,7 +4,7 @@ use Rattle.std.specs.Prelude.{◌≡◌, ℕ, ◌<◌, Bool, true, false, ◌&&�
 use Rattle.std.specs.Prelude.{Option, Some, None}
 use Rattle.rfb_picture.specs.Places.{has_bit}
 use Rattle.rfb_server.specs.declared.fault.ServerFault.{ServerFault}
-use Rattle.rfb_server.specs.Drawing.{Stroke, drawn_by, notice_of}
+use Rattle.rfb_server.specs.Strokes.{Stroke, drawn_by, notice_of}
 use Rattle.rfb_server.specs.Told.{ServerTold, Reply, Ready, Key, Pointer, CutText}
 use Rattle.rfb_session.specs.declared.share.Share.{Share}
 use Rattle.rfb_session.specs.declared.share.event.Composing.{Composing}

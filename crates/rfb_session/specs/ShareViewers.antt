@@ -12,14 +12,14 @@ use Rattle.rfb_viewer.specs.declared.viewer.Viewer.{Viewer}
 use Rattle.rfb_viewer.specs.Viewer.{ViewerState}
 use Rattle.rfb_viewer.specs.Calls.{call_refusal, request_refusal, format_refusal}
 use Rattle.rfb_viewer.specs.Calls.{requested, formatted}
-use Rattle.rfb_viewer.specs.Standing.{StandsFor as ViewerStandsFor}
+use Rattle.rfb_viewer.specs.Model.{StandsFor as ViewerStandsFor}
 use Rattle.rfb_session.specs.declared.event.Event.{Event}
 use Rattle.rfb_session.specs.declared.event.Event.TheVariants.{SetEncodings, Key, Pointer, CutText}
 use Rattle.rfb_session.specs.declared.share.Share.{Share}
 use Rattle.rfb_session.specs.declared.share.seat.ShareSeat.{ShareSeat}
-use Rattle.rfb_session.specs.Carrying.{Carries}
+use Rattle.rfb_session.specs.TwoEnds.{Carries}
 use Rattle.rfb_session.specs.Link.{Ends, first_link}
-use Rattle.rfb_session.specs.LinkStanding.{ServesOver}
+use Rattle.rfb_session.specs.LinkModel.{ServesOver}
 use Rattle.rfb_session.specs.Network.{Network, Goes, IsReached}
 use Rattle.rfb_session.specs.Share.{seat_in, screen_of}
 use Rattle.rfb_session.specs.ShareSeats.{session_at, waiting_in}

@@ -3,7 +3,7 @@ use Rattle.std.specs.Prelude.{◌≡◌, ℕ, false, List, [], Option, Some, Non
 use Rattle.rfb_pixel.specs.declared.colour.Colour.{Colour}
 use Rattle.rfb_picture.specs.Grid.{Grid}
 use Rattle.rfb_picture.specs.Places.{has_bit}
-use Rattle.rfb_server.specs.Updating.{NoneDue}
+use Rattle.rfb_server.specs.UpdateCall.{NoneDue}
 use Rattle.rfb_session.specs.declared.share.seat.ShareSeat.{ShareSeat}
 use Rattle.rfb_session.specs.ShareSeats.{session_at, waiting_in}
 use Rattle.rfb_session.specs.Slots.{seat_at}

@@ -3,8 +3,8 @@ use Rattle.std.specs.Prelude.{◌≡◌, ℕ, min, Bool, true, false, length, Op
 use Rattle.std.specs.Prelude.{Result, Ok, Err}
 use Rattle.rfb_picture.specs.Grid.{Holds}
 use Rattle.rfb_server.specs.declared.fault.Outside.{Outside as OutsideFault}
-use Rattle.rfb_server.specs.Composing.{IsDue}
-use Rattle.rfb_server.specs.Standing.{row_from, HoldsBoth}
+use Rattle.rfb_server.specs.Composition.{IsDue}
+use Rattle.rfb_server.specs.Model.{row_from, HoldsBoth}
 use Rattle.rfb_viewer.specs.declared.fault.CallFault.{CallFault}
 use Rattle.rfb_viewer.specs.declared.fault.CallFault.TheVariants.{NotReady as CallNotReady}
 use Rattle.rfb_viewer.specs.declared.fault.CallFault.TheVariants.{Busy as CallBusy}

@@ -5,12 +5,12 @@ use Rattle.std.specs.Io.KnownBytes.{Appends, Consumes, Keeps, IsAtEnd}
 use Rattle.rfb_pixel.specs.declared.colour.Colour.{Colour}
 use Rattle.rfb_picture.specs.Grid.{Grid}
 use Rattle.rfb_server.specs.declared.server.Server.{Server}
-use Rattle.rfb_server.specs.Standing.{Draws, screen_of}
-use Rattle.rfb_server.specs.Updating.{Updates, StaysUnsent}
+use Rattle.rfb_server.specs.Model.{Draws, screen_of}
+use Rattle.rfb_server.specs.UpdateCall.{Updates, StaysUnsent}
 use Rattle.rfb_session.specs.declared.engine.fault.EngineFault.{EngineFault}
 use Rattle.rfb_session.specs.declared.engine.fault.EngineFault.TheVariants.{Truncated, Device}
 use Rattle.rfb_session.specs.Devices.{AppendsBeginning}
-use Rattle.rfb_session.specs.Playing.{most}
+use Rattle.rfb_session.specs.Playback.{most}
 use Rattle.rfb_session.specs.ServeEngine.{Hears, IsGreeting, StopsHearing, StopsUpdating}
 use Rattle.rfb_session.specs.Wire.{Writing, by_bytes}
 

@@ -10,11 +10,11 @@ use Rattle.rfb_viewer.specs.declared.viewer.Viewer.{Viewer}
 use Rattle.rfb_viewer.specs.ServerBytes.{FromServer, server_bytes, is_between}
 use Rattle.rfb_viewer.specs.Told.{ViewerTold}
 use Rattle.rfb_viewer.specs.Viewer.{Viewing, ViewerState, viewer}
-use Rattle.rfb_viewer.specs.Standing.{StandsFor, fault_of}
+use Rattle.rfb_viewer.specs.Model.{StandsFor, fault_of}
 use Rattle.rfb_session.specs.declared.engine.fault.EngineFault.{EngineFault}
 use Rattle.rfb_session.specs.declared.engine.fault.EngineFault.TheVariants.{Viewer as ViewerEnded, Truncated}
-use Rattle.rfb_session.specs.Watching.{ends_told}
-use Rattle.rfb_session.specs.Playing.{most}
+use Rattle.rfb_session.specs.ViewerActs.{ends_told}
+use Rattle.rfb_session.specs.Playback.{most}
 
 -- how many updates end with events
 abbrev pub updates_told : List ViewerTold → ℕ

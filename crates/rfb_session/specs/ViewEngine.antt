@@ -7,13 +7,13 @@ use Rattle.rfb_viewer.specs.declared.fault.ViewerFault.{ViewerFault}
 use Rattle.rfb_viewer.specs.declared.viewer.Viewer.{Viewer}
 use Rattle.rfb_viewer.specs.Told.{ViewerTold, Reply, Ready, UpdateDone, Bell, CutText, ColourMapSkipped}
 use Rattle.rfb_viewer.specs.Viewer.{Viewing, ViewerState}
-use Rattle.rfb_viewer.specs.Standing.{StandsFor}
+use Rattle.rfb_viewer.specs.Model.{StandsFor}
 use Rattle.rfb_session.specs.declared.engine.fault.EngineFault.{EngineFault}
 use Rattle.rfb_session.specs.declared.engine.fault.EngineFault.TheVariants.{Server, Viewer as ViewerEnded, Truncated}
 use Rattle.rfb_session.specs.declared.engine.fault.EngineFault.TheVariants.{Device, NoMemory}
 use Rattle.rfb_session.specs.Devices.{AppendsBeginning}
 use Rattle.rfb_session.specs.EngineRun.{Step, Fed, Did, Ran}
-use Rattle.rfb_session.specs.Watching.{ViewerAct, Asked, PassedOver, viewer_driven, EndsBy}
+use Rattle.rfb_session.specs.ViewerActs.{ViewerAct, Asked, PassedOver, viewer_driven, EndsBy}
 use Rattle.rfb_session.specs.Wire.{Writing, by_bytes}
 
 -- ---- requests in turn

@@ -4,7 +4,7 @@ use Rattle.std.specs.Prelude.{◌≡◌, ℕ, ◌<◌, ◌≤◌, ◌+◌, ◌-�
 use Rattle.rfb_viewer.specs.declared.viewer.Viewer.{Viewer}
 use Rattle.rfb_session.specs.declared.engine.fault.EngineFault.{EngineFault}
 use Rattle.rfb_session.specs.declared.engine.fault.EngineFault.TheVariants.{Truncated, Device}
-use Rattle.rfb_session.specs.Looking.{HasLooked, StopsLooking}
+use Rattle.rfb_session.specs.EngineRead.{HasLooked, StopsLooking}
 use Rattle.rfb_session.specs.Wire.{Came, Ended, Missed, Known, Stepping, by_steps}
 
 module _ {W : Type 0} where

@@ -9,10 +9,10 @@ use Rattle.rfb_viewer.specs.Told.{ViewerTold, Reply, Ready, UpdateDone, Bell, Cu
 use Rattle.rfb_session.specs.declared.engine.fault.EngineFault.{EngineFault}
 use Rattle.rfb_session.specs.declared.engine.fault.EngineFault.TheVariants.{Server, Viewer as ViewerEnded}
 use Rattle.rfb_session.specs.declared.engine.fault.EngineFault.TheVariants.{Truncated, Device, NoMemory}
-use Rattle.rfb_session.specs.Watching.{WasFed, EndsBy, ends_told}
-use Rattle.rfb_session.specs.Playing.{most}
-use Rattle.rfb_session.specs.PlayingSome.{AreFewer}
-use Rattle.rfb_session.specs.Looking.{AsksForScreen}
+use Rattle.rfb_session.specs.ViewerActs.{WasFed, EndsBy, ends_told}
+use Rattle.rfb_session.specs.Playback.{most}
+use Rattle.rfb_session.specs.FirstUpdates.{AreFewer}
+use Rattle.rfb_session.specs.EngineRead.{AsksForScreen}
 
 -- what a watcher hears: the handshake is done, of a screen of that size, with as much of its name as
 -- is kept; or an update has ended, and the viewer stands like that

@@ -6,15 +6,15 @@ use Rattle.rfb_server.specs.declared.fault.ServerFault.{ServerFault}
 use Rattle.rfb_server.specs.declared.server.Server.{Server}
 use Rattle.rfb_server.specs.declared.hint.Hint.{Hint as ServerHint}
 use Rattle.rfb_server.specs.Hints.{hints_in as hints_of_session, with_hint}
-use Rattle.rfb_server.specs.Drawing.{Stroke, IsInside, drawn_by, hint_of, with_hint_of}
+use Rattle.rfb_server.specs.Strokes.{Stroke, IsInside, drawn_by, hint_of, with_hint_of}
 use Rattle.rfb_server.specs.Server.{first_server}
-use Rattle.rfb_server.specs.Composing.{IsDue}
-use Rattle.rfb_server.specs.Standing.{StandsFor as ServerStandsFor, with_screen, row_from}
-use Rattle.rfb_server.specs.Standing.{HoldsBoth, KeepsSession}
+use Rattle.rfb_server.specs.Composition.{IsDue}
+use Rattle.rfb_server.specs.Model.{StandsFor as ServerStandsFor, with_screen, row_from}
+use Rattle.rfb_server.specs.Model.{HoldsBoth, KeepsSession}
 use Rattle.rfb_viewer.specs.declared.fault.ViewerFault.{ViewerFault}
 use Rattle.rfb_viewer.specs.declared.viewer.Viewer.{Viewer}
 use Rattle.rfb_viewer.specs.Viewer.{first_viewer}
-use Rattle.rfb_viewer.specs.Standing.{StandsFor as ViewerStandsFor}
+use Rattle.rfb_viewer.specs.Model.{StandsFor as ViewerStandsFor}
 use Rattle.rfb_session.specs.declared.event.Event.{Event}
 use Rattle.rfb_session.specs.declared.event.Event.TheVariants.{Fill, Put, Copy, Hint, CutText}
 use Rattle.rfb_session.specs.declared.event.Event.TheVariants.{Compose}
@@ -22,8 +22,8 @@ use Rattle.rfb_session.specs.declared.told.Refused.{Refused}
 use Rattle.rfb_session.specs.declared.told.Told.{Told}
 use Rattle.rfb_session.specs.declared.world.World.{World}
 use Rattle.rfb_session.specs.Link.{Ends, server_of, first_link}
-use Rattle.rfb_session.specs.LinkStanding.{LinkStandsFor, server_fault_of, viewer_fault_of}
-use Rattle.rfb_session.specs.LinkStanding.{shown_on, LosesOn, IsLostOn, ChangesSession}
+use Rattle.rfb_session.specs.LinkModel.{LinkStandsFor, server_fault_of, viewer_fault_of}
+use Rattle.rfb_session.specs.LinkModel.{shown_on, LosesOn, IsLostOn, ChangesSession}
 use Rattle.rfb_session.specs.LinkBytes.{ActsOnBytes, ComposesOver}
 use Rattle.rfb_session.specs.InFlight.{AreMade}
 use Rattle.rfb_session.specs.Network.{Network, Steps, StepsAll, Strokes, IsReached}

@@ -1,5 +1,5 @@
 pub mod Desk
-pub mod Telling
+pub mod SeatLines
 pub mod Time
 pub mod Viewers
 pub mod Turns

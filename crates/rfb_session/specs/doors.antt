@@ -1,9 +1,9 @@
 -- A loop that moves bytes between numbered doors and a core.
 pub mod Events
 pub mod Devices
-pub mod Waiting
+pub mod Wants
 pub mod Turns
-pub mod Counting
+pub mod CountedDuplex
 pub mod Places
 pub mod Lives
 pub mod Tenants

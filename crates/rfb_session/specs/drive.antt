@@ -1,7 +1,7 @@
 pub mod Characters
 pub mod KeyNames
 pub mod Keys
-pub mod Typing
+pub mod Keyboard
 pub mod Near
 pub mod Compare
 pub mod Keywords

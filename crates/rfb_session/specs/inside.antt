@@ -1,4 +1,4 @@
 -- Words of private contracts. No public clause reads them, so a reader can skip them.
 pub mod Room
-pub mod Delivering
-pub mod Happening
+pub mod LinkDelivery
+pub mod WorldStep

@@ -1,4 +1,4 @@
 pub mod Lines
 pub mod Reader
-pub mod Drawing
-pub mod Telling
+pub mod OwnerStroke
+pub mod ShareLines

@@ -1,4 +1,4 @@
-pub mod Telling
+pub mod ServerLines
 pub mod Presence
 pub mod Setup
 pub mod Desk

@@ -3,8 +3,8 @@
 ghost use Rattle.std.specs.Prelude.{◌≡◌, ◌≢◌, ◌≤◌, ℕ, List, [], length, All, None, Some};
 ghost use Rattle.std.specs.Prelude.{true, false, IfOk, OnOk, OnErr, IsOk, IsErr, option_copied};
 ghost use Rattle.std.specs.Option.{ForSome};
-ghost use Rattle.rfb_server.specs.Following.{Follows};
-ghost use Rattle.rfb_session.specs.LinkStanding.{session_of_link};
+ghost use Rattle.rfb_server.specs.KnownScreen.{Follows};
+ghost use Rattle.rfb_session.specs.LinkModel.{session_of_link};
 
 pub(crate) mod drawing;
 pub(crate) mod event;
@@ -57,7 +57,7 @@ impl Hub {
     ghost use Rattle.rfb_pixel.specs.declared.colour.Colour.{Colour};
     ghost use Rattle.rfb_picture.specs.Grid.{Grid, uniform};
     ghost use Rattle.rfb_server.specs.Server.{black};
-    ghost use Rattle.rfb_server.specs.Standing.{serving_with};
+    ghost use Rattle.rfb_server.specs.Model.{serving_with};
     ghost use Rattle.rfb_session.specs.declared.hub.seat.HubSeat.{HubSeat};
     ghost use Rattle.rfb_session.specs.Headline.{due_picture};
     ghost use Rattle.rfb_session.specs.Hub.{IsEmptyHub, serving_in, seat_in, is_shut};

@@ -2,7 +2,7 @@
 
 ghost use Rattle.std.specs.Prelude.{◌≡◌, ◌++◌, ℕ, List, [], length, None, IfOk, OnOk, OnErr};
 ghost use Rattle.std.specs.Prelude.{option_copied};
-ghost use Rattle.rfb_server.specs.Standing.{notes_in};
+ghost use Rattle.rfb_server.specs.Model.{notes_in};
 ghost use Rattle.rfb_session.specs.inside.Room.{HasRoom};
 
 mod calling;
@@ -36,16 +36,16 @@ pub struct Link {
 impl Link {
     ghost use Rattle.rfb_pixel.specs.declared.colour.Colour.{Colour};
     ghost use Rattle.rfb_picture.specs.Grid.{Grid, Holds};
-    ghost use Rattle.rfb_server.specs.Standing.{KeepsSession};
-    ghost use Rattle.rfb_server.specs.Following.{Follows, IsTold};
+    ghost use Rattle.rfb_server.specs.Model.{KeepsSession};
+    ghost use Rattle.rfb_server.specs.KnownScreen.{Follows, IsTold};
     ghost use Rattle.rfb_server.specs.Hints.{hints_in};
-    ghost use Rattle.rfb_server.specs.Drawing.{area_told, hint_told, with_hint_of};
+    ghost use Rattle.rfb_server.specs.Strokes.{area_told, hint_told, with_hint_of};
     ghost use Rattle.rfb_session.specs.Link.{Ends, LinkState, first_link};
     ghost use Rattle.rfb_session.specs.Headline.{due_picture};
-    ghost use Rattle.rfb_session.specs.LinkStanding.{LinkStandsFor, AreNew, shown_on};
-    ghost use Rattle.rfb_session.specs.LinkStanding.{session_of_link, ChangesSession};
-    ghost use Rattle.rfb_session.specs.LinkStanding.{to_server_on, to_viewer_on};
-    ghost use Rattle.rfb_session.specs.LinkStanding.{IsBesideToServer, server_fault_of, number_of};
+    ghost use Rattle.rfb_session.specs.LinkModel.{LinkStandsFor, AreNew, shown_on};
+    ghost use Rattle.rfb_session.specs.LinkModel.{session_of_link, ChangesSession};
+    ghost use Rattle.rfb_session.specs.LinkModel.{to_server_on, to_viewer_on};
+    ghost use Rattle.rfb_session.specs.LinkModel.{IsBesideToServer, server_fault_of, number_of};
 
     /// A link of two fresh ends: nothing was fed to them. The session's greeting is in flight, RFC
     /// 6143 section 7.1.1. It asks for the memory of a picture and two areas of the session's size;
@@ -130,7 +130,7 @@ ghost use Rattle.rfb_hello.specs.Version.{version_text};
 ghost use Rattle.rfb_pixel.specs.declared.colour.Colour.{Colour};
 ghost use Rattle.rfb_picture.specs.Grid.{Grid};
 ghost use Rattle.rfb_server.specs.Server.{Serving, ServerState};
-ghost use Rattle.rfb_server.specs.Standing.{SessionStandsFor};
+ghost use Rattle.rfb_server.specs.Model.{SessionStandsFor};
 ghost use Rattle.rfb_session.specs.Latest.{composing_in};
 
 // What a link begins with beside its ends: no composing yet, and the session's greeting in flight.

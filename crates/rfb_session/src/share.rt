@@ -3,7 +3,7 @@
 
 ghost use Rattle.std.specs.Prelude.{◌≡◌, ◌≤◌, length, All, IfOk, Some};
 ghost use Rattle.std.specs.Option.{ForSome};
-ghost use Rattle.rfb_server.specs.Following.{Follows};
+ghost use Rattle.rfb_server.specs.KnownScreen.{Follows};
 ghost use Rattle.rfb_session.specs.ShareScreen.{shown_on};
 ghost use Rattle.rfb_session.specs.ShareSeats.{session_at};
 ghost use Rattle.rfb_session.specs.ShareWork.{OthersRest};
@@ -60,7 +60,7 @@ pub struct Share {
 impl Share {
     ghost use Rattle.rfb_picture.specs.Grid.{uniform};
     ghost use Rattle.rfb_server.specs.Server.{black};
-    ghost use Rattle.rfb_server.specs.Standing.{serving_with};
+    ghost use Rattle.rfb_server.specs.Model.{serving_with};
     ghost use Rattle.rfb_session.specs.Share.{IsEmptyShare, serving_in, screen_of};
     ghost use Rattle.rfb_session.specs.Share.{canvas_of, fault_in};
 

@@ -5,7 +5,7 @@ ghost use Rattle.std.specs.Prelude.{false, IfSome, option_copied};
 ghost use Rattle.std.specs.Option.{ForSome};
 ghost use Rattle.rfb_picture.specs.declared.rect.Rect.{Rect};
 ghost use Rattle.rfb_picture.specs.Places.{has_bit};
-ghost use Rattle.rfb_server.specs.Drawing.{area_told};
+ghost use Rattle.rfb_server.specs.Strokes.{area_told};
 ghost use Rattle.rfb_server.specs.declared.drawing.notice.Notice.{Notice};
 ghost use Rattle.rfb_session.specs.Slots.{seat_at, is_taken, OnSlot};
 

@@ -2,8 +2,8 @@
 
 ghost use Rattle.std.specs.Prelude.{◌≡◌, ◌≢◌, ℕ, List, [], All, None, option_copied};
 ghost use Rattle.std.specs.Prelude.{true, false, IfOk, OnOk, OnErr, IsOk, IsErr};
-ghost use Rattle.rfb_server.specs.Following.{Follows};
-ghost use Rattle.rfb_session.specs.LinkStanding.{session_of_link};
+ghost use Rattle.rfb_server.specs.KnownScreen.{Follows};
+ghost use Rattle.rfb_session.specs.LinkModel.{session_of_link};
 
 mod drawing;
 mod making;
@@ -39,7 +39,7 @@ impl World {
     ghost use Rattle.rfb_session.specs.Told.{TellsAlone};
     ghost use Rattle.rfb_session.specs.World.{Does, Acts, LosesAs, HintsAs};
     ghost use Rattle.rfb_session.specs.World.{HasFewBytes, IsDrawing};
-    ghost use Rattle.rfb_session.specs.inside.Happening.{Happens, TakesNoMemory};
+    ghost use Rattle.rfb_session.specs.inside.WorldStep.{Happens, TakesNoMemory};
     ghost use Rattle.rfb_session.specs.World.{IsRefused, IsLost, ComposesNothing};
     ghost use Rattle.rfb_session.specs.World.{Reaches, NeitherFailed};
     ghost use Rattle.rfb_session.specs.Headline.{IsHeadline, ShowsKnown, ShowsLatest, due_picture};

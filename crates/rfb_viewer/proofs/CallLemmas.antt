@@ -12,7 +12,7 @@ use Rattle.rfb_codec.specs.UpdateStream.{UpdatePoint}
 use Rattle.rfb_codec.specs.Front.{Front, NoSource, TheSource, SomePixels, NoHead, SomeParts, SomeTiles, SomeOfRaw}
 use Rattle.rfb_codec.specs.Front.{shown}
 use Rattle.rfb_codec.proofs.FrontPendingLaws.{stands_shows}
-use Rattle.rfb_hello.specs.ViewerStanding.{StandsFor as HelloStandsFor, is_open}
+use Rattle.rfb_hello.specs.ViewerModel.{StandsFor as HelloStandsFor, is_open}
 use Rattle.rfb_hello.specs.declared.viewer_hello.ViewerHello.{ViewerHello}
 use Rattle.rfb_viewer.specs.declared.fault.CallFault.TheVariants.{AreaOutside}
 use Rattle.rfb_viewer.specs.declared.viewer.Viewer.{Viewer}
@@ -23,10 +23,10 @@ use Rattle.rfb_viewer.specs.declared.viewer.progress.Request.{Request}
 use Rattle.rfb_viewer.specs.declared.viewer.progress.Request.TheVariants.{Outstanding}
 use Rattle.rfb_viewer.specs.ServerBytes.{ServerAt}
 use Rattle.rfb_viewer.specs.Calls.{refusal_if, is_requestable, request_refused, request_refusal, requested}
-use Rattle.rfb_viewer.specs.Refusing.{is_ready, is_shown}
+use Rattle.rfb_viewer.specs.Refusals.{is_ready, is_shown}
 use Rattle.rfb_viewer.specs.Viewer.{Viewing, ViewerState}
 use Rattle.rfb_viewer.specs.Progress.{ProgressStandsFor, IsReadyAt, IsPainting, Stores}
-use Rattle.rfb_viewer.specs.Standing.{StandsFor, is_outstanding}
+use Rattle.rfb_viewer.specs.Model.{StandsFor, is_outstanding}
 use Rattle.rfb_viewer.proofs.StepLemmas.{IsMade, made_stands, ready_same}
 
 -- ---- the screen that an area is judged by

@@ -2,24 +2,24 @@
 use Rattle.std.proofs.Common.{◌≡◌, ℕ, List, Option, Some, None, Result, Ok, Err, take, sym, subst, ◌∙◌, ap}
 use Rattle.std.specs.Prelude.{IfOk, IfErr}
 use Rattle.rfb_wire.specs.stream.End.{FedBy}
-use Rattle.rfb_wire.specs.stream.Placing.{counted_on}
+use Rattle.rfb_wire.specs.stream.FaultPlace.{counted_on}
 use Rattle.rfb_hello.specs.declared.fed.Fed.{Fed}
 use Rattle.rfb_hello.specs.declared.viewer_hello.ViewerHello.{ViewerHello}
 use Rattle.rfb_hello.specs.declared.viewer_hello.progress.Cause.TheVariants.{Refused as RefusedCause}
 use Rattle.rfb_hello.specs.declared.viewer_hello.progress.Cause.TheVariants.{SecurityFailed as FailedCause}
-use Rattle.rfb_hello.specs.Offering.{offered_of as offered_in}
-use Rattle.rfb_hello.specs.ViewerStanding.{reason_of as reason_in}
+use Rattle.rfb_hello.specs.Offer.{offered_of as offered_in}
+use Rattle.rfb_hello.specs.ViewerModel.{reason_of as reason_in}
 use Rattle.rfb_viewer.specs.declared.event.ViewerEvent.{ViewerEvent}
 use Rattle.rfb_viewer.specs.declared.fault.ViewerFault.{ViewerFault}
 use Rattle.rfb_viewer.specs.declared.fault.ViewerFault.TheVariants.{Refused, SecurityFailed, NoneNotOffered}
 use Rattle.rfb_viewer.specs.declared.fault.ViewerFault.TheVariants.{BadSecurityWord}
 use Rattle.rfb_viewer.specs.declared.viewer.Viewer.{Viewer}
 use Rattle.rfb_viewer.specs.Counted.{IsPlacedAt, CountsTo}
-use Rattle.rfb_viewer.specs.Failing.{LeadsTo, LeadsToReason, KeepsReason}
-use Rattle.rfb_viewer.specs.Offering.{LeadsToOffer, KeepsOffer, IsOfferOn, TakesOffer}
+use Rattle.rfb_viewer.specs.Failed.{LeadsTo, LeadsToReason, KeepsReason}
+use Rattle.rfb_viewer.specs.Offer.{LeadsToOffer, KeepsOffer, IsOfferOn, TakesOffer}
 use Rattle.rfb_viewer.specs.Damage.{ended_of, damaging, IsDamaged}
 use Rattle.rfb_viewer.specs.Moved.{moved_of, moving, HasMoved}
-use Rattle.rfb_viewer.specs.Standing.{StandsFor, fault_of, offered_of, taken_of}
+use Rattle.rfb_viewer.specs.Model.{StandsFor, fault_of, offered_of, taken_of}
 use Rattle.rfb_viewer.specs.Told.{ViewerTold, Reply, seen}
 use Rattle.rfb_viewer.specs.Viewer.{Viewing, viewer}
 use Rattle.rfb_viewer.proofs.CallLemmas.{same_stands}

@@ -16,12 +16,12 @@ use Rattle.rfb_viewer.specs.declared.viewer.Viewer.{Viewer}
 use Rattle.rfb_viewer.specs.declared.viewer.damage.Edges.{Edges}
 use Rattle.rfb_viewer.specs.Damage.{joined_if, rect_of_damage, holds, colour_at, under_way, ended_of, damage_of, begun}
 use Rattle.rfb_viewer.specs.Damage.{damage_after, damaging, IsDamaged, IsSameOutside, KeepsDamage}
-use Rattle.rfb_viewer.specs.inside.Damaging.{screen_made, ended_with, Damages, KeepsOutside, EndsIn}
-use Rattle.rfb_viewer.specs.Failing.{ShowsLast, EndsAt}
+use Rattle.rfb_viewer.specs.inside.ItemDamage.{screen_made, ended_with, Damages, KeepsOutside, EndsIn}
+use Rattle.rfb_viewer.specs.Failed.{ShowsLast, EndsAt}
 use Rattle.rfb_viewer.specs.Fault.{fault_of_update}
 use Rattle.rfb_viewer.specs.ServerBytes.{ServerAt, FromServer, server_bytes}
-use Rattle.rfb_viewer.specs.Showing.{ShowsAt}
-use Rattle.rfb_viewer.specs.Standing.{StandsFor, fault_of, picture_of}
+use Rattle.rfb_viewer.specs.ShownPieces.{ShowsAt}
+use Rattle.rfb_viewer.specs.Model.{StandsFor, fault_of, picture_of}
 use Rattle.rfb_viewer.specs.Told.{ViewerTold}
 use Rattle.rfb_viewer.specs.Viewer.{Viewing, ViewerState, viewer, shows, picture_after, AsksAt}
 use Rattle.rfb_viewer.proofs.ViewerLaws.{server_bytes_laws}

@@ -16,7 +16,7 @@ use Rattle.rfb_viewer.specs.declared.viewer.Viewer.{Viewer}
 use Rattle.rfb_viewer.specs.declared.viewer.progress.Progress.{Progress}
 use Rattle.rfb_viewer.specs.declared.viewer.progress.Progress.TheVariants.{RectHead}
 use Rattle.rfb_viewer.specs.Damage.{joined, under_way, ended_of, head_rect}
-use Rattle.rfb_viewer.specs.inside.Damaging.{ended_with, begun_on, DamagesAt, Damages}
+use Rattle.rfb_viewer.specs.inside.ItemDamage.{ended_with, begun_on, DamagesAt, Damages}
 use Rattle.rfb_viewer.specs.inside.Sound.{is_sound}
 use Rattle.rfb_viewer.specs.inside.Steps.{progress_past}
 use Rattle.rfb_viewer.proofs.DamageLemmas.{head_short}

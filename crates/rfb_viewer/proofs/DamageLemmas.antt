@@ -29,7 +29,7 @@ use Rattle.rfb_viewer.specs.declared.viewer.progress.Progress.TheVariants.{CutTe
 use Rattle.rfb_viewer.specs.declared.fault.ViewerFault.{ViewerFault}
 use Rattle.rfb_viewer.specs.Damage.{edges_of, rect_between, outermost, joined, joined_if, rect_of_damage, holds}
 use Rattle.rfb_viewer.specs.Damage.{under_way, head_rect, begun_next, begun, item_damage}
-use Rattle.rfb_viewer.specs.inside.Damaging.{ended_with}
+use Rattle.rfb_viewer.specs.inside.ItemDamage.{ended_with}
 use Rattle.rfb_viewer.specs.ServerBytes.{ServerAt}
 use Rattle.rfb_viewer.specs.Viewer.{Viewing}
 use Rattle.rfb_viewer.specs.Progress.{ProgressStandsFor, fault_in}

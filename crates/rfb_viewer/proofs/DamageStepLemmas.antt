@@ -17,7 +17,7 @@ use Rattle.rfb_hello.specs.declared.fault.HelloFault.{HelloFault}
 use Rattle.rfb_hello.specs.ServerHandshake.{ServerPoint, AwaitsVersion, AwaitsSecurity, AwaitsResult, AwaitsInit}
 use Rattle.rfb_hello.specs.ServerHandshake.{AwaitsName, Begun, ServerItem, ProtocolVersion, SecurityNone, SecurityTypes}
 use Rattle.rfb_hello.specs.ServerHandshake.{SecurityResult, ServerInit, Name, SpellsServerItem}
-use Rattle.rfb_hello.specs.ServerReading.{server_handshake}
+use Rattle.rfb_hello.specs.ServerItems.{server_handshake}
 use Rattle.rfb_hello.proofs.ServerStreamLaws.{server_handshake_spelled}
 use Rattle.rfb_viewer.specs.declared.fault.ViewerFault.{ViewerFault}
 use Rattle.rfb_viewer.specs.declared.fault.ViewerFault.TheVariants.{NoMemory}
@@ -28,12 +28,12 @@ use Rattle.rfb_viewer.specs.declared.viewer.progress.Progress.TheVariants.{Hands
 use Rattle.rfb_viewer.specs.declared.viewer.progress.Progress.TheVariants.{CutText, Failed}
 use Rattle.rfb_viewer.specs.Damage.{joined_if, rect_of_damage, holds, colour_at, under_way, ended_of, head_rect}
 use Rattle.rfb_viewer.specs.Damage.{begun_next, begun, step_damage, item_damage, damage_after}
-use Rattle.rfb_viewer.specs.inside.Damaging.{screen_made, ended_with, begun_on, DamagesAt}
+use Rattle.rfb_viewer.specs.inside.ItemDamage.{screen_made, ended_with, begun_on, DamagesAt}
 use Rattle.rfb_viewer.specs.Fault.{fault_of_hello, fault_of_update}
 use Rattle.rfb_viewer.specs.Progress.{ProgressStandsFor, IsScreenAt, IsReadyAt, Stores}
 use Rattle.rfb_viewer.specs.ServerBytes.{ServerAt, FromServer, server_bytes}
-use Rattle.rfb_viewer.specs.Showing.{ShowsAt, ShowsPieces}
-use Rattle.rfb_viewer.specs.Standing.{StandsFor}
+use Rattle.rfb_viewer.specs.ShownPieces.{ShowsAt, ShowsPieces}
+use Rattle.rfb_viewer.specs.Model.{StandsFor}
 use Rattle.rfb_viewer.specs.Viewer.{Viewing, ViewerState, black, screen_after, effect_on, picture_after}
 use Rattle.rfb_viewer.proofs.DamageLemmas.{joined_holds, some_begun, head_begun, item_begun, same_rect}
 use Rattle.rfb_viewer.proofs.LendLemmas.{shows_at}

@@ -24,15 +24,15 @@ use Rattle.rfb_hello.specs.declared.viewer_hello.progress.Progress.TheVariants.{
 use Rattle.rfb_hello.specs.declared.viewer_hello.progress.Progress.TheVariants.{Types, Result as ResultPart}
 use Rattle.rfb_hello.specs.declared.viewer_hello.progress.Progress.TheVariants.{ReasonLength, Reason, Init, Name, Done}
 use Rattle.rfb_hello.specs.declared.viewer_hello.progress.Progress.TheVariants.{Failed as FailedPart}
-use Rattle.rfb_hello.specs.ServerReading.{server_handshake}
+use Rattle.rfb_hello.specs.ServerItems.{server_handshake}
 use Rattle.rfb_hello.specs.ViewerEnd.{ViewerSetup, viewer_end, AsksMemory as HelloAsks, viewer_tells as handshake_tells}
 use Rattle.rfb_hello.specs.declared.offered.Offered.{Offered}
-use Rattle.rfb_hello.specs.Offering.{offered_of as offered_in, IsOfferedAt as IsOfferedIn, IsOfferOn as IsOfferIn}
-use Rattle.rfb_hello.specs.Offering.{LeadsToOffer as HelloOffers, KeepsOffer as HelloKeepsOffer}
-use Rattle.rfb_hello.specs.Offering.{TakesOffer as HelloTakesOffer}
-use Rattle.rfb_hello.specs.ViewerStanding.{StandsFor as HelloStandsFor, IsReasonKept, KeepsReason as HelloKeeps}
-use Rattle.rfb_hello.specs.ViewerStanding.{LeadsToReason as HelloLeads, reason_of as reason_in, is_open}
-use Rattle.rfb_hello.specs.ViewerStanding.{fault_of as hello_fault}
+use Rattle.rfb_hello.specs.Offer.{offered_of as offered_in, IsOfferedAt as IsOfferedIn, IsOfferOn as IsOfferIn}
+use Rattle.rfb_hello.specs.Offer.{LeadsToOffer as HelloOffers, KeepsOffer as HelloKeepsOffer}
+use Rattle.rfb_hello.specs.Offer.{TakesOffer as HelloTakesOffer}
+use Rattle.rfb_hello.specs.ViewerModel.{StandsFor as HelloStandsFor, IsReasonKept, KeepsReason as HelloKeeps}
+use Rattle.rfb_hello.specs.ViewerModel.{LeadsToReason as HelloLeads, reason_of as reason_in, is_open}
+use Rattle.rfb_hello.specs.ViewerModel.{fault_of as hello_fault}
 use Rattle.rfb_hello.specs.ViewerProgress.{is_open as goes_on, fault_in as hello_fault_in}
 use Rattle.rfb_viewer.specs.declared.fault.ViewerFault.TheVariants.{NoMemory}
 use Rattle.rfb_viewer.specs.declared.viewer.Viewer.{Viewer}
@@ -40,11 +40,11 @@ use Rattle.rfb_viewer.specs.declared.viewer.progress.Progress.TheVariants.{Hands
 use Rattle.rfb_viewer.specs.Fault.{fault_of_hello}
 use Rattle.rfb_viewer.specs.ServerBytes.{ServerAt, server_bytes}
 use Rattle.rfb_viewer.specs.Viewer.{Viewing, ViewerState, AsksMemory}
-use Rattle.rfb_viewer.specs.inside.Damaging.{EndsHere}
+use Rattle.rfb_viewer.specs.inside.ItemDamage.{EndsHere}
 use Rattle.rfb_viewer.specs.Progress.{IsScreenAt}
-use Rattle.rfb_viewer.specs.Standing.{StandsFor, offered_of}
-use Rattle.rfb_viewer.specs.Offering.{LeadsToOffer, IsOfferedAt, KeepsOffer, IsOfferOn}
-use Rattle.rfb_viewer.specs.Failing.{LeadsTo, LeadsToReason, IsReasonAt, KeepsNone, KeepsReason, ShowsLast}
+use Rattle.rfb_viewer.specs.Model.{StandsFor, offered_of}
+use Rattle.rfb_viewer.specs.Offer.{LeadsToOffer, IsOfferedAt, KeepsOffer, IsOfferOn}
+use Rattle.rfb_viewer.specs.Failed.{LeadsTo, LeadsToReason, IsReasonAt, KeepsNone, KeepsReason, ShowsLast}
 use Rattle.rfb_viewer.proofs.MessageLemmas.{here}
 use Rattle.rfb_viewer.proofs.GreetLemmas.{at_hello, none_quiet}
 use Rattle.rfb_viewer.proofs.GreetRefusalLemmas.{greet_bad, greet_starves, screen_asks}

@@ -28,7 +28,7 @@ use Rattle.rfb_hello.specs.declared.viewer_hello.progress.Cause.TheVariants.{Ref
 use Rattle.rfb_hello.specs.declared.viewer_hello.progress.Cause.TheVariants.{SecurityFailed as FailedCause}
 use Rattle.rfb_hello.specs.KeptText.{KeptText}
 use Rattle.rfb_hello.specs.declared.offered.Offered.{Offered}
-use Rattle.rfb_hello.specs.ViewerStanding.{reason_of as reason_in}
+use Rattle.rfb_hello.specs.ViewerModel.{reason_of as reason_in}
 use Rattle.rfb_viewer.specs.declared.fault.ViewerFault.{ViewerFault}
 use Rattle.rfb_viewer.specs.declared.fault.ViewerFault.TheVariants.{NoMemory, Refused, SecurityFailed}
 use Rattle.rfb_viewer.specs.declared.fault.ViewerFault.TheVariants.{NoneNotOffered as NoneAmongTypes}
@@ -38,13 +38,13 @@ use Rattle.rfb_viewer.specs.declared.viewer.progress.Progress.TheVariants.{Head,
 use Rattle.rfb_viewer.specs.Fault.{fault_of_wire, fault_of_paint}
 use Rattle.rfb_viewer.specs.ServerBytes.{ServerAt, FromServer}
 use Rattle.rfb_viewer.specs.Viewer.{Viewing, ViewerState, viewer, AsksMemory}
-use Rattle.rfb_viewer.specs.inside.Damaging.{EndsHere, EndsIn}
+use Rattle.rfb_viewer.specs.inside.ItemDamage.{EndsHere, EndsIn}
 use Rattle.rfb_viewer.specs.inside.Steps.{AsksAfter}
 use Rattle.rfb_viewer.specs.Progress.{IsHeadBegun}
-use Rattle.rfb_viewer.specs.Standing.{StandsFor, offered_of, picture_of}
+use Rattle.rfb_viewer.specs.Model.{StandsFor, offered_of, picture_of}
 use Rattle.rfb_viewer.specs.Told.{ViewerTold, Reply as Answer}
-use Rattle.rfb_viewer.specs.Offering.{LeadsToOffer, IsOfferedAt, KeepsOffer, IsOfferOn, TakesOffer}
-use Rattle.rfb_viewer.specs.Failing.{LeadsToReason, IsReasonAt, KeepsNone, KeepsReason, ShowsLast, EndsAt, KeepsPicture}
+use Rattle.rfb_viewer.specs.Offer.{LeadsToOffer, IsOfferedAt, KeepsOffer, IsOfferOn, TakesOffer}
+use Rattle.rfb_viewer.specs.Failed.{LeadsToReason, IsReasonAt, KeepsNone, KeepsReason, ShowsLast, EndsAt, KeepsPicture}
 use Rattle.rfb_viewer.proofs.ViewerLaws.{viewer_machine}
 use Rattle.rfb_viewer.proofs.MessageLemmas.{here, at_head, head_asks}
 use Rattle.rfb_viewer.proofs.RectLemmas.{IsOpened, opened_at, at_rect_head, at_data, painted_now, joined}

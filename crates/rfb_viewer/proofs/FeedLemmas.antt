@@ -12,7 +12,7 @@ use Rattle.rfb_codec.specs.UpdateStream.{UpdateItem, UpdateFault, UpdatePoint, u
 use Rattle.rfb_codec.proofs.UpdateWaitLaws.{message_waits, rect_short}
 use Rattle.rfb_hello.specs.declared.fault.HelloFault.{HelloFault}
 use Rattle.rfb_hello.specs.ServerHandshake.{ServerItem}
-use Rattle.rfb_hello.specs.ServerReading.{server_handshake}
+use Rattle.rfb_hello.specs.ServerItems.{server_handshake}
 use Rattle.rfb_hello.proofs.ViewerHelloLaws.{viewer_starts}
 use Rattle.rfb_viewer.specs.declared.fault.ViewerFault.{ViewerFault}
 use Rattle.rfb_viewer.specs.declared.viewer.Viewer.{Viewer}
@@ -23,7 +23,7 @@ use Rattle.rfb_viewer.specs.Fault.{fault_of_hello, fault_of_update}
 use Rattle.rfb_viewer.specs.ServerBytes.{ServerAt, server_bytes}
 use Rattle.rfb_viewer.specs.Viewer.{Viewing, ViewerState, viewer}
 use Rattle.rfb_viewer.specs.Progress.{ProgressStandsFor, fault_in}
-use Rattle.rfb_viewer.specs.Standing.{StandsFor}
+use Rattle.rfb_viewer.specs.Model.{StandsFor}
 use Rattle.rfb_viewer.proofs.HeadLemmas.{begun_waits}
 use Rattle.rfb_viewer.proofs.GreetLemmas.{none_taken}
 

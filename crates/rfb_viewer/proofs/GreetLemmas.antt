@@ -30,10 +30,10 @@ use Rattle.rfb_hello.specs.KeptText.{KeptText, no_text}
 use Rattle.rfb_hello.specs.ServerHandshake.{ServerPoint, AwaitsVersion, AwaitsSecurity, AwaitsResult, AwaitsInit}
 use Rattle.rfb_hello.specs.ServerHandshake.{AwaitsName, Begun, ServerItem, ProtocolVersion, SecurityNone, SecurityTypes}
 use Rattle.rfb_hello.specs.ServerHandshake.{SecurityResult, ServerInit, Name, SpellsServerItem, past_server_item}
-use Rattle.rfb_hello.specs.ServerReading.{server_handshake}
+use Rattle.rfb_hello.specs.ServerItems.{server_handshake}
 use Rattle.rfb_hello.specs.ViewerEnd.{ViewerSetup, viewer_tells as handshake_tells, viewer_end}
 use Rattle.rfb_hello.specs.ViewerProgress.{ProgressStandsFor as HelloProgressStandsFor, reason_in}
-use Rattle.rfb_hello.specs.ViewerStanding.{StandsFor as HelloStandsFor, setup_of, is_open, reason_of}
+use Rattle.rfb_hello.specs.ViewerModel.{StandsFor as HelloStandsFor, setup_of, is_open, reason_of}
 use Rattle.rfb_hello.proofs.ServerStreamLaws.{server_handshake_spelled}
 use Rattle.rfb_hello.proofs.ToldOfLaws.{screen_at, viewer_ready_at}
 use Rattle.rfb_viewer.specs.declared.fault.ViewerFault.{ViewerFault}
@@ -47,7 +47,7 @@ use Rattle.rfb_viewer.specs.Told.{ViewerTold, Reply as ReplyTold, Ready as Ready
 use Rattle.rfb_viewer.specs.Viewer.{Viewing, ViewerState, viewer, shows, told_at, picture_after, screen_after}
 use Rattle.rfb_viewer.specs.Viewer.{ends_update, black}
 use Rattle.rfb_viewer.specs.Progress.{ProgressStandsFor, Stores, IsScreenAt}
-use Rattle.rfb_viewer.specs.Standing.{StandsFor, is_outstanding}
+use Rattle.rfb_viewer.specs.Model.{StandsFor, is_outstanding}
 use Rattle.rfb_viewer.specs.inside.Steps.{at_message, screen_or}
 use Rattle.rfb_viewer.proofs.MessageLemmas.{here}
 

@@ -20,9 +20,9 @@ use Rattle.rfb_hello.specs.declared.viewer_hello.ViewerHello.{ViewerHello}
 use Rattle.rfb_hello.specs.KeptText.{KeptText}
 use Rattle.rfb_hello.specs.ServerHandshake.{ServerPoint, AwaitsVersion, AwaitsSecurity, AwaitsResult, AwaitsInit}
 use Rattle.rfb_hello.specs.ServerHandshake.{AwaitsName, Begun, ServerItem, ServerInit, SpellsServerItem}
-use Rattle.rfb_hello.specs.ServerReading.{server_handshake}
+use Rattle.rfb_hello.specs.ServerItems.{server_handshake}
 use Rattle.rfb_hello.specs.ViewerEnd.{ViewerSetup, viewer_tells as handshake_tells, viewer_end, AsksMemory as HelloAsks}
-use Rattle.rfb_hello.specs.ViewerStanding.{StandsFor as HelloStandsFor, is_open}
+use Rattle.rfb_hello.specs.ViewerModel.{StandsFor as HelloStandsFor, is_open}
 use Rattle.rfb_hello.proofs.ServerStreamLaws.{server_handshake_spelled}
 use Rattle.rfb_hello.proofs.ToldOfLaws.{screen_at, viewer_ready_at}
 use Rattle.rfb_viewer.specs.declared.fault.ViewerFault.TheVariants.{NoMemory}
@@ -34,7 +34,7 @@ use Rattle.rfb_viewer.specs.Fault.{fault_of_hello}
 use Rattle.rfb_viewer.specs.ServerBytes.{ServerAt, server_bytes}
 use Rattle.rfb_viewer.specs.Viewer.{Viewing, viewer, black, AsksInHandshake, AsksAt, AsksMemory}
 use Rattle.rfb_viewer.specs.Progress.{IsScreenAt}
-use Rattle.rfb_viewer.specs.Standing.{StandsFor}
+use Rattle.rfb_viewer.specs.Model.{StandsFor}
 use Rattle.rfb_viewer.proofs.MessageLemmas.{here}
 use Rattle.rfb_viewer.proofs.GreetLemmas.{some_taken, none_quiet, at_hello}
 

@@ -21,7 +21,7 @@ use Rattle.rfb_codec.proofs.FrontPendingLaws.{kept_is_pending, stands_shows}
 use Rattle.rfb_hello.specs.KeptText.{KeptText, no_text}
 use Rattle.rfb_hello.specs.Pending.{server_handshake_pending}
 use Rattle.rfb_hello.specs.ServerHandshake.{ServerPoint}
-use Rattle.rfb_hello.specs.ViewerStanding.{StandsFor as HelloStandsFor, reason_of as hello_reason}
+use Rattle.rfb_hello.specs.ViewerModel.{StandsFor as HelloStandsFor, reason_of as hello_reason}
 use Rattle.rfb_hello.specs.ViewerProgress.{ProgressStandsFor as HelloProgressStandsFor, reason_in}
 use Rattle.rfb_hello.specs.declared.viewer_hello.progress.Progress.{Progress as HelloProgress}
 use Rattle.rfb_hello.specs.declared.viewer_hello.progress.Progress.TheVariants.{Version as VersionPart, Word, Count}
@@ -35,7 +35,7 @@ use Rattle.rfb_viewer.specs.declared.viewer.progress.Progress.TheVariants.{CutTe
 use Rattle.rfb_viewer.specs.ServerBytes.{ServerAt, is_between, server_bytes_pending}
 use Rattle.rfb_viewer.specs.inside.Sound.{is_idle}
 use Rattle.rfb_viewer.specs.Viewer.{Viewing}
-use Rattle.rfb_viewer.specs.Showing.{ShowsPieces, ShowsAt}
+use Rattle.rfb_viewer.specs.ShownPieces.{ShowsPieces, ShowsAt}
 use Rattle.rfb_viewer.specs.Progress.{ProgressStandsFor, IsHeadBegun, IsPainting, fault_in}
 
 -- ---- what is shown

@@ -18,7 +18,7 @@ use Rattle.rfb_viewer.specs.declared.viewer.Viewer.{Viewer}
 use Rattle.rfb_viewer.specs.declared.viewer.progress.Progress.TheVariants.{Colours, CutText}
 use Rattle.rfb_viewer.specs.Told.{ColourMapSkipped, CutText as CutTextTold}
 use Rattle.rfb_viewer.specs.Viewer.{Viewing, viewer}
-use Rattle.rfb_viewer.specs.Standing.{StandsFor}
+use Rattle.rfb_viewer.specs.Model.{StandsFor}
 use Rattle.rfb_viewer.specs.inside.Steps.{at_message}
 use Rattle.rfb_viewer.proofs.StepLemmas.{IsMade, more_step, got_step}
 use Rattle.rfb_viewer.proofs.MessageLemmas.{here, at_colours, at_text, part_stands, next_stands, got_whole}

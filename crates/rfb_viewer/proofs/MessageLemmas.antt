@@ -33,7 +33,7 @@ use Rattle.rfb_viewer.specs.ServerBytes.{ServerAt}
 use Rattle.rfb_viewer.specs.Told.{ViewerTold, ColourMapSkipped, CutText as CutTextTold, is_last, item_told}
 use Rattle.rfb_viewer.specs.Viewer.{Viewing, ViewerState, viewer, shows, AsksAt, AsksMemory}
 use Rattle.rfb_viewer.specs.Progress.{ProgressStandsFor, IsReadyAt, Stores, IsHeadBegun, AreColoursBegun, IsTextBegun}
-use Rattle.rfb_viewer.specs.Standing.{StandsFor, is_outstanding}
+use Rattle.rfb_viewer.specs.Model.{StandsFor, is_outstanding}
 use Rattle.rfb_viewer.specs.inside.Steps.{at_message, progress_past, told_past, request_past, progress_after}
 use Rattle.rfb_viewer.specs.inside.Steps.{told_after, request_after, AsksAfter}
 use Rattle.rfb_viewer.proofs.StepLemmas.{IsMade, made_stands, ready_same, more_step, got_step, bad_step, past_stands}

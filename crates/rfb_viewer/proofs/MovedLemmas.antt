@@ -22,7 +22,7 @@ use Rattle.rfb_codec.specs.UpdateStream.{update_stream}
 use Rattle.rfb_codec.proofs.UpdateStreamLaws.{update_spelled}
 use Rattle.rfb_hello.specs.declared.fault.HelloFault.{HelloFault}
 use Rattle.rfb_hello.specs.ServerHandshake.{ServerPoint, ServerItem}
-use Rattle.rfb_hello.specs.ServerReading.{server_handshake}
+use Rattle.rfb_hello.specs.ServerItems.{server_handshake}
 use Rattle.rfb_viewer.specs.declared.fault.ViewerFault.{ViewerFault}
 use Rattle.rfb_viewer.specs.declared.viewer.Viewer.{Viewer}
 use Rattle.rfb_viewer.specs.declared.viewer.moved.Move.{Move}
@@ -30,17 +30,17 @@ use Rattle.rfb_viewer.specs.declared.viewer.progress.Progress.{Progress}
 use Rattle.rfb_viewer.specs.declared.viewer.progress.Progress.TheVariants.{Handshake, Head, RectHead, Data, Colours}
 use Rattle.rfb_viewer.specs.declared.viewer.progress.Progress.TheVariants.{CutText, Failed}
 use Rattle.rfb_viewer.specs.Damage.{under_way}
-use Rattle.rfb_viewer.specs.Failing.{EndsAt}
+use Rattle.rfb_viewer.specs.Failed.{EndsAt}
 use Rattle.rfb_viewer.specs.Fault.{fault_of_hello, fault_of_update}
 use Rattle.rfb_viewer.specs.Moved.{moved_of, moved_if, item_moves, moving, HasMoved, KeepsMoved}
 use Rattle.rfb_viewer.specs.Progress.{ProgressStandsFor}
 use Rattle.rfb_viewer.specs.ServerBytes.{ServerAt, FromServer, server_bytes}
-use Rattle.rfb_viewer.specs.Standing.{StandsFor, picture_of, fault_of, making_of, offered_of, taken_of}
+use Rattle.rfb_viewer.specs.Model.{StandsFor, picture_of, fault_of, making_of, offered_of, taken_of}
 use Rattle.rfb_viewer.specs.Told.{ViewerTold}
 use Rattle.rfb_viewer.specs.Viewer.{Viewing, ViewerState, viewer, shows}
-use Rattle.rfb_viewer.specs.inside.Moving.{moves_by, MovesTo, Moves}
-use Rattle.rfb_viewer.specs.inside.Damaging.{Damages, EndsIn}
-use Rattle.rfb_viewer.specs.inside.Taking.{Takes}
+use Rattle.rfb_viewer.specs.inside.ItemMoves.{moves_by, MovesTo, Moves}
+use Rattle.rfb_viewer.specs.inside.ItemDamage.{Damages, EndsIn}
+use Rattle.rfb_viewer.specs.inside.StepPromises.{Takes}
 use Rattle.rfb_viewer.proofs.DamageLemmas.{fresh_begun, under_begun}
 use Rattle.rfb_viewer.proofs.FeedLemmas.{stands_waits}
 use Rattle.rfb_viewer.proofs.MessageLemmas.{here}

@@ -23,7 +23,7 @@ use Rattle.rfb_codec.proofs.UpdateWaitLaws.{rect_short, body_waits, body_bad}
 use Rattle.rfb_hello.specs.declared.fed.Fed.{Fed}
 use Rattle.rfb_hello.specs.declared.viewer_hello.progress.Cause.TheVariants.{Refused as RefusedCause}
 use Rattle.rfb_hello.specs.declared.viewer_hello.progress.Cause.TheVariants.{SecurityFailed as FailedCause}
-use Rattle.rfb_hello.specs.ViewerStanding.{reason_of as reason_in}
+use Rattle.rfb_hello.specs.ViewerModel.{reason_of as reason_in}
 use Rattle.rfb_viewer.specs.declared.event.ViewerEvent.{ViewerEvent}
 use Rattle.rfb_viewer.specs.declared.fault.ViewerFault.{ViewerFault}
 use Rattle.rfb_viewer.specs.declared.fault.ViewerFault.TheVariants.{NoMemory, Refused, SecurityFailed}
@@ -33,17 +33,17 @@ use Rattle.rfb_viewer.specs.declared.viewer.progress.Failure.{Failure}
 use Rattle.rfb_viewer.specs.declared.viewer.progress.Progress.{Progress}
 use Rattle.rfb_viewer.specs.declared.viewer.progress.Progress.TheVariants.{Handshake, RectHead, Data}
 use Rattle.rfb_viewer.specs.Counted.{IsPlacedAt}
-use Rattle.rfb_viewer.specs.Failing.{LeadsTo, IsReasonAt, KeepsReason}
+use Rattle.rfb_viewer.specs.Failed.{LeadsTo, IsReasonAt, KeepsReason}
 use Rattle.rfb_viewer.specs.Fault.{fault_of_paint}
-use Rattle.rfb_viewer.specs.Offering.{IsOfferedAt, KeepsOffer, IsOfferOn, TakesOffer}
+use Rattle.rfb_viewer.specs.Offer.{IsOfferedAt, KeepsOffer, IsOfferOn, TakesOffer}
 use Rattle.rfb_viewer.specs.ServerBytes.{ServerAt, server_bytes}
-use Rattle.rfb_viewer.specs.Standing.{StandsFor, offered_of}
+use Rattle.rfb_viewer.specs.Model.{StandsFor, offered_of}
 use Rattle.rfb_viewer.specs.Told.{ViewerTold, Reply, seen}
 use Rattle.rfb_viewer.specs.Viewer.{Viewing, ViewerState, viewer, AsksMemory}
-use Rattle.rfb_viewer.specs.inside.Damaging.{Damages, DamagesAt, EndsIn}
-use Rattle.rfb_viewer.specs.inside.Feeding.{StepsOn, RefusesBy, StarvesBy}
-use Rattle.rfb_viewer.specs.inside.Moving.{Moves}
-use Rattle.rfb_viewer.specs.inside.Taking.{Steps}
+use Rattle.rfb_viewer.specs.inside.ItemDamage.{Damages, DamagesAt, EndsIn}
+use Rattle.rfb_viewer.specs.inside.FedBytes.{StepsOn, RefusesBy, StarvesBy}
+use Rattle.rfb_viewer.specs.inside.ItemMoves.{Moves}
+use Rattle.rfb_viewer.specs.inside.StepPromises.{Steps}
 use Rattle.rfb_viewer.proofs.FailLemmas.{paint_other}
 use Rattle.rfb_viewer.proofs.FeedLemmas.{stands_waits, second_waits}
 use Rattle.rfb_viewer.proofs.MessageLemmas.{here}

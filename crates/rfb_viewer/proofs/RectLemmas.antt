@@ -29,7 +29,7 @@ use Rattle.rfb_viewer.specs.declared.fault.ViewerFault.{ViewerFault}
 use Rattle.rfb_viewer.specs.Told.{ViewerTold}
 use Rattle.rfb_viewer.specs.Viewer.{Viewing, ViewerState, viewer, shows}
 use Rattle.rfb_viewer.specs.Progress.{fault_in, ProgressStandsFor, IsReadyAt, Stores, IsPainting}
-use Rattle.rfb_viewer.specs.Standing.{StandsFor}
+use Rattle.rfb_viewer.specs.Model.{StandsFor}
 use Rattle.rfb_viewer.specs.inside.Steps.{progress_past, told_past, request_past}
 use Rattle.rfb_viewer.proofs.StepLemmas.{IsMade, made_stands, ready_same, more_step, got_step, bad_step, past_stands}
 use Rattle.rfb_viewer.proofs.StepLemmas.{past_progress, past_request, past_told, one_left}

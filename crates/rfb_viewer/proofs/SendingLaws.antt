@@ -4,7 +4,7 @@ use Rattle.std.proofs.lemmas.List.{length-map}
 use Rattle.std.specs.List.{flat_map}
 use Rattle.byteorder.specs.Numbers.{big_number-reads_back}
 use Rattle.rfb_pixel.specs.Format.{PixelFormat, IsFormat}
-use Rattle.rfb_pixel.specs.Reading.{format_bytes}
+use Rattle.rfb_pixel.specs.FormatBytes.{format_bytes}
 use Rattle.rfb_pixel.proofs.ReadingLaws.{spells_written, spells-accepted}
 use Rattle.rfb_wire.specs.declared.encoding.Encoding.{Encoding}
 use Rattle.rfb_wire.specs.declared.encoding.Encoding.TheVariants.{Raw, CopyRect, Rre, Hextile}

@@ -10,7 +10,7 @@ use Rattle.rfb_wire.specs.stream.Sequel.{Second, past_in}
 use Rattle.rfb_wire.specs.stream.End.{Steps, StepsBy}
 use Rattle.rfb_codec.specs.Effect.{effect}
 use Rattle.rfb_codec.specs.UpdateStream.{UpdatePoint, UpdateItem, UpdateFault, update_stream}
-use Rattle.rfb_hello.specs.ViewerStanding.{setup_of, is_open, reason_of}
+use Rattle.rfb_hello.specs.ViewerModel.{setup_of, is_open, reason_of}
 use Rattle.rfb_viewer.specs.declared.fault.ViewerFault.{ViewerFault}
 use Rattle.rfb_viewer.specs.declared.viewer.Viewer.{Viewer}
 use Rattle.rfb_viewer.specs.declared.viewer.progress.Progress.{Progress}
@@ -20,7 +20,7 @@ use Rattle.rfb_viewer.specs.ServerBytes.{ServerAt, FromServer, server_two, serve
 use Rattle.rfb_viewer.specs.Told.{ViewerTold, is_last, item_told, done_told}
 use Rattle.rfb_viewer.specs.Viewer.{Viewing, ViewerState, viewer, shows, told_at, picture_after, effect_on, ends_update}
 use Rattle.rfb_viewer.specs.Progress.{ProgressStandsFor, IsReadyAt}
-use Rattle.rfb_viewer.specs.Standing.{StandsFor, is_outstanding}
+use Rattle.rfb_viewer.specs.Model.{StandsFor, is_outstanding}
 use Rattle.rfb_viewer.specs.inside.Steps.{progress_past, told_past, request_past}
 
 -- ---- a viewer that is made of another

@@ -20,15 +20,15 @@ use Rattle.rfb_viewer.specs.declared.viewer.progress.Progress.{Progress}
 use Rattle.rfb_viewer.specs.declared.viewer.progress.Progress.TheVariants.{Handshake, RectHead, Data, Failed}
 use Rattle.rfb_viewer.specs.Damage.{joined, under_way, ended_of}
 use Rattle.rfb_viewer.specs.Counted.{IsPlacedAt}
-use Rattle.rfb_viewer.specs.Failing.{KeepsNone}
+use Rattle.rfb_viewer.specs.Failed.{KeepsNone}
 use Rattle.rfb_viewer.specs.Fault.{fault_of_wire, fault_of_paint}
 use Rattle.rfb_viewer.specs.Moved.{moved_of}
 use Rattle.rfb_viewer.specs.Progress.{fault_in}
-use Rattle.rfb_viewer.specs.Standing.{Making, making_of, offered_of, taken_of}
-use Rattle.rfb_viewer.specs.inside.Damaging.{screen_made, ended_with, begun_on, Damages, DamagesAt, EndsIn}
-use Rattle.rfb_viewer.specs.Offering.{TakesOffer}
+use Rattle.rfb_viewer.specs.Model.{Making, making_of, offered_of, taken_of}
+use Rattle.rfb_viewer.specs.inside.ItemDamage.{screen_made, ended_with, begun_on, Damages, DamagesAt, EndsIn}
+use Rattle.rfb_viewer.specs.Offer.{TakesOffer}
 use Rattle.rfb_viewer.specs.inside.Steps.{progress_after, told_after, told_past}
-use Rattle.rfb_viewer.specs.inside.Taking.{Fails}
+use Rattle.rfb_viewer.specs.inside.StepPromises.{Fails}
 use Rattle.rfb_viewer.proofs.DamageStepLemmas.{made_same}
 use Rattle.rfb_viewer.proofs.FailLemmas.{wire_keeps, wire_offers, paint_keeps, paint_offers}
 use Rattle.rfb_viewer.proofs.RectLemmas.{past_going}

@@ -19,7 +19,7 @@ use Rattle.rfb_viewer.specs.declared.viewer.progress.Progress.TheVariants.{CutTe
 use Rattle.rfb_viewer.specs.ServerBytes.{ServerAt, server_two, server_bytes, server_bytes_say}
 use Rattle.rfb_viewer.specs.Viewer.{Viewing, ViewerState, viewer}
 use Rattle.rfb_viewer.specs.Progress.{ProgressStandsFor, fault_in}
-use Rattle.rfb_viewer.specs.Standing.{StandsFor, fault_of}
+use Rattle.rfb_viewer.specs.Model.{StandsFor, fault_of}
 
 pub server_bytes_spelled : (form : PixelFormat) (setup : ViewerSetup) →
     IsSpelled (server_bytes form setup) (server_bytes_say form setup)

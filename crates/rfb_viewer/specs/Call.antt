@@ -15,7 +15,7 @@ use Rattle.rfb_viewer.specs.declared.viewer.Viewer.{Viewer}
 use Rattle.rfb_viewer.specs.Calls.{call_refusal, request_refusal, format_refusal, requested, formatted}
 use Rattle.rfb_viewer.specs.Messages.{format_message, encodings_message, request_message}
 use Rattle.rfb_viewer.specs.Messages.{key_message, pointer_message, text_message}
-use Rattle.rfb_viewer.specs.Refusing.{call_refused_by, request_refused_by, format_refused_by}
+use Rattle.rfb_viewer.specs.Refusals.{call_refused_by, request_refused_by, format_refused_by}
 use Rattle.rfb_viewer.specs.Viewer.{ViewerState}
 
 -- ---- messages

@@ -1,12 +1,12 @@
 -- How many bytes a viewer has used in all, and where a fault comes: with which byte. Bytes are counted
 -- from 1.
 use Rattle.std.specs.Prelude.{ℕ, ◌<◌, ◌≤◌, ◌≡◌, ◌≢◌, List, length}
-use Rattle.rfb_wire.specs.stream.Placing.{RefusedWith, RunsOutWith, counted_on}
+use Rattle.rfb_wire.specs.stream.FaultPlace.{RefusedWith, RunsOutWith, counted_on}
 use Rattle.rfb_viewer.specs.declared.fault.ViewerFault.{ViewerFault}
 use Rattle.rfb_viewer.specs.declared.fault.ViewerFault.TheVariants.{NoMemory}
 use Rattle.rfb_viewer.specs.declared.viewer.Viewer.{Viewer}
 use Rattle.rfb_viewer.specs.Viewer.{Viewing, viewer, AsksMemory}
-use Rattle.rfb_viewer.specs.Standing.{StandsFor, taken_of}
+use Rattle.rfb_viewer.specs.Model.{StandsFor, taken_of}
 
 -- the fault comes with byte n: the bytes up to it are refused, or lead to where memory is asked for,
 -- and those before it are taken, whatever the viewer stood for

@@ -23,8 +23,8 @@ use Rattle.rfb_viewer.specs.declared.viewer.progress.Progress.TheVariants.{Data,
 use Rattle.rfb_viewer.specs.ServerBytes.{ServerAt, FromServer, server_bytes}
 use Rattle.rfb_viewer.specs.Told.{ViewerTold}
 use Rattle.rfb_viewer.specs.Viewer.{Viewing, ViewerState, black, shows, viewer_tells}
-use Rattle.rfb_viewer.specs.Standing.{StandsFor, picture_of}
-use Rattle.rfb_viewer.specs.Failing.{EndsAt}
+use Rattle.rfb_viewer.specs.Model.{StandsFor, picture_of}
+use Rattle.rfb_viewer.specs.Failed.{EndsAt}
 
 -- ---- the least rectangle that holds others, by its edges
 

@@ -5,12 +5,12 @@ pub mod Told
 pub mod Viewer
 pub mod Calls
 pub mod Progress
-pub mod Standing
-pub mod Refusing
+pub mod Model
+pub mod Refusals
 pub mod Call
-pub mod Showing
-pub mod Failing
-pub mod Offering
+pub mod ShownPieces
+pub mod Failed
+pub mod Offer
 pub mod Damage
 pub mod Moved
 pub mod Counted

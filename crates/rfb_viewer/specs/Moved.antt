@@ -11,8 +11,8 @@ use Rattle.rfb_viewer.specs.declared.viewer.moved.Move.{Move}
 use Rattle.rfb_viewer.specs.ServerBytes.{ServerAt, FromServer, server_bytes}
 use Rattle.rfb_viewer.specs.Told.{ViewerTold}
 use Rattle.rfb_viewer.specs.Viewer.{Viewing, ViewerState, shows, viewer_tells}
-use Rattle.rfb_viewer.specs.Standing.{StandsFor, picture_of}
-use Rattle.rfb_viewer.specs.Failing.{EndsAt}
+use Rattle.rfb_viewer.specs.Model.{StandsFor, picture_of}
+use Rattle.rfb_viewer.specs.Failed.{EndsAt}
 
 -- ---- the last sixteen, the oldest first
 

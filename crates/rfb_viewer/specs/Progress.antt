@@ -12,7 +12,7 @@ use Rattle.rfb_codec.specs.UpdateStream.{UpdatePoint, update_stream}
 use Rattle.rfb_hello.specs.KeptText.{KeptText, no_text, kept_of}
 use Rattle.rfb_hello.specs.ServerHandshake.{ServerPoint, AwaitsVersion, AwaitsSecurity, AwaitsResult, AwaitsInit}
 use Rattle.rfb_hello.specs.ServerHandshake.{AwaitsName, Begun}
-use Rattle.rfb_hello.specs.ViewerStanding.{StandsFor as HelloStandsFor, is_open, reason_of}
+use Rattle.rfb_hello.specs.ViewerModel.{StandsFor as HelloStandsFor, is_open, reason_of}
 use Rattle.rfb_viewer.specs.declared.fault.ViewerFault.{ViewerFault}
 use Rattle.rfb_viewer.specs.declared.viewer.Viewer.{Viewer}
 use Rattle.rfb_viewer.specs.declared.viewer.progress.Progress.{Progress}

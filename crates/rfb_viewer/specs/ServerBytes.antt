@@ -11,7 +11,7 @@ use Rattle.rfb_codec.specs.Pending.{update_pending}
 use Rattle.rfb_hello.specs.declared.fault.HelloFault.{HelloFault}
 use Rattle.rfb_hello.specs.ServerHandshake.{ServerPoint, AwaitsInit, AwaitsName, ServerItem, ServerInit, Name}
 use Rattle.rfb_hello.specs.ServerHandshake.{server_item_says}
-use Rattle.rfb_hello.specs.ServerReading.{server_handshake}
+use Rattle.rfb_hello.specs.ServerItems.{server_handshake}
 use Rattle.rfb_hello.specs.Pending.{server_handshake_pending}
 use Rattle.rfb_hello.specs.ViewerEnd.{ViewerSetup}
 use Rattle.rfb_viewer.specs.declared.fault.ViewerFault.{ViewerFault}

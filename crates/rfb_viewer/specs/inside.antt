@@ -1,7 +1,7 @@
 -- Words of private contracts. No public clause reads them, so a reader can skip them.
-pub mod Damaging
-pub mod Feeding
-pub mod Moving
+pub mod ItemDamage
+pub mod FedBytes
+pub mod ItemMoves
 pub mod Sound
 pub mod Steps
-pub mod Taking
+pub mod StepPromises

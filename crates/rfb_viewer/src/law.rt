@@ -17,7 +17,7 @@ ghost use Rattle.rfb_viewer.specs.Viewer.{Viewing, ViewerState, viewer};
 ghost use Rattle.rfb_viewer.specs.declared.viewer.Viewer.{Viewer};
 ghost use Rattle.rfb_viewer.specs.Damage.{damaging, joined_all, rect_of_damage, holds, IsWithin};
 ghost use Rattle.rfb_viewer.specs.Moved.{moving};
-ghost use Rattle.rfb_viewer.specs.Standing.{StandsFor, fault_of};
+ghost use Rattle.rfb_viewer.specs.Model.{StandsFor, fault_of};
 ghost use Rattle.rfb_viewer.specs.Messages.{format_message, encodings_message};
 
 /// All that a server sends is read as RFC 6143 has it, its handshake and then its messages and

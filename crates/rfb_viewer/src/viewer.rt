@@ -51,18 +51,18 @@ impl Viewer {
     ghost use Rattle.rfb_viewer.specs.Told.{seen};
     ghost use Rattle.rfb_viewer.specs.Viewer.{Viewing, ViewerState, viewer, first_viewer};
     ghost use Rattle.rfb_viewer.specs.Viewer.{AsksMemory};
-    ghost use Rattle.rfb_viewer.specs.Standing.{StandsFor, viewing_with, fault_of, making_of};
-    ghost use Rattle.rfb_viewer.specs.Standing.{offered_of, picture_of, taken_of};
+    ghost use Rattle.rfb_viewer.specs.Model.{StandsFor, viewing_with, fault_of, making_of};
+    ghost use Rattle.rfb_viewer.specs.Model.{offered_of, picture_of, taken_of};
     ghost use Rattle.rfb_viewer.specs.Damage.{damage_of, ended_of, damaging, IsDamaged};
     ghost use Rattle.rfb_viewer.specs.Damage.{IsSameOutside, KeepsDamage};
     ghost use Rattle.rfb_viewer.specs.Moved.{moved_of, moving, HasMoved, KeepsMoved};
     ghost use Rattle.rfb_viewer.specs.inside.Sound.{IsElsewhere};
-    ghost use Rattle.rfb_viewer.specs.inside.Taking.{Steps};
-    ghost use Rattle.rfb_viewer.specs.Failing.{KeepsPicture, KeepsReason};
-    ghost use Rattle.rfb_viewer.specs.Offering.{KeepsOffer, TakesOffer};
+    ghost use Rattle.rfb_viewer.specs.inside.StepPromises.{Steps};
+    ghost use Rattle.rfb_viewer.specs.Failed.{KeepsPicture, KeepsReason};
+    ghost use Rattle.rfb_viewer.specs.Offer.{KeepsOffer, TakesOffer};
     ghost use Rattle.rfb_hello.specs.declared.offered.Offered.TheVariants.{Nothing};
     ghost use Rattle.rfb_viewer.specs.Counted.{IsPlacedAt, CountsTo};
-    ghost use Rattle.rfb_wire.specs.stream.Placing.{counted_on};
+    ghost use Rattle.rfb_wire.specs.stream.FaultPlace.{counted_on};
 
     /// A viewer that was fed nothing. It goes up to version `limit`, asks for the screen alone
     /// where it is not `shared`, admits a screen of `max_places` places, and keeps `text_limit`

@@ -8,7 +8,7 @@ use Rattle.rfb_pixel.specs.declared.fault.FormatFault.{FormatFault}
 use Rattle.rfb_pixel.specs.declared.fault.FormatFault.TheVariants.{BadBits, DepthTooLarge, NotTrueColour, BadMax}
 use Rattle.rfb_pixel.specs.Channel.{is_max, width_of}
 use Rattle.rfb_pixel.specs.Format.{PixelFormat}
-use Rattle.rfb_pixel.specs.Reading.{Spells, number_at, red_at, green_at, blue_at, first_fault, fault_of_fields}
+use Rattle.rfb_pixel.specs.FormatBytes.{Spells, number_at, red_at, green_at, blue_at, first_fault, fault_of_fields}
 use Rattle.rfb_pixel.proofs.ReadingLaws.{spells-same}
 use Rattle.rfb_wire.specs.declared.client_head.ClientHead.{ClientHead}
 use Rattle.rfb_wire.specs.declared.client_head.ClientHead.TheVariants.{SetPixelFormat as FormatHead}

@@ -3,7 +3,7 @@ use Rattle.std.specs.Prelude.{◌≡◌, ℕ, ℤ, ◌+◌, ◌*◌, Bool, List,
 use Rattle.rfb_picture.specs.declared.rect.Rect.{Rect}
 use Rattle.rfb_pixel.specs.declared.fault.FormatFault.{FormatFault}
 use Rattle.rfb_pixel.specs.Format.{PixelFormat}
-use Rattle.rfb_pixel.specs.Reading.{Spells, first_fault}
+use Rattle.rfb_pixel.specs.FormatBytes.{Spells, first_fault}
 use Rattle.rfb_wire.specs.Fields.{s32_at}
 use Rattle.rfb_wire.specs.stream.Heads.{BeginsNone}
 use Rattle.rfb_wire.specs.ClientHead.{SpellsClientHead, SpellsSetPixelFormat, SpellsSetEncodings, SpellsRequest}

@@ -6,7 +6,7 @@ pub mod Parts
 pub mod Heads
 pub mod Grammar
 pub mod End
-pub mod Placing
+pub mod FaultPlace
 pub mod Sequel
 pub mod Both
 pub mod Session

@@ -4,7 +4,7 @@ ghost use Rattle.std.specs.Prelude.{◌≡◌, ◌≢◌, ◌≤◌, ◌++◌, �
 ghost use Rattle.std.specs.Prelude.{IfOk, IfErr, OnOk, OnErr};
 ghost use Rattle.rfb_viewer.specs.Calls.{call_refusal};
 ghost use Rattle.rfb_viewer.specs.Messages.{text_message};
-ghost use Rattle.rfb_viewer.specs.Standing.{StandsFor, fault_of};
+ghost use Rattle.rfb_viewer.specs.Model.{StandsFor, fault_of};
 ghost use Rattle.rfb_viewer.specs.Viewer.{Viewing, ViewerState};
 ghost use Rattle.rfb_session.specs.declared.told.Refused.TheVariants.{NotReady};
 ghost use Rattle.rfb_session.specs.Told.{refused_as, refused_by};

@@ -4,7 +4,7 @@ ghost use Rattle.std.specs.Prelude.{◌≡◌, ◌≢◌, false, None, Some, IfO
 ghost use Rattle.rfb_hello.specs.declared.version.Version.TheVariants.{V38};
 ghost use Rattle.rfb_picture.specs.Grid.{uniform};
 ghost use Rattle.rfb_server.specs.Server.{black};
-ghost use Rattle.rfb_server.specs.Standing.{serving_with};
+ghost use Rattle.rfb_server.specs.Model.{serving_with};
 ghost use Rattle.rfb_session.specs.Hub.{HasFewHubBytes, HubStands, IsEmptyHub, seat_in, serving_in};
 ghost use Rattle.rfb_session.specs.HubSteps.{HubSteps};
 ghost use Rattle.rfb_session.specs.declared.hub.event.HubEvent.TheVariants as HubEvent;

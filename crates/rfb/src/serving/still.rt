@@ -2,7 +2,7 @@
 
 ghost use Rattle.std.specs.Prelude.{◌≡◌};
 ghost use Rattle.rfb_picture.specs.Grid.{with_rows};
-ghost use Rattle.rfb_server.specs.Standing.{AreOf, Draws, screen_of};
+ghost use Rattle.rfb_server.specs.Model.{AreOf, Draws, screen_of};
 ghost use Rattle.rfb_session.specs.netpbm.File.{picture_of};
 
 use rfb_picture::Rect;

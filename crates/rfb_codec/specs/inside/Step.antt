@@ -10,7 +10,7 @@ use Rattle.rfb_wire.specs.declared.encoding.Encoding.{Encoding}
 use Rattle.rfb_wire.specs.declared.encoding.Encoding.TheVariants.{Raw, CopyRect, Rre, Hextile}
 use Rattle.rfb_wire.specs.RectHead.{IsOnScreen}
 use Rattle.rfb_wire.specs.stream.Reading.{More}
-use Rattle.rfb_wire.specs.stream.Placing.{FaultsWith}
+use Rattle.rfb_wire.specs.stream.FaultPlace.{FaultsWith}
 use Rattle.rfb_codec.specs.declared.subrect.Subrect.{Subrect}
 use Rattle.rfb_codec.specs.declared.fault.PaintFault.{PaintFault}
 use Rattle.rfb_codec.specs.declared.fault.Flaw.{Flaw}

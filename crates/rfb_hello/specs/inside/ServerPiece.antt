@@ -6,7 +6,7 @@ use Rattle.rfb_hello.specs.declared.fault.HelloFault.{HelloFault}
 use Rattle.rfb_hello.specs.declared.server_hello.ServerHello.{ServerHello}
 use Rattle.rfb_hello.specs.declared.step.ServerStep.{ServerStep}
 use Rattle.rfb_hello.specs.ServerEnd.{ServerSetup, server_end}
-use Rattle.rfb_hello.specs.ServerStanding.{StandsFor}
+use Rattle.rfb_hello.specs.ServerModel.{StandsFor}
 use Rattle.rfb_hello.specs.declared.version.Version.{Version}
 use Rattle.rfb_hello.specs.declared.version.Version.TheVariants.{V33, V37, V38}
 use Rattle.rfb_hello.specs.declared.server_hello.progress.Progress.{Progress}

@@ -19,8 +19,8 @@ use Rattle.rfb_hello.specs.declared.viewer_hello.progress.Progress.TheVariants.{
 use Rattle.rfb_hello.specs.declared.viewer_hello.progress.Progress.TheVariants.{Failed}
 use Rattle.rfb_hello.specs.KeptText.{kept_of}
 use Rattle.rfb_hello.specs.ViewerEnd.{ViewerSetup, AsksMemory, viewer_end}
-use Rattle.rfb_hello.specs.Offering.{KeepsOffer, TakesOffer}
-use Rattle.rfb_hello.specs.ViewerStanding.{KeepsReason, StandsFor, fault_of, goes_on_after, is_open, setup_of}
+use Rattle.rfb_hello.specs.Offer.{KeepsOffer, TakesOffer}
+use Rattle.rfb_hello.specs.ViewerModel.{KeepsReason, StandsFor, fault_of, goes_on_after, is_open, setup_of}
 
 -- bytes of one item are a step of the machine, where memory is not wanting
 abbrev pub StepsAs : ViewerHello → List ℕ → Result (Option ViewerStep) HelloFault → ViewerHello →

@@ -5,11 +5,11 @@ ghost use Rattle.std.specs.Prelude.{◌≡◌, ◌≤◌, ◌<◌, ℕ, [], ◌�
 ghost use Rattle.std.specs.Prelude.{Some, None, Ok, Bool};
 ghost use Rattle.arrayvec.specs.ArrayVec.{ArrayVec as Items};
 ghost use Rattle.rfb_wire.specs.stream.End.{StepsBy};
-ghost use Rattle.rfb_hello.specs.Offering.{offered_of};
+ghost use Rattle.rfb_hello.specs.Offer.{offered_of};
 ghost use Rattle.rfb_hello.specs.TypesSoFar.{TypesSoFar};
 ghost use Rattle.rfb_hello.specs.Version.{lower};
 ghost use Rattle.rfb_hello.specs.ViewerEnd.{ViewerSetup, viewer_end, choice_bytes, shared_flag};
-ghost use Rattle.rfb_hello.specs.ViewerStanding.{StandsFor, is_open, setup_of};
+ghost use Rattle.rfb_hello.specs.ViewerModel.{StandsFor, is_open, setup_of};
 ghost use Rattle.rfb_hello.specs.inside.ViewerPiece.{TakesPiece};
 ghost use Rattle.rfb_hello.specs.inside.ViewerPiece.{progress_after_version, progress_after_types};
 ghost use Rattle.rfb_hello.specs.declared.viewer_hello.progress.Progress.{Progress};

@@ -4,9 +4,9 @@ ghost use Rattle.std.specs.Prelude.{◌≡◌, ◌≤◌, ◌<◌, ℕ, [], leng
 ghost use Rattle.std.specs.Prelude.{None};
 ghost use Rattle.arrayvec.specs.ArrayVec.{ArrayVec as Items};
 ghost use Rattle.rfb_hello.specs.KeptText.{KeptText, kept_of};
-ghost use Rattle.rfb_hello.specs.ServerReading.{screen_fault};
+ghost use Rattle.rfb_hello.specs.ServerItems.{screen_fault};
 ghost use Rattle.rfb_hello.specs.ViewerEnd.{told_of_init};
-ghost use Rattle.rfb_hello.specs.ViewerStanding.{goes_on_after};
+ghost use Rattle.rfb_hello.specs.ViewerModel.{goes_on_after};
 ghost use Rattle.rfb_hello.specs.inside.ViewerPiece.{TakesPiece};
 ghost use Rattle.rfb_hello.specs.ViewerProgress.{is_open as goes_on};
 ghost use Rattle.rfb_hello.specs.inside.ViewerPiece.{progress_after_init};

@@ -7,8 +7,8 @@ use Rattle.rfb_picture.specs.Places.{without}
 use Rattle.rfb_wire.specs.ServerHead.{SpellsUpdate}
 use Rattle.rfb_server.specs.declared.session.Session.{Session}
 use Rattle.rfb_server.specs.Progress.{is_ready}
-use Rattle.rfb_server.specs.Composing.{Part, Composes, IsDue}
-use Rattle.rfb_server.specs.Using.{AreUsed, usable}
+use Rattle.rfb_server.specs.Composition.{Part, Composes, IsDue}
+use Rattle.rfb_server.specs.UsedHints.{AreUsed, usable}
 use Rattle.rfb_server.specs.inside.Sessions.{IsSame}
 use Rattle.rfb_server.specs.inside.Sends.{state_of}
 

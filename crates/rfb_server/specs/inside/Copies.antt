@@ -18,9 +18,9 @@ use Rattle.rfb_server.specs.declared.hint.Hint.{Hint}
 use Rattle.rfb_server.specs.declared.session.Session.{Session}
 use Rattle.rfb_server.specs.Server.{ServerState}
 use Rattle.rfb_server.specs.Request.{wanted_at, recorded, is_asked, is_whole, differs}
-use Rattle.rfb_server.specs.Using.{move_of, AreUsed}
-use Rattle.rfb_server.specs.Composing.{Part, Move, sent_as, between, all_moved, IsGain, AllGain, AreCopies}
-use Rattle.rfb_server.specs.Composing.{HaveTheirData, IsPlace, is_in_some}
+use Rattle.rfb_server.specs.UsedHints.{move_of, AreUsed}
+use Rattle.rfb_server.specs.Composition.{Part, Move, sent_as, between, all_moved, IsGain, AllGain, AreCopies}
+use Rattle.rfb_server.specs.Composition.{HaveTheirData, IsPlace, is_in_some}
 use Rattle.rfb_server.specs.inside.Sends.{state_of}
 
 -- whether a place of a rectangle has the wanted pixel, if it takes over what is known of the place

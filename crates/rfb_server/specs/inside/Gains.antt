@@ -14,7 +14,7 @@ use Rattle.rfb_server.specs.declared.claim.Claim.{Claim}
 use Rattle.rfb_server.specs.declared.session.update.gains.Judged.{Judged}
 use Rattle.rfb_server.specs.Claims.{is_claimed}
 use Rattle.rfb_server.specs.Request.{wanted_at}
-use Rattle.rfb_server.specs.Composing.{count_in, count_row}
+use Rattle.rfb_server.specs.Composition.{count_in, count_row}
 use Rattle.rfb_server.specs.inside.Needs.{is_quiet}
 use Rattle.rfb_server.specs.inside.Copies.{is_right_from}
 

@@ -21,8 +21,8 @@ use Rattle.rfb_server.specs.inside.Needs.{HasBox, needs_of}
 use Rattle.rfb_server.specs.inside.Rectangle.{IsCoded}
 use Rattle.rfb_server.specs.Cells.{cell_of, IsCell}
 use Rattle.rfb_server.specs.Room.{sum_below}
-use Rattle.rfb_server.specs.Composing.{Part, sent_as, between, may_send, IsForPixels, is_in_some, IsPlace}
-use Rattle.rfb_server.specs.Composing.{HaveTheirData, AreBlocksOf, AreBoxes}
+use Rattle.rfb_server.specs.Composition.{Part, sent_as, between, may_send, IsForPixels, is_in_some, IsPlace}
+use Rattle.rfb_server.specs.Composition.{HaveTheirData, AreBlocksOf, AreBoxes}
 
 -- ---- one rectangle
 

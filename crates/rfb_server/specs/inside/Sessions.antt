@@ -9,10 +9,10 @@ use Rattle.rfb_wire.specs.declared.encoding.Encoding.{Encoding}
 use Rattle.rfb_codec.specs.Effect.{IsAlike}
 use Rattle.rfb_picture.specs.Box.{is_in}
 use Rattle.rfb_hello.specs.ServerEnd.{as_reply}
-use Rattle.rfb_hello.specs.ServerStanding.{setup_of, is_open}
+use Rattle.rfb_hello.specs.ServerModel.{setup_of, is_open}
 use Rattle.rfb_server.specs.Record.{forgotten}
 use Rattle.rfb_server.specs.Claims.{IsClaimed}
-use Rattle.rfb_server.specs.Following.{IsCaughtUp}
+use Rattle.rfb_server.specs.KnownScreen.{IsCaughtUp}
 use Rattle.rfb_server.specs.Hints.{with_hint}
 use Rattle.rfb_server.specs.declared.hint.Hint.{Hint}
 use Rattle.rfb_server.specs.declared.session.Session.{Session}

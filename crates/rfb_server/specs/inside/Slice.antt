@@ -15,7 +15,7 @@ use Rattle.rfb_server.specs.declared.session.input.progress.Progress.TheVariants
 use Rattle.rfb_server.specs.ClientBytes.{client_bytes}
 use Rattle.rfb_server.specs.Told.{seen, answer_told}
 use Rattle.rfb_server.specs.Server.{Serving, ServerState, server, AsksMemory}
-use Rattle.rfb_server.specs.Standing.{SessionStandsFor}
+use Rattle.rfb_server.specs.Model.{SessionStandsFor}
 
 -- what a step by a unit of one item answers, where memory is not wanting
 abbrev pub StepsAs : Session → List ℕ → Result (Option ServerEvent) ServerFault → Session → Type 0

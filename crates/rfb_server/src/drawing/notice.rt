@@ -3,9 +3,9 @@
 ghost use Rattle.std.specs.Prelude.{◌≡◌, ◌≤◌, ◌↔◌, ◌*◌, None, Some, IfOk, OnOk, IsErr, IsTrue};
 ghost use Rattle.rfb_picture.specs.Grid.{Holds};
 ghost use Rattle.rfb_picture.specs.Rect.{rect, scrolled_to};
-ghost use Rattle.rfb_server.specs.Drawing.{change_in};
+ghost use Rattle.rfb_server.specs.Strokes.{change_in};
 ghost use Rattle.rfb_server.specs.Hints.{scroll_hint};
-ghost use Rattle.rfb_server.specs.Standing.{row_from, HoldsBoth};
+ghost use Rattle.rfb_server.specs.Model.{row_from, HoldsBoth};
 
 use crate::fault::Outside;
 use crate::hint::Hint;
@@ -24,8 +24,8 @@ pub struct Notice {
 impl Notice {
     ghost use Rattle.rfb_pixel.specs.declared.colour.Colour.{Colour};
     ghost use Rattle.rfb_picture.specs.Grid.{Grid, IsGrid};
-    ghost use Rattle.rfb_server.specs.Drawing.{Hint as Hinted, notice_of, area_told, hint_told};
-    ghost use Rattle.rfb_server.specs.Following.{IsSameOutside, IsTold};
+    ghost use Rattle.rfb_server.specs.Strokes.{Hint as Hinted, notice_of, area_told, hint_told};
+    ghost use Rattle.rfb_server.specs.KnownScreen.{IsSameOutside, IsTold};
 
     /// That of any change of the screen inside a rectangle. It is for who tells sessions of a
     /// screen that somebody else draws on, before the change or after. Refused is a rectangle that

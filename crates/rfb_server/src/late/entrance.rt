@@ -4,11 +4,11 @@ ghost use Rattle.std.specs.Prelude.{◌≡◌, ◌≤◌, ◌<◌, length, true,
 ghost use Rattle.rfb_pixel.specs.declared.colour.Colour.{Colour};
 ghost use Rattle.rfb_picture.specs.Grid.{Grid};
 ghost use Rattle.rfb_picture.specs.Area.{no_places};
-ghost use Rattle.rfb_hello.specs.ServerStanding.{left_of};
-ghost use Rattle.rfb_server.specs.Following.{Follows};
+ghost use Rattle.rfb_hello.specs.ServerModel.{left_of};
+ghost use Rattle.rfb_server.specs.KnownScreen.{Follows};
 ghost use Rattle.rfb_server.specs.Hints.{hints_in};
 ghost use Rattle.rfb_server.specs.Progress.{is_partial};
-ghost use Rattle.rfb_server.specs.Standing.{session_fault, session_serving, serving_with};
+ghost use Rattle.rfb_server.specs.Model.{session_fault, session_serving, serving_with};
 ghost use Rattle.rfb_server.specs.declared.fault.ServerFault.{ServerFault};
 ghost use Rattle.rfb_server.specs.inside.Marks.{AreAlike, none_known, all_marked};
 ghost use Rattle.rfb_server.specs.inside.Ended.{progress_at};
@@ -42,7 +42,7 @@ pub(crate) struct Entrance {
 }
 
 impl Entrance {
-    ghost use Rattle.rfb_server.specs.Failing.{EndsAs};
+    ghost use Rattle.rfb_server.specs.Failed.{EndsAs};
     ghost use Rattle.rfb_server.specs.Intake.{IsUnfed, Takes, TakesNotice};
     ghost use Rattle.rfb_server.specs.Late.{entered};
 

@@ -3,8 +3,8 @@
 ghost use Rattle.std.specs.Prelude.{◌≡◌, Some, Err, IfOk, IfErr};
 ghost use Rattle.rfb_pixel.specs.declared.colour.Colour.{Colour};
 ghost use Rattle.rfb_picture.specs.Grid.{Grid};
-ghost use Rattle.rfb_server.specs.Standing.{session_fault, session_serving};
-ghost use Rattle.rfb_server.specs.Failing.{EndsAs};
+ghost use Rattle.rfb_server.specs.Model.{session_fault, session_serving};
+ghost use Rattle.rfb_server.specs.Failed.{EndsAs};
 ghost use Rattle.rfb_server.specs.declared.fault.ServerFault.{ServerFault};
 ghost use Rattle.rfb_server.specs.declared.late.feeding.LateFault.TheVariants as LateFault;
 
@@ -41,7 +41,7 @@ impl From<AllocError> for LateFault {
 
 impl LateSession {
     ghost use Rattle.rfb_server.specs.Intake.{Takes};
-    ghost use Rattle.rfb_server.specs.Following.{Follows};
+    ghost use Rattle.rfb_server.specs.KnownScreen.{Follows};
     ghost use Rattle.rfb_server.specs.Hints.{hints_in};
 
     /// Takes bytes of the client's, as `Session::feed` does. Where they may hold the last of its

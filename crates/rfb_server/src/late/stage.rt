@@ -7,7 +7,7 @@ ghost use Rattle.rfb_pixel.specs.declared.colour.Colour.{Colour};
 ghost use Rattle.rfb_picture.specs.Grid.{Grid};
 ghost use Rattle.rfb_server.specs.declared.fault.ServerFault.{ServerFault};
 ghost use Rattle.rfb_server.specs.Late.{session_of_stage};
-ghost use Rattle.rfb_server.specs.inside.Entering.{IsReadyFor, AreFor, IsMoved};
+ghost use Rattle.rfb_server.specs.inside.NewSession.{IsReadyFor, AreFor, IsMoved};
 
 use crate::event::ServerEvent;
 use crate::fault::ServerFault;
@@ -28,10 +28,10 @@ pub(crate) enum Stage {
 }
 
 impl Stage {
-    ghost use Rattle.rfb_server.specs.Failing.{EndsAs};
-    ghost use Rattle.rfb_server.specs.Following.{Follows};
+    ghost use Rattle.rfb_server.specs.Failed.{EndsAs};
+    ghost use Rattle.rfb_server.specs.KnownScreen.{Follows};
     ghost use Rattle.rfb_server.specs.Hints.{hints_in};
-    ghost use Rattle.rfb_server.specs.Standing.{session_fault, session_serving};
+    ghost use Rattle.rfb_server.specs.Model.{session_fault, session_serving};
     ghost use Rattle.rfb_server.specs.Intake.{Takes};
 
     /// Where so many bytes may hold the last of its handshake, the memory of its places is taken.

@@ -10,10 +10,10 @@ use rfb_pixel::Colour;
 
 impl Server {
     ghost use Rattle.rfb_picture.specs.Grid.{Holds, filled, copied, scrolled, with_row, with_rows};
-    ghost use Rattle.rfb_server.specs.Standing.{screen_of, row_from, AreOf, HoldsBoth, Draws};
-    ghost use Rattle.rfb_server.specs.Standing.{Keeps};
+    ghost use Rattle.rfb_server.specs.Model.{screen_of, row_from, AreOf, HoldsBoth, Draws};
+    ghost use Rattle.rfb_server.specs.Model.{Keeps};
     ghost use Rattle.rfb_server.specs.Hints.{hints_of, with_hint, scroll_hint};
-    ghost use Rattle.rfb_server.specs.Drawing.{IsInside, drawn_by, hint_of, stroke, with_hint_of};
+    ghost use Rattle.rfb_server.specs.Strokes.{IsInside, drawn_by, hint_of, stroke, with_hint_of};
 
     /// Draws on the screen, or gives the session a hint. Refused is a drawing that leaves the
     /// screen, and one that has not one colour for each of its places; then nothing changes. What

@@ -8,7 +8,7 @@ use rfb_pixel::{Colour, Format};
 
 impl Server {
     ghost use Rattle.rfb_server.specs.Server.{Serving, ServerState};
-    ghost use Rattle.rfb_server.specs.Standing.{StandsFor, screen_of, notes_of, taken_of};
+    ghost use Rattle.rfb_server.specs.Model.{StandsFor, screen_of, notes_of, taken_of};
     ghost use Rattle.rfb_server.specs.Record.{ShowsKnown, TellsKnown};
 
     /// How many bytes `feed` has used in all, as far as 64 bits go. After a fault they are those up

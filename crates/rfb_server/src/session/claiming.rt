@@ -4,7 +4,7 @@ ghost use Rattle.std.specs.Prelude.{◌≡◌};
 ghost use Rattle.rfb_pixel.specs.declared.colour.Colour.{Colour};
 ghost use Rattle.rfb_picture.specs.Grid.{Grid, Holds, copied};
 ghost use Rattle.rfb_server.specs.Claims.{IsClaimed};
-ghost use Rattle.rfb_server.specs.Following.{Follows, IsTold};
+ghost use Rattle.rfb_server.specs.KnownScreen.{Follows, IsTold};
 
 use crate::claim::Claim;
 use crate::drawing::Notice;

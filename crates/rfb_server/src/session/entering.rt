@@ -3,7 +3,7 @@
 ghost use Rattle.std.specs.Prelude.{◌≡◌};
 ghost use Rattle.rfb_server.specs.Late.{entered};
 ghost use Rattle.rfb_server.specs.inside.Ended.{progress_at};
-ghost use Rattle.rfb_server.specs.inside.Entering.{IsMoved};
+ghost use Rattle.rfb_server.specs.inside.NewSession.{IsMoved};
 ghost use Rattle.rfb_server.specs.inside.Marks.{AreUntouched};
 
 use crate::encodings::EncodingList;

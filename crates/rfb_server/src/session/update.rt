@@ -6,7 +6,7 @@ ghost use Rattle.std.specs.Bool.{OnTrue, OnFalse};
 ghost use Rattle.std.specs.Int.{div_ceil};
 ghost use Rattle.std.specs.Vec.{vec_capacity};
 ghost use Rattle.rfb_server.specs.Claims.{IsClaimed};
-ghost use Rattle.rfb_server.specs.Following.{Follows};
+ghost use Rattle.rfb_server.specs.KnownScreen.{Follows};
 ghost use Rattle.rfb_server.specs.Progress.{is_ready};
 ghost use Rattle.rfb_server.specs.inside.Sends.{IsEnough, AreLimits};
 ghost use Rattle.rfb_server.specs.inside.Sessions.{IsSame};
@@ -40,8 +40,8 @@ use std::alloc::AllocError;
 const UPDATE_HEAD_SIZE: usize = 4;
 
 impl Session {
-    ghost use Rattle.rfb_server.specs.Standing.{KeepsSession, session_fault};
-    ghost use Rattle.rfb_server.specs.Updating.{SendsUpdate, OwesUpdate, OwesNone};
+    ghost use Rattle.rfb_server.specs.Model.{KeepsSession, session_fault};
+    ghost use Rattle.rfb_server.specs.UpdateCall.{SendsUpdate, OwesUpdate, OwesNone};
     ghost use Rattle.rfb_server.specs.Hints.{hints_in};
     ghost use Rattle.rfb_server.specs.Room.{GrowsWithin, update_room};
 

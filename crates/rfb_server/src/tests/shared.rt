@@ -3,7 +3,7 @@
 ghost use Rattle.std.specs.Prelude.{◌≡◌, IfOk};
 ghost use Rattle.rfb_picture.specs.Grid.{Grid, IsGrid};
 ghost use Rattle.rfb_pixel.specs.declared.colour.Colour.{Colour};
-ghost use Rattle.rfb_server.specs.Following.{Follows};
+ghost use Rattle.rfb_server.specs.KnownScreen.{Follows};
 
 use crate::{Drawing, Notice, Session};
 use rfb_hello::Version;

@@ -2,8 +2,8 @@
 use Rattle.std.specs.Prelude.{◌≡◌, ◌≢◌, ◌<◌, ◌≤◌, ◌⊎◌, ℕ, ◌+◌, ◌-◌, ◌==◌, Bool, true, false, nat_le, ◌&&◌, not}
 use Rattle.std.specs.Prelude.{List, [], Option, Some, None, length, take, slice_index_or, if◌then◌else◌}
 use Rattle.std.specs.Prelude.{is_some, nat_lt, cond}
-use Rattle.rfb_server.specs.Drawing.{Stroke, Bytes, Fill as OneFill, Copy as OneCopy, Hint as OneHint}
-use Rattle.rfb_server.specs.Drawing.{Scroll as OneScroll}
+use Rattle.rfb_server.specs.Strokes.{Stroke, Bytes, Fill as OneFill, Copy as OneCopy, Hint as OneHint}
+use Rattle.rfb_server.specs.Strokes.{Scroll as OneScroll}
 use Rattle.rfb_session.specs.declared.console.Console.{Console}
 use Rattle.rfb_session.specs.declared.console.Outcome.{Outcome}
 use Rattle.rfb_session.specs.declared.console.Outcome.TheVariants.{Quit, Idle, BadLine, NoMemory, Device, ServerGone}
@@ -17,7 +17,7 @@ use Rattle.rfb_session.specs.declared.owner.order.OwnerLine.TheVariants as Line
 use Rattle.rfb_session.specs.declared.share.event.SeatEvent.{SeatEvent}
 use Rattle.rfb_session.specs.doors.Events.{Event, Received, Ended, Failed, Wrote, Turned}
 use Rattle.rfb_session.specs.owner.Reader.{Feeds, ClosesFrom, IsFreshReader}
-use Rattle.rfb_session.specs.owner.Telling.{leave_line}
+use Rattle.rfb_session.specs.owner.ShareLines.{leave_line}
 use Rattle.rfb_session.specs.Share.{waits_at}
 use Rattle.rfb_session.specs.console.Desk.{guest_at, lines_of, is_over, is_heard}
 use Rattle.rfb_session.specs.console.Viewers.{HearsAt, LetsGo, LetsGoFor, Admits}

@@ -4,7 +4,7 @@ use Rattle.std.specs.Prelude.{List, [], ◌∷◌, ◌++◌, drop, length, Optio
 use Rattle.rfb_pixel.specs.declared.colour.Colour.{Colour}
 use Rattle.rfb_picture.specs.Grid.{Grid, uniform}
 use Rattle.rfb_picture.specs.Places.{has_bit}
-use Rattle.rfb_server.specs.Drawing.{Stroke}
+use Rattle.rfb_server.specs.Strokes.{Stroke}
 use Rattle.rfb_server.specs.Server.{black}
 use Rattle.rfb_session.specs.declared.console.desk.Desk.{Desk}
 use Rattle.rfb_session.specs.declared.console.desk.Hold.{Hold}
@@ -19,8 +19,8 @@ use Rattle.rfb_session.specs.Share.{canvas_of, seat_in, screen_of, waits_at, wai
 use Rattle.rfb_session.specs.ShareSlots.{ComposesIn, WantsRoomIn}
 use Rattle.rfb_session.specs.ShareSteps.{KeepsScreen, WritesAs}
 use Rattle.rfb_session.specs.ShareWork.{RestsIn}
-use Rattle.rfb_session.specs.owner.Drawing.{DrawsOne}
-use Rattle.rfb_session.specs.console.Telling.{leave_lines}
+use Rattle.rfb_session.specs.owner.OwnerStroke.{DrawsOne}
+use Rattle.rfb_session.specs.console.SeatLines.{leave_lines}
 use Rattle.rfb_session.specs.console.Desk.{nobody, guest_at, lines_of, is_over, is_failing, KeepsRules, OtherGuests}
 use Rattle.rfb_session.specs.console.Time.{stamped, is_slow, is_stuck, waits_for, IsBy, IsByEnd, IsByLimit}
 

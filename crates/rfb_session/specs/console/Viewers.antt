@@ -12,11 +12,11 @@ use Rattle.rfb_session.specs.declared.share.event.SeatEvent.{SeatEvent}
 use Rattle.rfb_session.specs.declared.share.event.SeatEvent.TheVariants.{Key, Pointer, CutText}
 use Rattle.rfb_session.specs.declared.share.event.SeatEvent.TheVariants.{Ready as IsReady}
 use Rattle.rfb_session.specs.declared.share.event.ShareFault.{ShareFault}
-use Rattle.rfb_wire.specs.stream.Placing.{counted_on}
+use Rattle.rfb_wire.specs.stream.FaultPlace.{counted_on}
 use Rattle.rfb_session.specs.Share.{seat_in}
 use Rattle.rfb_session.specs.ShareSteps.{LeavesAs, JoinsAs, KeepsScreen, RefusesAs, HearsBy}
-use Rattle.rfb_session.specs.owner.Telling.{leave_line}
-use Rattle.rfb_session.specs.console.Telling.{IsFaultLine, leave_lines, told_line, come_line, busy_line}
+use Rattle.rfb_session.specs.owner.ShareLines.{leave_line}
+use Rattle.rfb_session.specs.console.SeatLines.{IsFaultLine, leave_lines, told_line, come_line, busy_line}
 use Rattle.rfb_session.specs.console.Desk.{nobody, newcomer, guest_at, lines_of, is_over, gives_way, tells_in}
 use Rattle.rfb_session.specs.console.Desk.{KeepsRules, OtherGuests, seated}
 use Rattle.rfb_session.specs.console.Time.{undone_since}

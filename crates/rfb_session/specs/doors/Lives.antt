@@ -4,7 +4,7 @@ use Rattle.std.specs.Prelude.{◌≡◌, ℕ, ◌<◌, Bool, List, Option, Some,
 use Rattle.rfb_session.specs.declared.doors.place.Place.{Place}
 use Rattle.rfb_session.specs.declared.doors.place.Place.TheVariants.{Empty, Held}
 use Rattle.rfb_session.specs.doors.Events.{Stepping}
-use Rattle.rfb_session.specs.doors.Waiting.{IsOver}
+use Rattle.rfb_session.specs.doors.Wants.{IsOver}
 use Rattle.rfb_session.specs.doors.Places.{known_in, number_in, is_held}
 use Rattle.rfb_session.specs.doors.Turns.{Turns}
 

@@ -1,12 +1,12 @@
 pub mod Rigs
 pub mod Input
-pub mod Sending
-pub mod Looking
+pub mod Acts
+pub mod Sight
 pub mod Tasks
-pub mod DriveTelling
+pub mod RigLines
 pub mod Driver
-pub mod Running
-pub mod Turning
+pub mod LineRun
+pub mod DriverTurn
 pub mod Steps
 pub mod DriveHistory
 pub mod DriveLaws

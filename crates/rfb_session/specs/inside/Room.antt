@@ -1,7 +1,7 @@
 -- The room of a `Latest`, and the size that a session is of.
 use Rattle.std.specs.Prelude.{◌≡◌, ℕ}
 use Rattle.rfb_server.specs.declared.session.Session.{Session}
-use Rattle.rfb_server.specs.Standing.{notes_in}
+use Rattle.rfb_server.specs.Model.{notes_in}
 use Rattle.rfb_session.specs.declared.latest.Latest.{Latest}
 
 -- it has room for what is composed of a screen of that size

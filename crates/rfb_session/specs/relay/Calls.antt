@@ -7,7 +7,7 @@ use Rattle.rfb_picture.specs.declared.rect.Rect.{Rect}
 use Rattle.rfb_wire.specs.ClientMessage.{FramebufferUpdateRequest, SpellsClientMessage}
 use Rattle.rfb_viewer.specs.Calls.{request_refusal, requested}
 use Rattle.rfb_viewer.specs.Messages.{key_message, pointer_message, request_message, text_message}
-use Rattle.rfb_viewer.specs.Standing.{StandsFor}
+use Rattle.rfb_viewer.specs.Model.{StandsFor}
 use Rattle.rfb_viewer.specs.Viewer.{Viewing, ViewerState}
 use Rattle.rfb_viewer.specs.declared.viewer.Viewer.{Viewer}
 use Rattle.rfb_viewer.specs.declared.call.Call.{Call}

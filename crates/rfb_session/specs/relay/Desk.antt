@@ -6,7 +6,7 @@ use Rattle.rfb_picture.specs.Rect.{rect}
 use Rattle.rfb_picture.specs.declared.rect.Rect.{Rect}
 use Rattle.rfb_hello.specs.declared.fed.Fed.{Fed}
 use Rattle.rfb_hello.specs.declared.version.Version.TheVariants.{V38}
-use Rattle.rfb_server.specs.Standing.{serving_with}
+use Rattle.rfb_server.specs.Model.{serving_with}
 use Rattle.rfb_viewer.specs.declared.event.ViewerEvent.{ViewerEvent}
 use Rattle.rfb_viewer.specs.declared.event.ViewerEvent.TheVariants.{Reply, Ready, UpdateDone, Bell, CutText}
 use Rattle.rfb_viewer.specs.declared.event.ViewerEvent.TheVariants.{ColourMapSkipped}
@@ -18,7 +18,7 @@ use Rattle.rfb_viewer.specs.declared.fault.AppendFault.{AppendFault}
 use Rattle.rfb_viewer.specs.declared.fault.AppendFault.TheVariants.{Refused}
 use Rattle.rfb_viewer.specs.declared.fault.CallFault.TheVariants.{NotReady}
 use Rattle.rfb_viewer.specs.ServerBytes.{is_between}
-use Rattle.rfb_viewer.specs.Standing.{StandsFor}
+use Rattle.rfb_viewer.specs.Model.{StandsFor}
 use Rattle.rfb_viewer.specs.Viewer.{Viewing, ViewerState}
 use Rattle.rfb_session.specs.declared.console.desk.Desk.{Desk}
 use Rattle.rfb_session.specs.declared.console.desk.Hold.{Hold}
@@ -28,10 +28,10 @@ use Rattle.rfb_session.specs.declared.relay.gone.Gone.{Gone}
 use Rattle.rfb_session.specs.declared.share.Share.{Share}
 use Rattle.rfb_session.specs.Share.{IsEmptyShare, screen_of, serving_in, viewer_of}
 use Rattle.rfb_session.specs.ShareMirrors.{FeedsOn, FailsOn, MakesOn, ShowsOther}
-use Rattle.rfb_session.specs.ShareAsking.{SomeAsked}
+use Rattle.rfb_session.specs.ShareWaiters.{SomeAsked}
 use Rattle.rfb_session.specs.console.Desk.{nobody, guest_at, lines_of}
 use Rattle.rfb_session.specs.console.Viewers.{LetsAllGo}
-use Rattle.rfb_session.specs.relay.Telling.{up_line, IsDownLine, bell_line, server_text_line}
+use Rattle.rfb_session.specs.relay.ServerLines.{up_line, IsDownLine, bell_line, server_text_line}
 
 -- a share of the picture that a viewer has: nobody has come, and viewers get this name
 pub record IsShareOf (viewer : Viewer) (name : List ℕ) (text_limit : ℕ) (share : Share) : Type 0 where

@@ -4,7 +4,7 @@ use Rattle.std.specs.Prelude.{false, nat_lt, nat_eq}
 use Rattle.std.specs.Prelude.{cond, ◌&&◌, not}
 use Rattle.std.specs.Prelude.{List, drop, slice_index_or, Some, None}
 use Rattle.std.specs.Prelude.{length, is_some, if◌then◌else◌}
-use Rattle.rfb_wire.specs.stream.Placing.{counted_on}
+use Rattle.rfb_wire.specs.stream.FaultPlace.{counted_on}
 use Rattle.rfb_session.specs.declared.console.Outcome.TheVariants.{NoMemory}
 use Rattle.rfb_session.specs.declared.relay.Relay.{Relay}
 use Rattle.rfb_session.specs.console.Console.{KeepsSide, KeepsButRooms}

@@ -5,7 +5,7 @@ use Rattle.std.specs.Prelude.{Option, Some, None}
 use Rattle.rfb_hello.specs.declared.fed.Fed.{Fed}
 use Rattle.rfb_viewer.specs.declared.event.ViewerEvent.{ViewerEvent}
 use Rattle.rfb_viewer.specs.declared.viewer.Viewer.{Viewer}
-use Rattle.rfb_viewer.specs.Standing.{StandsFor}
+use Rattle.rfb_viewer.specs.Model.{StandsFor}
 use Rattle.rfb_viewer.specs.Viewer.{ViewerState}
 use Rattle.rfb_session.specs.declared.console.Console.{Console}
 use Rattle.rfb_session.specs.declared.console.desk.Desk.{Desk}
@@ -16,7 +16,7 @@ use Rattle.rfb_session.specs.doors.Events.{Received, Ended, Failed, Wrote, Turne
 use Rattle.rfb_session.specs.doors.Tenants.{Happening, Told, Opened, Declined, events_in, Goes}
 use Rattle.rfb_session.specs.Mirrors.{TakesBytes}
 use Rattle.rfb_session.specs.Share.{viewer_of}
-use Rattle.rfb_session.specs.ShareAsking.{SomeAsked}
+use Rattle.rfb_session.specs.ShareWaiters.{SomeAsked}
 use Rattle.rfb_session.specs.console.Console.{HearsBytes}
 use Rattle.rfb_session.specs.console.History.{left_in}
 use Rattle.rfb_session.specs.relay.Presence.{is_gone, is_shown}

@@ -1,6 +1,6 @@
 -- How a relay stands with its server.
 use Rattle.std.specs.Prelude.{ℕ, Bool, true, false, Option, Some, None, nat_le, cond}
-use Rattle.rfb_wire.specs.stream.Placing.{counted_on}
+use Rattle.rfb_wire.specs.stream.FaultPlace.{counted_on}
 use Rattle.rfb_session.specs.declared.relay.presence.Presence.{Presence}
 use Rattle.rfb_session.specs.declared.relay.presence.Presence.TheVariants.{Coming, Shown, Gone}
 use Rattle.rfb_session.specs.declared.relay.presence.Recall.{Recall}

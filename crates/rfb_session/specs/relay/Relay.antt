@@ -5,9 +5,9 @@ use Rattle.std.specs.Prelude.{◌&&◌, ◌||◌, not}
 use Rattle.std.specs.Prelude.{List, [], Option, Some, None}
 use Rattle.std.specs.Prelude.{length, take, is_some}
 use Rattle.rfb_viewer.specs.declared.viewer.Viewer.{Viewer}
-use Rattle.rfb_viewer.specs.Standing.{StandsFor}
+use Rattle.rfb_viewer.specs.Model.{StandsFor}
 use Rattle.rfb_viewer.specs.Viewer.{first_viewer}
-use Rattle.rfb_wire.specs.stream.Placing.{counted_on}
+use Rattle.rfb_wire.specs.stream.FaultPlace.{counted_on}
 use Rattle.rfb_session.specs.declared.console.Console.{Console}
 use Rattle.rfb_session.specs.declared.relay.Relay.{Relay}
 use Rattle.rfb_session.specs.declared.relay.gone.Gone.TheVariants.{Closed, Device}

@@ -1,7 +1,7 @@
 -- What a relay was made with.
 use Rattle.std.specs.Prelude.{ℕ, List, cond}
 use Rattle.rfb_viewer.specs.declared.setup.ViewerSetup.{ViewerSetup}
-use Rattle.rfb_viewer.specs.Standing.{viewing_with}
+use Rattle.rfb_viewer.specs.Model.{viewing_with}
 use Rattle.rfb_viewer.specs.Viewer.{Viewing}
 use Rattle.rfb_session.specs.declared.relay.setup.Given.{Given}
 

@@ -52,7 +52,7 @@ impl Desk {
     ghost use Rattle.std.specs.Prelude.{◌++◌, ◌≤◌, [], drop, IfOk};
     ghost use Rattle.rfb_picture.specs.Grid.{uniform};
     ghost use Rattle.rfb_server.specs.Server.{black};
-    ghost use Rattle.rfb_server.specs.Drawing.{stroke};
+    ghost use Rattle.rfb_server.specs.Strokes.{stroke};
     ghost use Rattle.rfb_session.specs.Share.{waits_at, screen_of};
     ghost use Rattle.rfb_session.specs.console.Desk.{lines_of, guest_at, is_over, is_heard};
     ghost use Rattle.rfb_session.specs.console.Turns.{IsFreshDesk, DrawsAs, HoldsAs, ShowsAs};

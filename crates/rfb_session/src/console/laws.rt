@@ -4,8 +4,8 @@
 ghost use Rattle.std.specs.Prelude.{◌≡◌, ◌≤◌, ◌<◌, ◌+◌, ◌++◌, ◌⊎◌, ℕ, List, [], Some, None};
 ghost use Rattle.std.specs.Prelude.{true, false, length};
 ghost use Rattle.rfb_server.specs.Server.{Serving};
-ghost use Rattle.rfb_server.specs.Standing.{session_fault};
-ghost use Rattle.rfb_server.specs.Updating.{OwesUpdate};
+ghost use Rattle.rfb_server.specs.Model.{session_fault};
+ghost use Rattle.rfb_server.specs.UpdateCall.{OwesUpdate};
 ghost use Rattle.rfb_session.specs.declared.console.Console.{Console as AConsole};
 ghost use Rattle.rfb_session.specs.declared.console.desk.Desk.{Desk as ADesk};
 ghost use Rattle.rfb_session.specs.declared.share.seat.ShareSeat.{ShareSeat as AShareSeat};

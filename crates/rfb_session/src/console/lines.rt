@@ -1,7 +1,7 @@
 //! Lines for the owner that tell who comes, and who is let go for a fault.
 
 ghost use Rattle.std.specs.Prelude.{◌≡◌, ◌++◌, ◌∷◌, List, ℕ, OnOk, []};
-ghost use Rattle.rfb_session.specs.console.Telling.{come_line, busy_line, IsFaultLine};
+ghost use Rattle.rfb_session.specs.console.SeatLines.{come_line, busy_line, IsFaultLine};
 
 use crate::console::names::name_of;
 use crate::seat::Seat;

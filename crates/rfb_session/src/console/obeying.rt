@@ -1,8 +1,8 @@
 //! What the owner of a console says, done.
 
 ghost use Rattle.std.specs.Prelude.{◌≡◌, ◌⊎◌, ◌≤◌, Some, Bool};
-ghost use Rattle.rfb_server.specs.Drawing.{stroke};
-ghost use Rattle.rfb_session.specs.owner.Telling.{leave_line};
+ghost use Rattle.rfb_server.specs.Strokes.{stroke};
+ghost use Rattle.rfb_session.specs.owner.ShareLines.{leave_line};
 ghost use Rattle.rfb_session.specs.console.Viewers.{LetsGo};
 ghost use Rattle.rfb_session.specs.console.Turns.{HoldsAs, ShowsAs};
 ghost use Rattle.rfb_session.specs.declared.console.desk.Hold.TheVariants.{Begins};

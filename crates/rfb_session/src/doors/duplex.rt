@@ -40,7 +40,7 @@ pub struct Counted<S> {
 
 impl<S> Counted<S> {
     ghost use Rattle.rfb_session.specs.declared.doors.device.Answer.TheVariants as Answer;
-    ghost use Rattle.rfb_session.specs.doors.Counting.{within, failures};
+    ghost use Rattle.rfb_session.specs.doors.CountedDuplex.{within, failures};
 
     /// Counts from here on.
     pub fn new(inner: S) -> Counted<S>

@@ -1,7 +1,7 @@
 //! What a core still wants of its doors.
 
 ghost use Rattle.std.specs.Prelude.{◌≡◌, ◌↔◌, ◌<◌, ◌⊎◌, ℕ, IsTrue};
-ghost use Rattle.rfb_session.specs.doors.Waiting.{IsOver, IsWanted, longest};
+ghost use Rattle.rfb_session.specs.doors.Wants.{IsOver, IsWanted, longest};
 
 use crate::doors::clock::{Clock, Pause};
 use crate::doors::cores::Core;

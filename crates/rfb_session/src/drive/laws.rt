@@ -9,7 +9,7 @@ ghost use Rattle.rfb_session.specs.declared.drive.words.Place.{Place as APlace};
 ghost use Rattle.rfb_session.specs.doors.Events.{Event, Runs};
 ghost use Rattle.rfb_session.specs.drive.driver.DriveHistory.{IsRun};
 ghost use Rattle.rfb_session.specs.drive.driver.DriveLaws.{IsQuietBefore, IsSince, buttons_after};
-ghost use Rattle.rfb_session.specs.drive.driver.Sending.{acts_of};
+ghost use Rattle.rfb_session.specs.drive.driver.Acts.{acts_of};
 ghost use Rattle.rfb_session.specs.drive.driver.Steps.{DriverSteps};
 ghost use Rattle.rfb_session.specs.drive.driver.Tasks.{due};
 

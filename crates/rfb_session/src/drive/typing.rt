@@ -3,7 +3,7 @@
 ghost use Rattle.std.specs.Prelude.{◌≡◌, ◌++◌, ℕ, take, IfErr, IfOk};
 ghost use Rattle.std.specs.Str.{chars};
 ghost use Rattle.rfb_session.specs.drive.Characters.{key_of_char};
-ghost use Rattle.rfb_session.specs.drive.Typing as spec;
+ghost use Rattle.rfb_session.specs.drive.Keyboard as spec;
 
 use crate::drive::key_event::KeyEvent;
 use arrayvec::ArrayVec;

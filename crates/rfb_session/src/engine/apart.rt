@@ -2,8 +2,8 @@
 
 ghost use Rattle.std.specs.Prelude.{◌≡◌, ◌≤◌, ◌<◌, ◌+◌, ◌-◌, ◌^◌, true, None};
 ghost use Rattle.std.specs.Prelude.{IfOk, IfErr, OnOk};
-ghost use Rattle.rfb_server.specs.Standing.{fault_of as fault_of_server};
-ghost use Rattle.rfb_viewer.specs.Standing.{fault_of as fault_of_viewer};
+ghost use Rattle.rfb_server.specs.Model.{fault_of as fault_of_server};
+ghost use Rattle.rfb_viewer.specs.Model.{fault_of as fault_of_viewer};
 ghost use Rattle.rfb_session.specs.Failed.{StaysUnfed};
 ghost use Rattle.rfb_session.specs.ServeEngine.{AllServed, GoesOn, ServerBetween, StopsServing};
 ghost use Rattle.rfb_session.specs.Turns.{GreetsAndTurns, StopsByTurns};

@@ -3,13 +3,13 @@
 ghost use Rattle.std.specs.Prelude.{◌≡◌, ◌≤◌, ◌<◌, ◌-◌, ◌^◌, None, true};
 ghost use Rattle.std.specs.Prelude.{IfOk, IfErr, IfSome, OnOk};
 ghost use Rattle.rfb_session.specs.Failed.{StaysUnfed};
-ghost use Rattle.rfb_session.specs.Playing.{AllPlayed, StopsPlaying};
-ghost use Rattle.rfb_session.specs.PlayingSome.{AreEnough, AreFewer, AreNoMore, PlayedFirst};
-ghost use Rattle.rfb_session.specs.PlayingSome.{StopsPlayingSome, StopsPlayingUpTo};
+ghost use Rattle.rfb_session.specs.Playback.{AllPlayed, StopsPlaying};
+ghost use Rattle.rfb_session.specs.FirstUpdates.{AreEnough, AreFewer, AreNoMore, PlayedFirst};
+ghost use Rattle.rfb_session.specs.FirstUpdates.{StopsPlayingSome, StopsPlayingUpTo};
 ghost use Rattle.rfb_session.specs.Verdict.{JudgesAll};
 ghost use Rattle.rfb_session.specs.Watcher.{EndsPlaying, HearsRead};
-ghost use Rattle.rfb_session.specs.Watching.{StandsBetween};
-ghost use Rattle.rfb_viewer.specs.Standing.{fault_of};
+ghost use Rattle.rfb_session.specs.ViewerActs.{StandsBetween};
+ghost use Rattle.rfb_viewer.specs.Model.{fault_of};
 
 mod feeding;
 

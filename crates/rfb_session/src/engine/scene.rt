@@ -1,7 +1,7 @@
 //! What a server shows.
 
 ghost use Rattle.rfb_codec.specs.Effect.{IsAlike};
-ghost use Rattle.rfb_server.specs.Standing.{Draws, screen_of};
+ghost use Rattle.rfb_server.specs.Model.{Draws, screen_of};
 ghost use Rattle.rfb_session.specs.Turns.{Showing};
 
 use rfb_server::Server;

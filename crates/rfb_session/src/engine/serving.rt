@@ -3,7 +3,7 @@
 ghost use Rattle.std.specs.Prelude.{◌≡◌, ◌<◌, ◌+◌, ◌-◌, ◌^◌, ◌≤◌, [], length, take, true, false};
 ghost use Rattle.std.specs.Prelude.{None};
 ghost use Rattle.std.specs.Prelude.{IfOk, IfErr, IfSome, OnOk, OnErr};
-ghost use Rattle.rfb_server.specs.Standing.{fault_of};
+ghost use Rattle.rfb_server.specs.Model.{fault_of};
 ghost use Rattle.rfb_session.specs.Failed.{FailsAgain};
 ghost use Rattle.rfb_session.specs.OverWire.{AllServedOver, GreetsAndTurnsOver, NoneMissed};
 ghost use Rattle.rfb_session.specs.OverWire.{StaysUnfedOver, StopsByTurnsOver, StopsInTurnOver};

@@ -2,9 +2,9 @@
 
 ghost use Rattle.std.specs.Prelude.{◌≡◌, ◌≤◌, ◌<◌, ◌+◌, ◌-◌, ◌^◌, length, take};
 ghost use Rattle.std.specs.Prelude.{IfOk, IfErr, OnOk};
-ghost use Rattle.rfb_viewer.specs.Standing.{fault_of};
+ghost use Rattle.rfb_viewer.specs.Model.{fault_of};
 ghost use Rattle.rfb_session.specs.Failed.{FailsAgain};
-ghost use Rattle.rfb_session.specs.Looking.{HasLooked, Looks, StopsLooking};
+ghost use Rattle.rfb_session.specs.EngineRead.{HasLooked, Looks, StopsLooking};
 ghost use Rattle.rfb_session.specs.OverWire.{HasViewedOver, NoneFailedOver, StaysUnfedOver};
 ghost use Rattle.rfb_session.specs.OverWire.{StopsViewingOver};
 ghost use Rattle.rfb_session.specs.ViewOrder.{StopsViewInOrder, ViewsInOrder};

@@ -1,7 +1,7 @@
 //! Drawings on a hub's screen: they are everyone's.
 
 ghost use Rattle.std.specs.Prelude.{◌≡◌, true, false, IfOk, OnOk, IsOk, IsErr};
-ghost use Rattle.rfb_server.specs.Drawing.{stroke};
+ghost use Rattle.rfb_server.specs.Strokes.{stroke};
 
 use crate::hub::Hub;
 use crate::hub::event::{HubFault, HubTold};

@@ -1,7 +1,7 @@
 //! What can happen to a hub, and what a step of it answers.
 
 ghost use Rattle.std.specs.Prelude.{◌≡◌, Some};
-ghost use Rattle.rfb_session.specs.HubTelling.{hub_refusal};
+ghost use Rattle.rfb_session.specs.HubAnswers.{hub_refusal};
 
 use crate::told::Refused;
 use arrayvec::ArrayVec;

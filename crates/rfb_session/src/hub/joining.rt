@@ -3,7 +3,7 @@
 ghost use Rattle.std.specs.Prelude.{◌≡◌, ◌≤◌, length, None, IfOk, IsOk};
 ghost use Rattle.rfb_session.specs.HubSlots.{TakesOrNot};
 ghost use Rattle.rfb_session.specs.Slots.{OnSlot};
-ghost use Rattle.rfb_session.specs.LinkStanding.{session_of_link};
+ghost use Rattle.rfb_session.specs.LinkModel.{session_of_link};
 ghost use Rattle.rfb_session.specs.declared.hub.event.HubEvent.TheVariants.{Join, Leave, Foreign};
 
 use crate::hub::Hub;

@@ -2,8 +2,8 @@
 
 ghost use Rattle.std.specs.Prelude.{◌≡◌, IfOk, IsOk};
 ghost use Rattle.std.specs.Option.{ForSome};
-ghost use Rattle.rfb_server.specs.Following.{Follows};
-ghost use Rattle.rfb_session.specs.LinkStanding.{session_of_link};
+ghost use Rattle.rfb_server.specs.KnownScreen.{Follows};
+ghost use Rattle.rfb_session.specs.LinkModel.{session_of_link};
 ghost use Rattle.rfb_session.specs.HubSeats.{HasFewSlotBytes};
 ghost use Rattle.rfb_session.specs.HubSlots.{DoesIn, SparesIn};
 ghost use Rattle.rfb_session.specs.declared.hub.event.HubEvent.TheVariants.{Of};

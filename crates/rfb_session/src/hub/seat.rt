@@ -23,8 +23,8 @@ pub struct HubSeat {
 }
 
 impl HubSeat {
-    ghost use Rattle.rfb_server.specs.Following.{Follows};
-    ghost use Rattle.rfb_session.specs.LinkStanding.{session_of_link};
+    ghost use Rattle.rfb_server.specs.KnownScreen.{Follows};
+    ghost use Rattle.rfb_session.specs.LinkModel.{session_of_link};
     ghost use Rattle.rfb_session.specs.HubSeats.{SeatDoes, SeatSpares, HasFewSlotBytes};
     ghost use Rattle.rfb_session.specs.HubSeats.{IsSeated, TakesForeign};
 
@@ -104,8 +104,8 @@ impl HubSeat {
 
 impl Follower for HubSeat {
     ghost use Rattle.rfb_picture.specs.Grid.{Holds};
-    ghost use Rattle.rfb_server.specs.Standing.{notes_in};
-    ghost use Rattle.rfb_session.specs.LinkStanding.{session_of_link};
+    ghost use Rattle.rfb_server.specs.Model.{notes_in};
+    ghost use Rattle.rfb_session.specs.LinkModel.{session_of_link};
     ghost use Rattle.rfb_session.specs.HubSeats.{IsNotifiedOn};
 
     ghost Notifiable = { λ rect seat. Holds (notes_in (session_of_link seat.link)).known rect };

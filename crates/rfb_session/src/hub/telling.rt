@@ -1,7 +1,7 @@
 //! What a step of a hub answers.
 
 ghost use Rattle.std.specs.Prelude.{◌≡◌, false, Some, None};
-ghost use Rattle.rfb_session.specs.HubTelling.{IsMere, TellsFor};
+ghost use Rattle.rfb_session.specs.HubAnswers.{IsMere, TellsFor};
 
 use crate::hub::event::{HubFault, HubTold};
 use crate::told::Told;

@@ -11,7 +11,7 @@ ghost use Rattle.rfb_viewer.specs.declared.fault.AppendFault.{AppendFault};
 ghost use Rattle.rfb_viewer.specs.declared.viewer.Viewer.{Viewer};
 ghost use Rattle.rfb_viewer.specs.Call.{is_noted, message_bytes, message_of};
 ghost use Rattle.rfb_viewer.specs.Messages.{request_message};
-ghost use Rattle.rfb_viewer.specs.Standing.{StandsFor as ViewerStandsFor};
+ghost use Rattle.rfb_viewer.specs.Model.{StandsFor as ViewerStandsFor};
 ghost use Rattle.rfb_viewer.specs.Told.{ViewerTold, Ready, UpdateDone, seen};
 ghost use Rattle.rfb_viewer.specs.Viewer.{viewer as viewer_end};
 ghost use Rattle.rfb_session.specs.declared.console.desk.Desk.{Desk as ADesk};

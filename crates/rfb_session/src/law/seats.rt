@@ -2,7 +2,7 @@
 
 ghost use Rattle.std.specs.Prelude.{◌≡◌, ◌≢◌, ℕ, List, [], ◌++◌, take, Option, Some, Result};
 ghost use Rattle.rfb_hello.specs.declared.fed.Fed.{Fed};
-ghost use Rattle.rfb_server.specs.Following.{Follows};
+ghost use Rattle.rfb_server.specs.KnownScreen.{Follows};
 ghost use Rattle.rfb_viewer.specs.declared.call.Call.{Call};
 ghost use Rattle.rfb_viewer.specs.declared.event.ViewerEvent.{ViewerEvent};
 ghost use Rattle.rfb_viewer.specs.declared.fault.AppendFault.{AppendFault};
@@ -11,7 +11,7 @@ ghost use Rattle.rfb_viewer.specs.declared.viewer.Viewer.{Viewer};
 ghost use Rattle.rfb_server.specs.Server.{Serving};
 ghost use Rattle.rfb_session.specs.declared.share.Share.{Share};
 ghost use Rattle.rfb_session.specs.declared.share.event.Composing.{Composing};
-ghost use Rattle.rfb_server.specs.Drawing.{Stroke};
+ghost use Rattle.rfb_server.specs.Strokes.{Stroke};
 ghost use Rattle.rfb_session.specs.declared.share.event.Heard.{Heard};
 ghost use Rattle.rfb_session.specs.declared.share.event.ShareFault.{ShareFault};
 ghost use Rattle.rfb_session.specs.declared.share.event.ShareFault.TheVariants.{NoMemory};

@@ -4,7 +4,7 @@ ghost use Rattle.std.specs.Prelude.{◌≡◌, ◌≢◌, ℕ, List, Option, Non
 ghost use Rattle.rfb_wire.specs.stream.End.{FedBy};
 ghost use Rattle.rfb_viewer.specs.declared.fault.ViewerFault.{ViewerFault};
 ghost use Rattle.rfb_viewer.specs.declared.viewer.Viewer.{Viewer};
-ghost use Rattle.rfb_viewer.specs.Standing.{StandsFor, fault_of};
+ghost use Rattle.rfb_viewer.specs.Model.{StandsFor, fault_of};
 ghost use Rattle.rfb_viewer.specs.Told.{ViewerTold};
 ghost use Rattle.rfb_viewer.specs.Viewer.{Viewing, ViewerState};
 ghost use Rattle.rfb_viewer.specs.Viewer.{viewer as viewer_end};

@@ -11,7 +11,7 @@ use rfb_viewer::{AppendFault, Call};
 use rfb_wire::Encoding;
 
 impl Link {
-    ghost use Rattle.rfb_session.specs.LinkStanding.{session_of_link};
+    ghost use Rattle.rfb_session.specs.LinkModel.{session_of_link};
     ghost use Rattle.rfb_session.specs.LinkCalls.{DoesCall, CallsOnBytes, IsRefusedCall};
     ghost use Rattle.rfb_session.specs.LinkCalls.{call_refusal_on};
 

@@ -9,10 +9,10 @@ use rfb_picture::Picture;
 use rfb_pixel::Colour;
 
 impl Link {
-    ghost use Rattle.rfb_server.specs.Following.{Follows};
-    ghost use Rattle.rfb_session.specs.LinkStanding.{LinkDoesOver, session_of_link};
-    ghost use Rattle.rfb_server.specs.Updating.{OwesUpdate};
-    ghost use Rattle.rfb_session.specs.LinkStanding.{ComposesNothingOver, server_fault_of};
+    ghost use Rattle.rfb_server.specs.KnownScreen.{Follows};
+    ghost use Rattle.rfb_session.specs.LinkModel.{LinkDoesOver, session_of_link};
+    ghost use Rattle.rfb_server.specs.UpdateCall.{OwesUpdate};
+    ghost use Rattle.rfb_session.specs.LinkModel.{ComposesNothingOver, server_fault_of};
     ghost use Rattle.rfb_session.specs.LinkBytes.{ComposesOver, SpendsHints};
     ghost use Rattle.rfb_session.specs.Told.{TellsAlone};
 

@@ -18,18 +18,18 @@ impl Link {
     ghost use Rattle.rfb_pixel.specs.declared.colour.Colour.{Colour};
     ghost use Rattle.rfb_picture.specs.Grid.{Grid};
     ghost use Rattle.rfb_server.specs.declared.fault.ServerFault.{ServerFault};
-    ghost use Rattle.rfb_server.specs.Following.{Follows};
+    ghost use Rattle.rfb_server.specs.KnownScreen.{Follows};
     ghost use Rattle.rfb_server.specs.Hints.{hints_in};
     ghost use Rattle.rfb_viewer.specs.declared.fault.ViewerFault.{ViewerFault};
-    ghost use Rattle.rfb_session.specs.LinkStanding.{Arrives, session_of_link};
-    ghost use Rattle.rfb_session.specs.LinkStanding.{server_fault_of, viewer_fault_of};
-    ghost use Rattle.rfb_session.specs.LinkStanding.{LosesToViewer, LosesToServer};
-    ghost use Rattle.rfb_session.specs.LinkStanding.{IsLostOn, FollowsStill};
+    ghost use Rattle.rfb_session.specs.LinkModel.{Arrives, session_of_link};
+    ghost use Rattle.rfb_session.specs.LinkModel.{server_fault_of, viewer_fault_of};
+    ghost use Rattle.rfb_session.specs.LinkModel.{LosesToViewer, LosesToServer};
+    ghost use Rattle.rfb_session.specs.LinkModel.{IsLostOn, FollowsStill};
     ghost use Rattle.rfb_session.specs.LinkBytes.{TellsSole, MovesNone};
-    ghost use Rattle.rfb_session.specs.inside.Delivering.{DeliversToViewer, DeliversToServer};
-    ghost use Rattle.rfb_session.specs.inside.Delivering.{HasHeard, EndsHearing};
-    ghost use Rattle.rfb_session.specs.inside.Delivering.{HasWatched, EndsWatching};
-    ghost use Rattle.rfb_session.specs.inside.Delivering.{IfSessionEnded, IfViewerEnded};
+    ghost use Rattle.rfb_session.specs.inside.LinkDelivery.{DeliversToViewer, DeliversToServer};
+    ghost use Rattle.rfb_session.specs.inside.LinkDelivery.{HasHeard, EndsHearing};
+    ghost use Rattle.rfb_session.specs.inside.LinkDelivery.{HasWatched, EndsWatching};
+    ghost use Rattle.rfb_session.specs.inside.LinkDelivery.{IfSessionEnded, IfViewerEnded};
 
     /// Bytes reach the session, at most `count`, or all that are in flight to it. Its answers are
     /// in flight then. One that has failed takes them to no effect. Memory can be wanting for

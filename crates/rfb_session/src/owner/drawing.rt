@@ -1,8 +1,8 @@
 //! What a line of the owner's asks to be drawn.
 
 ghost use Rattle.std.specs.Prelude.{◌≡◌, option_map};
-ghost use Rattle.rfb_server.specs.Drawing.{stroke};
-ghost use Rattle.rfb_session.specs.owner.Drawing.{stroke_of};
+ghost use Rattle.rfb_server.specs.Strokes.{stroke};
+ghost use Rattle.rfb_session.specs.owner.OwnerStroke.{stroke_of};
 
 use crate::owner::order::OwnerLine;
 use rfb_server::Drawing;

@@ -3,8 +3,8 @@
 ghost use Rattle.std.specs.Prelude.{◌≡◌, ◌≤◌, OnOk, length, take};
 ghost use Rattle.std.specs.Io.KnownBytes.{Appends};
 ghost use Rattle.hex.specs.Hex.{encode_lower};
-ghost use Rattle.rfb_session.specs.owner.Telling.{event_line, join_line, key_line, leave_line};
-ghost use Rattle.rfb_session.specs.owner.Telling.{refusal_line, text_line};
+ghost use Rattle.rfb_session.specs.owner.ShareLines.{event_line, join_line, key_line, leave_line};
+ghost use Rattle.rfb_session.specs.owner.ShareLines.{refusal_line, text_line};
 
 use crate::engine::{Lent, send};
 use crate::owner::order::Refusal;

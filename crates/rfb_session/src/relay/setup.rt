@@ -1,7 +1,7 @@
 //! What a relay is asked for.
 
 ghost use Rattle.std.specs.Prelude.{◌≡◌, ◌≤◌, [], ℕ, length, cond, is_some, option_copied};
-ghost use Rattle.rfb_viewer.specs.Standing.{StandsFor};
+ghost use Rattle.rfb_viewer.specs.Model.{StandsFor};
 ghost use Rattle.rfb_viewer.specs.Viewer.{first_viewer};
 
 use crate::console::Rules;

@@ -1,14 +1,14 @@
 //! Whether anybody at a share waits for an update.
 
 ghost use Rattle.std.specs.Prelude.{◌↔◌, IsTrue};
-ghost use Rattle.rfb_session.specs.ShareAsking.{HasAskedIn};
+ghost use Rattle.rfb_session.specs.ShareWaiters.{HasAskedIn};
 
 use crate::share::Share;
 use crate::share::seat::ShareSeat;
 use crate::slots::SLOTS;
 
 impl Share {
-    ghost use Rattle.rfb_session.specs.ShareAsking.{SomeAsked};
+    ghost use Rattle.rfb_session.specs.ShareWaiters.{SomeAsked};
 
     /// Whether some viewer waits for an update: its handshake is done, it has not failed, and asked
     /// for a place since its latest update, RFC 6143 section 7.5.3. It asks each seat in turn, up

@@ -1,7 +1,7 @@
 //! Drawings on the screen of a share.
 
 ghost use Rattle.std.specs.Prelude.{◌≡◌, ◌↔◌, IsErr, OnOk, OnErr};
-ghost use Rattle.rfb_server.specs.Drawing.{Rows, stroke};
+ghost use Rattle.rfb_server.specs.Strokes.{Rows, stroke};
 ghost use Rattle.rfb_session.specs.ShareScreen.{IsOnCanvas};
 
 use crate::seats::Seats;

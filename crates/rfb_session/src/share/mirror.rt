@@ -4,7 +4,7 @@ ghost use Rattle.std.specs.Prelude.{◌≡◌, ◌≤◌, [], length, Some, None
 ghost use Rattle.rfb_viewer.specs.Call.{text_in};
 ghost use Rattle.rfb_viewer.specs.Damage.{damage_of, ended_of, IsSameOutside};
 ghost use Rattle.rfb_viewer.specs.Moved.{moved_of};
-ghost use Rattle.rfb_viewer.specs.Standing.{picture_of};
+ghost use Rattle.rfb_viewer.specs.Model.{picture_of};
 ghost use Rattle.rfb_session.specs.Mirrors.{seen_by, StandsOrFailed, TakesBytes, FailsAt};
 ghost use Rattle.rfb_session.specs.Mirrors.{KeepsViewing, MakesCall};
 

@@ -7,10 +7,10 @@ ghost use Rattle.std.specs.Option.{ForSome};
 ghost use Rattle.rfb_picture.specs.Grid.{IsGrid};
 ghost use Rattle.rfb_picture.specs.Places.{has_bit};
 ghost use Rattle.rfb_codec.specs.Effect.{IsAlike};
-ghost use Rattle.rfb_server.specs.Standing.{notes_in};
+ghost use Rattle.rfb_server.specs.Model.{notes_in};
 ghost use Rattle.rfb_viewer.specs.Damage.{damage_of};
 ghost use Rattle.rfb_viewer.specs.Moved.{moved_of};
-ghost use Rattle.rfb_viewer.specs.Standing.{picture_of};
+ghost use Rattle.rfb_viewer.specs.Model.{picture_of};
 ghost use Rattle.rfb_viewer.specs.declared.fault.AppendFault.TheVariants.{Refused};
 ghost use Rattle.rfb_viewer.specs.declared.fault.CallFault.TheVariants.{NotReady};
 ghost use Rattle.rfb_hello.specs.declared.version.Version.TheVariants.{V38};
@@ -36,7 +36,7 @@ use std::alloc::Global;
 use telling::{tell_all, tell_whole};
 
 impl Share {
-    ghost use Rattle.rfb_server.specs.Standing.{serving_with};
+    ghost use Rattle.rfb_server.specs.Model.{serving_with};
     ghost use Rattle.rfb_viewer.specs.Call.{text_in};
     ghost use Rattle.rfb_session.specs.Share.{IsEmptyShare, serving_in, screen_of, viewer_of};
     ghost use Rattle.rfb_session.specs.ShareMirrors.{FeedsOn, FailsOn, MakesOn, ShowsOther};

@@ -37,9 +37,9 @@ impl ShareSeat {
     ghost use Rattle.rfb_pixel.specs.declared.colour.Colour.{Colour};
     ghost use Rattle.rfb_picture.specs.Grid.{Grid};
     ghost use Rattle.rfb_hello.specs.Version.{version_text};
-    ghost use Rattle.rfb_server.specs.Following.{Follows};
-    ghost use Rattle.rfb_server.specs.Standing.{session_fault};
-    ghost use Rattle.rfb_server.specs.Updating.{HasAsked};
+    ghost use Rattle.rfb_server.specs.KnownScreen.{Follows};
+    ghost use Rattle.rfb_server.specs.Model.{session_fault};
+    ghost use Rattle.rfb_server.specs.UpdateCall.{HasAsked};
     ghost use Rattle.rfb_session.specs.ShareSeats.{waiting_in, session_at, is_update, IsFresh};
     ghost use Rattle.rfb_session.specs.ShareSeats.{IsSeatOf, Hears, ComposesAt, WantsRoom};
     ghost use Rattle.rfb_session.specs.ShareSeats.{WritesAt};
@@ -137,7 +137,7 @@ impl ShareSeat {
 
 impl Follower for ShareSeat {
     ghost use Rattle.rfb_picture.specs.Grid.{Holds};
-    ghost use Rattle.rfb_server.specs.Standing.{notes_in};
+    ghost use Rattle.rfb_server.specs.Model.{notes_in};
     ghost use Rattle.rfb_session.specs.ShareSeats.{session_at, IsNotifiedIn};
 
     ghost Notifiable = { λ rect seat. Holds (notes_in (session_at seat)).known rect };

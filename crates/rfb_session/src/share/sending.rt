@@ -3,7 +3,7 @@
 ghost use Rattle.std.specs.Prelude.{◌≡◌, ◌≤◌, ℕ, length, false, IfOk, OnErr};
 ghost use Rattle.std.specs.Option.{ForSome};
 ghost use Rattle.rfb_picture.specs.Places.{has_bit};
-ghost use Rattle.rfb_server.specs.Following.{Follows};
+ghost use Rattle.rfb_server.specs.KnownScreen.{Follows};
 ghost use Rattle.rfb_session.specs.ShareScreen.{shown_on};
 ghost use Rattle.rfb_session.specs.ShareSeats.{session_at, WritesAt};
 ghost use Rattle.rfb_session.specs.ShareSlots.{ComposesIn, WantsRoomIn};

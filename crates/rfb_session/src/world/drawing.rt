@@ -1,7 +1,7 @@
 //! Drawings on a world's screen.
 
 ghost use Rattle.std.specs.Prelude.{◌≡◌, true, false, IfOk, IsOk, IsErr};
-ghost use Rattle.rfb_server.specs.Drawing.{stroke};
+ghost use Rattle.rfb_server.specs.Strokes.{stroke};
 
 use crate::told::{NoMemory, Refused, Told};
 use crate::world::World;

@@ -4,7 +4,7 @@
 ghost use Rattle.std.specs.Prelude.{◌≡◌, ◌<◌, ℕ, IfOk, IfErr};
 ghost use Rattle.rfb_wire.specs.declared.server_head.ServerHead.TheVariants.{ColourMap, CutText};
 ghost use Rattle.rfb_viewer.specs.Told.{seen};
-ghost use Rattle.rfb_viewer.specs.inside.Feeding.{end_event};
+ghost use Rattle.rfb_viewer.specs.inside.FedBytes.{end_event};
 ghost use Rattle.rfb_viewer.specs.inside.Steps.{progress_after, told_after, request_after};
 ghost use Rattle.rfb_viewer.specs.inside.Steps.{AsksAfter, progress_past, told_past, request_past};
 

@@ -11,7 +11,7 @@ ghost use Rattle.rfb_viewer.specs.declared.fault.AppendFault.TheVariants.{Refuse
 ghost use Rattle.rfb_viewer.specs.declared.fault.TextFault.TheVariants.{NotReady as TextNotReady};
 ghost use Rattle.rfb_viewer.specs.Messages.{format_message, encodings_message, request_message};
 ghost use Rattle.rfb_viewer.specs.Messages.{key_message, pointer_message, text_message};
-ghost use Rattle.rfb_viewer.specs.Refusing.{is_ready, is_updating, is_shown};
+ghost use Rattle.rfb_viewer.specs.Refusals.{is_ready, is_updating, is_shown};
 ghost use Rattle.rfb_viewer.specs.Viewer.{Viewing, ViewerState};
 
 use crate::call::{Call, Message};
@@ -30,9 +30,9 @@ const FRAMEBUFFER_UPDATE: u8 = 0;
 impl Viewer {
     ghost use Rattle.rfb_viewer.specs.Calls.{call_refusal, request_refusal, format_refusal};
     ghost use Rattle.rfb_viewer.specs.Calls.{refusal_of, text_refusal_of, requested, formatted};
-    ghost use Rattle.rfb_viewer.specs.Refusing.{call_refused_by, request_refused_by};
-    ghost use Rattle.rfb_viewer.specs.Refusing.{format_refused_by};
-    ghost use Rattle.rfb_viewer.specs.Standing.{StandsFor, KeepsRest, fault_of, picture_of};
+    ghost use Rattle.rfb_viewer.specs.Refusals.{call_refused_by, request_refused_by};
+    ghost use Rattle.rfb_viewer.specs.Refusals.{format_refused_by};
+    ghost use Rattle.rfb_viewer.specs.Model.{StandsFor, KeepsRest, fault_of, picture_of};
     ghost use Rattle.rfb_viewer.specs.Damage.{damage_of, ended_of};
     ghost use Rattle.rfb_viewer.specs.Moved.{moved_of};
     ghost use Rattle.rfb_viewer.specs.Call.{append_refusal_of, bytes_of, called, is_noted};

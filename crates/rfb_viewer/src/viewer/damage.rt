@@ -64,7 +64,7 @@ pub(crate) fn join(damage: &mut Option<Edges>, rect: Rect, picture: &Picture<Col
 
 impl Viewer {
     ghost use Rattle.rfb_viewer.specs.Viewer.{Viewing, ViewerState};
-    ghost use Rattle.rfb_viewer.specs.Standing.{StandsFor, KeepsRest, picture_of};
+    ghost use Rattle.rfb_viewer.specs.Model.{StandsFor, KeepsRest, picture_of};
     ghost use Rattle.rfb_viewer.specs.Damage.{damage_of, ended_of, rect_of_damage, joined_if};
     ghost use Rattle.rfb_viewer.specs.Damage.{begun, under_way};
     ghost use Rattle.rfb_viewer.specs.Moved.{moved_of};

@@ -1,7 +1,7 @@
 //! The handshake of a viewer.
 
 ghost use Rattle.std.specs.Prelude.{◌≡◌, length, OnOk, OnErr, None, Some};
-ghost use Rattle.rfb_viewer.specs.inside.Damaging.{screen_made};
+ghost use Rattle.rfb_viewer.specs.inside.ItemDamage.{screen_made};
 ghost use Rattle.rfb_viewer.specs.inside.Steps.{screen_or};
 
 use crate::client_messages::ready_answer;
@@ -21,7 +21,7 @@ const BLACK: Colour = Colour { r: 0, g: 0, b: 0 };
 
 impl Viewer {
     ghost use Rattle.rfb_viewer.specs.declared.viewer.progress.Progress.{Progress};
-    ghost use Rattle.rfb_viewer.specs.inside.Taking.{Steps};
+    ghost use Rattle.rfb_viewer.specs.inside.StepPromises.{Steps};
 
     // Takes a byte of the server's handshake, and makes the screen where a step tells its size. By
     // single bytes a fault comes with the one that is taken.

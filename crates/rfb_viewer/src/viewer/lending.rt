@@ -3,7 +3,7 @@
 
 ghost use Rattle.std.specs.Prelude.{◌≡◌, ◌≢◌, ◌<◌, ℕ, List, [], false, None, option_copied};
 ghost use Rattle.rfb_viewer.specs.ServerBytes.{is_between, server_bytes_pending};
-ghost use Rattle.rfb_viewer.specs.Showing.{Shows};
+ghost use Rattle.rfb_viewer.specs.ShownPieces.{Shows};
 ghost use Rattle.rfb_viewer.specs.inside.Sound.{is_idle};
 ghost use Rattle.rfb_viewer.specs.Viewer.{Viewing, ViewerState};
 
@@ -17,8 +17,8 @@ use rfb_pixel::Colour;
 const COLOUR_SIZE: u32 = 6;
 
 impl Viewer {
-    ghost use Rattle.rfb_viewer.specs.Standing.{StandsFor, fault_of, picture_of, reason_of};
-    ghost use Rattle.rfb_viewer.specs.Standing.{offered_of, taken_of};
+    ghost use Rattle.rfb_viewer.specs.Model.{StandsFor, fault_of, picture_of, reason_of};
+    ghost use Rattle.rfb_viewer.specs.Model.{offered_of, taken_of};
 
     /// What the viewer shows, once there is a screen. Between two items it is the picture; of a
     /// rectangle under way it shows the whole pieces that came. It stays after a fault.

@@ -52,7 +52,7 @@ pub(crate) fn keep_move(moved: &mut ArrayVec<Move, MAX_MOVES>, painter: &Painter
 
 impl Viewer {
     ghost use Rattle.rfb_viewer.specs.Viewer.{Viewing, ViewerState};
-    ghost use Rattle.rfb_viewer.specs.Standing.{StandsFor, KeepsRest, picture_of};
+    ghost use Rattle.rfb_viewer.specs.Model.{StandsFor, KeepsRest, picture_of};
     ghost use Rattle.rfb_viewer.specs.Damage.{damage_of, ended_of};
     ghost use Rattle.rfb_viewer.specs.Moved.{moved_of};
 

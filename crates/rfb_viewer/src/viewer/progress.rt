@@ -2,7 +2,7 @@
 
 ghost use Rattle.std.specs.Prelude.{◌≡◌};
 ghost use Rattle.rfb_viewer.specs.declared.viewer.progress.Progress.{Progress};
-ghost use Rattle.rfb_viewer.specs.Standing.{is_outstanding};
+ghost use Rattle.rfb_viewer.specs.Model.{is_outstanding};
 ghost use Rattle.rfb_viewer.specs.inside.Steps.{at_message, at_rectangle};
 
 use crate::fault::ViewerFault;

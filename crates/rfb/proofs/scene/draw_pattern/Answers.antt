@@ -1,7 +1,7 @@
 use Rattle.std.proofs.Common.{◌≡◌, ◌∙◌, ap, ℕ, length, arith}
 use Rattle.rfb_picture.specs.Grid.{Grid, with_row}
 use Rattle.rfb_pixel.specs.declared.colour.Colour.{Colour}
-use Rattle.rfb_server.specs.Standing.{screen_of}
+use Rattle.rfb_server.specs.Model.{screen_of}
 use Rattle.rfb.specs.Scene.{begun_at}
 use Rattle.rfb.proofs.SceneLemmas.{above_all, above_more, above_none, begun_above, draws_none, draws_so, draws_then}
 use Rattle.rfb.proofs.SceneLemmas.{pattern_above, size_drawn}

@@ -1,7 +1,7 @@
 -- The rows above are drawn.
 use Rattle.std.proofs.Common.{◌≡◌, length}
 use Rattle.rfb_server.specs.Hints.{hints_of}
-use Rattle.rfb_server.specs.Standing.{Draws, screen_of}
+use Rattle.rfb_server.specs.Model.{Draws, screen_of}
 use Rattle.rfb.proofs.SceneLemmas.{pattern_above}
 use Rattle.rfb.proofs.scene.draw_pattern.Given as goal
 

@@ -2,7 +2,7 @@ use Rattle.std.proofs.Common.{◌≡◌, ◌∙◌, ◌-◌, ap, arith}
 use Rattle.rfb_picture.specs.Grid.{Grid}
 use Rattle.rfb_picture.specs.Rect.{rect}
 use Rattle.rfb_pixel.specs.declared.colour.Colour.{Colour}
-use Rattle.rfb_server.specs.Standing.{screen_of}
+use Rattle.rfb_server.specs.Model.{screen_of}
 use Rattle.rfb.specs.Scene.{last_row}
 use Rattle.rfb.proofs.SceneLemmas.{draws_so, draws_then, size_moved_up, stepped_is}
 use Rattle.rfb.proofs.scene.draw_step.Goals as goal

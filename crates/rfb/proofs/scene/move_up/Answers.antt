@@ -1,5 +1,5 @@
 use Rattle.std.proofs.Common.{◌∙◌, arith}
-use Rattle.rfb_server.specs.Standing.{screen_of}
+use Rattle.rfb_server.specs.Model.{screen_of}
 use Rattle.rfb.proofs.SceneLemmas.{draws_so, draws_then, moved_up_is, size_drawn}
 use Rattle.rfb.proofs.scene.move_up.Goals as goal
 

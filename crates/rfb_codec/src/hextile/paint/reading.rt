@@ -6,7 +6,7 @@ ghost use Rattle.rfb_pixel.specs.Format.{size_of};
 ghost use Rattle.rfb_wire.specs.stream.Reading.{More, Got};
 ghost use Rattle.rfb_wire.specs.stream.Parts.{optional};
 ghost use Rattle.rfb_wire.specs.RectStream.{is_on_screen};
-ghost use Rattle.rfb_wire.specs.stream.Placing.{FaultsWith};
+ghost use Rattle.rfb_wire.specs.stream.FaultPlace.{FaultsWith};
 ghost use Rattle.rfb_codec.specs.Tile.{Tile, is_raw, subrects_colored, mask_fault, tile_colour};
 ghost use Rattle.rfb_codec.specs.Tile.{after_mask, are_inside, places_of, place_of, tile_after};
 ghost use Rattle.rfb_codec.specs.inside.TileRead.{LiesIn, tile_of_read, TellsTile, IsShort};

@@ -8,7 +8,7 @@ ghost use Rattle.rfb_wire.specs.ClientHead.{SpellsClientCutText};
 ghost use Rattle.rfb_hello.specs.KeptText.{KeptText, kept_of};
 ghost use Rattle.rfb_server.specs.declared.session.input.progress.Progress.{Progress};
 ghost use Rattle.rfb_server.specs.Progress.{fault_in};
-ghost use Rattle.rfb_server.specs.Standing.{notes_in};
+ghost use Rattle.rfb_server.specs.Model.{notes_in};
 ghost use Rattle.rfb_server.specs.inside.Sessions.{KeepsUp};
 ghost use Rattle.rfb_server.specs.inside.Slice.{StepsAs, RunsOutAs};
 

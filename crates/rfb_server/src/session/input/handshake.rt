@@ -13,12 +13,12 @@ use arrayvec::ArrayVec;
 use rfb_hello::{Fed, ServerStep};
 
 impl Session {
-    ghost use Rattle.rfb_hello.specs.ServerStanding.{is_open};
+    ghost use Rattle.rfb_hello.specs.ServerModel.{is_open};
     ghost use Rattle.rfb_server.specs.declared.session.input.progress.Progress.{Progress};
     ghost use Rattle.rfb_server.specs.Progress.{fault_in};
     ghost use Rattle.rfb_server.specs.inside.Sessions.{KeepsUp};
     ghost use Rattle.rfb_server.specs.inside.Slice.{FeedsAs};
-    ghost use Rattle.rfb_server.specs.Failing.{EndsAs};
+    ghost use Rattle.rfb_server.specs.Failed.{EndsAs};
 
     // Takes bytes of the client's handshake, up to the last of its first step that makes an
     // event, or all. Bytes after the handshake are the messages'.

@@ -6,7 +6,7 @@ ghost use Rattle.arrayvec.specs.ArrayVec.{ArrayVec as Items};
 ghost use Rattle.rfb_wire.specs.ClientHead.{SpellsClientHead};
 ghost use Rattle.rfb_server.specs.declared.session.input.progress.Progress.{Progress};
 ghost use Rattle.rfb_server.specs.Progress.{fault_in};
-ghost use Rattle.rfb_server.specs.Standing.{notes_in};
+ghost use Rattle.rfb_server.specs.Model.{notes_in};
 ghost use Rattle.rfb_server.specs.inside.Sessions.{BeginsMessage, KeepsUp};
 ghost use Rattle.rfb_server.specs.inside.Slice.{AwaitsMore, StepsAs, RunsOutAs};
 

@@ -7,10 +7,10 @@ ghost use Rattle.rfb_picture.specs.Grid.{Grid};
 ghost use Rattle.rfb_server.specs.ClientBytes.{client_bytes_pending};
 ghost use Rattle.rfb_server.specs.Server.{Serving, ServerState};
 ghost use Rattle.rfb_server.specs.Progress.{fault_in, is_idle};
-ghost use Rattle.rfb_server.specs.Standing.{SessionStandsFor};
+ghost use Rattle.rfb_server.specs.Model.{SessionStandsFor};
 ghost use Rattle.rfb_server.specs.inside.Sessions.{KeepsUp};
 ghost use Rattle.rfb_server.specs.inside.Slice.{FeedsAs, IsRequestAlone};
-ghost use Rattle.rfb_server.specs.Failing.{EndsAs};
+ghost use Rattle.rfb_server.specs.Failed.{EndsAs};
 ghost use Rattle.rfb_server.specs.Counted.{IsPlacedIn};
 ghost use Rattle.rfb_server.specs.declared.fault.ServerFault.{ServerFault};
 
@@ -28,8 +28,8 @@ impl Session {
     ghost use Rattle.rfb_server.specs.Server.{server, AsksMemory};
     ghost use Rattle.rfb_server.specs.ClientBytes.{is_between};
     ghost use Rattle.rfb_server.specs.Told.{seen};
-    ghost use Rattle.rfb_server.specs.Standing.{session_fault, session_serving, notes_in};
-    ghost use Rattle.rfb_server.specs.Following.{Follows};
+    ghost use Rattle.rfb_server.specs.Model.{session_fault, session_serving, notes_in};
+    ghost use Rattle.rfb_server.specs.KnownScreen.{Follows};
     ghost use Rattle.rfb_server.specs.Hints.{hints_in};
 
     /// Takes bytes of the client's, up to the last of its first item that makes an event, or all.

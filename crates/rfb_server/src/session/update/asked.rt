@@ -1,7 +1,7 @@
 //! Whether a viewer waits for an update.
 
 ghost use Rattle.std.specs.Prelude.{◌↔◌, IsTrue};
-ghost use Rattle.rfb_server.specs.Updating.{HasAsked};
+ghost use Rattle.rfb_server.specs.UpdateCall.{HasAsked};
 
 use crate::session::Session;
 

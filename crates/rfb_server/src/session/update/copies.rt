@@ -5,7 +5,7 @@ ghost use Rattle.rfb_server.specs.Claims.{IsClaimed};
 ghost use Rattle.std.specs.Option.{ForSome};
 ghost use Rattle.std.specs.Vec.{vec_capacity};
 ghost use Rattle.rfb_server.specs.inside.Needs.{IsQuiet};
-ghost use Rattle.rfb_server.specs.Following.{Follows};
+ghost use Rattle.rfb_server.specs.KnownScreen.{Follows};
 ghost use Rattle.rfb_server.specs.inside.Sessions.{IsSame};
 ghost use Rattle.rfb_server.specs.inside.Sends.{IsKept};
 ghost use Rattle.rfb_server.specs.inside.Copies.{SendsHint, IsUseful, AppendsCopies, usable_hints};

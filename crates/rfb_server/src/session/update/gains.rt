@@ -4,9 +4,9 @@ ghost use Rattle.std.specs.Prelude.{◌≡◌, ◌+◌, ◌*◌, ◌≤◌, ◌<
 ghost use Rattle.std.specs.Bool.{OnTrue, OnFalse};
 ghost use Rattle.rfb_picture.specs.Grid.{Holds};
 ghost use Rattle.rfb_server.specs.Claims.{IsClaimed};
-ghost use Rattle.rfb_server.specs.Following.{Follows};
+ghost use Rattle.rfb_server.specs.KnownScreen.{Follows};
 ghost use Rattle.rfb_server.specs.inside.Copies.{IsFree, IsUseful};
-ghost use Rattle.rfb_server.specs.Composing.{count_rows, count_in};
+ghost use Rattle.rfb_server.specs.Composition.{count_rows, count_in};
 ghost use Rattle.rfb_server.specs.inside.Gains.{MayCopy, HasMoreRight, IsJudged, line};
 ghost use Rattle.rfb_server.specs.inside.Gains.{right_before, right_after};
 

@@ -4,8 +4,8 @@ use Rattle.rfb_session.specs.declared.drive.driver.Driver.{Driver}
 use Rattle.rfb_session.specs.doors.Events.{Event, Received, Ended, Failed, Wrote, Turned, came}
 use Rattle.rfb_session.specs.drive.driver.Input.{IsLineOf}
 use Rattle.rfb_session.specs.drive.driver.Rigs.{Rigging}
-use Rattle.rfb_session.specs.drive.driver.Running.{RunsLine, may_begin}
-use Rattle.rfb_session.specs.drive.driver.Turning.{Passes, first_at}
+use Rattle.rfb_session.specs.drive.driver.LineRun.{RunsLine, may_begin}
+use Rattle.rfb_session.specs.drive.driver.DriverTurn.{Passes, first_at}
 
 -- texts one after another
 abbrev pub texts_joined : List (List ℕ) → List ℕ

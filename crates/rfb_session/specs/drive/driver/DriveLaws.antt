@@ -2,7 +2,7 @@
 use Rattle.std.specs.Prelude.{◌≡◌, ◌≤◌, ℕ, List, [], ◌∷◌, Some, None, false}
 use Rattle.rfb_session.specs.declared.drive.driver.task.Task.{Task}
 use Rattle.rfb_session.specs.declared.drive.driver.task.Task.TheVariants.{Idle, Sending, Still, Wait, Change, Expect}
-use Rattle.rfb_session.specs.drive.driver.Sending.{Act, OfKey, OfPointer, OfText}
+use Rattle.rfb_session.specs.drive.driver.Acts.{Act, OfKey, OfPointer, OfText}
 use Rattle.rfb_session.specs.drive.driver.Tasks.{is_passed, lateness}
 
 -- the buttons that are down after messages

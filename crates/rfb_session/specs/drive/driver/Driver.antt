@@ -18,7 +18,7 @@ use Rattle.rfb_viewer.specs.Call.{refused_by}
 use Rattle.rfb_viewer.specs.Calls.{requested}
 use Rattle.rfb_viewer.specs.Damage.{damage_of}
 use Rattle.rfb_viewer.specs.Messages.{request_message}
-use Rattle.rfb_viewer.specs.Standing.{StandsFor, picture_of}
+use Rattle.rfb_viewer.specs.Model.{StandsFor, picture_of}
 use Rattle.rfb_viewer.specs.Viewer.{first_viewer}
 use Rattle.rfb_session.specs.declared.drive.driver.Driver.{Driver}
 use Rattle.rfb_session.specs.declared.drive.driver.DriverSetup.{DriverSetup}
@@ -33,9 +33,9 @@ use Rattle.rfb_session.specs.LinkBytes.{IsCalled}
 use Rattle.rfb_session.specs.Mirrors.{TakesBytes, FailsAt, KeepsViewing}
 use Rattle.rfb_session.specs.relay.Calls.{is_shown_size}
 use Rattle.rfb_session.specs.relay.Setup.{viewing_by}
-use Rattle.rfb_session.specs.drive.driver.DriveTelling.{ready_line, done_line, changed_line, drive_bell_line}
-use Rattle.rfb_session.specs.drive.driver.DriveTelling.{drive_text_line}
-use Rattle.rfb_session.specs.drive.driver.Looking.{joined, whole_of}
+use Rattle.rfb_session.specs.drive.driver.RigLines.{ready_line, done_line, changed_line, drive_bell_line}
+use Rattle.rfb_session.specs.drive.driver.RigLines.{drive_text_line}
+use Rattle.rfb_session.specs.drive.driver.Sight.{joined, whole_of}
 use Rattle.rfb_session.specs.drive.driver.Tasks.{HearsChange}
 
 -- no line is under way, and nothing has changed since the last one was done

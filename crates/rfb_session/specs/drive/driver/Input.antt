@@ -2,7 +2,7 @@
 use Rattle.std.specs.Prelude.{◌≡◌, ◌==◌, ◌+◌, ◌<◌, ◌≤◌, ◌⊎◌, ℕ, Bool, true, false, List, [], ◌∷◌, ◌++◌}
 use Rattle.std.specs.Prelude.{length, take, drop, nat_le, not, ◌&&◌}
 use Rattle.std.specs.List.{list_any}
-use Rattle.rfb_wire.specs.stream.Placing.{counted_on}
+use Rattle.rfb_wire.specs.stream.FaultPlace.{counted_on}
 use Rattle.rfb_session.specs.declared.drive.driver.input.Input.{Input}
 use Rattle.rfb_session.specs.declared.drive.driver.input.Upcoming.{Upcoming}
 use Rattle.rfb_session.specs.declared.drive.driver.input.Upcoming.TheVariants.{Partial, Line, TooLong, Over}

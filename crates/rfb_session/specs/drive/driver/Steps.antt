@@ -10,9 +10,9 @@ use Rattle.rfb_session.specs.doors.Events.{Event, Received, Ended, Failed, Wrote
 use Rattle.rfb_session.specs.drive.driver.Driver.{FinishesIf, HearsDriven, LosesServer, ends}
 use Rattle.rfb_session.specs.drive.driver.Input.{ended, with_bytes}
 use Rattle.rfb_session.specs.drive.driver.Rigs.{Rigging}
-use Rattle.rfb_session.specs.drive.driver.Running.{with_task}
+use Rattle.rfb_session.specs.drive.driver.LineRun.{with_task}
 use Rattle.rfb_session.specs.drive.driver.Tasks.{is_sent, left_by}
-use Rattle.rfb_session.specs.drive.driver.Turning.{GoesOn, with_rooms, with_turns}
+use Rattle.rfb_session.specs.drive.driver.DriverTurn.{GoesOn, with_rooms, with_turns}
 
 -- what tells has failed
 abbrev pub is_lost : Option DriveOutcome → Bool

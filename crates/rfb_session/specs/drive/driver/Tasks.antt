@@ -4,7 +4,7 @@ use Rattle.std.specs.Prelude.{Option, Some, None, if◌then◌else◌}
 use Rattle.rfb_pixel.specs.declared.colour.Colour.{Colour}
 use Rattle.rfb_picture.specs.declared.rect.Rect.{Rect}
 use Rattle.rfb_picture.specs.Grid.{Grid}
-use Rattle.rfb_wire.specs.stream.Placing.{counted_on}
+use Rattle.rfb_wire.specs.stream.FaultPlace.{counted_on}
 use Rattle.rfb_session.specs.console.Time.{begun as first_of}
 use Rattle.rfb_session.specs.declared.drive.driver.saying.Lateness.{Lateness}
 use Rattle.rfb_session.specs.declared.drive.driver.saying.Lateness.TheVariants as Late
@@ -14,7 +14,7 @@ use Rattle.rfb_session.specs.declared.drive.driver.task.Task.{Task}
 use Rattle.rfb_session.specs.declared.drive.driver.task.Task.TheVariants.{Idle, Sending, Still, Wait, Change, Expect}
 use Rattle.rfb_session.specs.declared.drive.words.Likeness.{Likeness}
 use Rattle.rfb_session.specs.declared.netpbm.Pixmap.{Pixmap}
-use Rattle.rfb_session.specs.drive.driver.Looking.{IsSame, IsUnlike, Fits, rect_of, touches}
+use Rattle.rfb_session.specs.drive.driver.Sight.{IsSame, IsUnlike, Fits, rect_of, touches}
 
 abbrev pub is_idle : Task → Bool
 is_idle Idle = true

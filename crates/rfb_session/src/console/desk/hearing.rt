@@ -1,7 +1,7 @@
 //! Bytes that a viewer sent to a console.
 
 ghost use Rattle.std.specs.Prelude.{◌≡◌, ◌≤◌, ◌<◌, ◌++◌, ℕ, List, length, IfOk, OnOk, []};
-ghost use Rattle.rfb_session.specs.console.Telling.{told_line};
+ghost use Rattle.rfb_session.specs.console.SeatLines.{told_line};
 ghost use Rattle.rfb_session.specs.console.Desk.{guest_at, lines_of, KeepsRules, OtherGuests};
 ghost use Rattle.rfb_session.specs.console.Viewers.{HearsAt, Stirs, TellsOf, TellsEvent};
 ghost use Rattle.rfb_session.specs.console.Viewers.{CountsTold, Fails};

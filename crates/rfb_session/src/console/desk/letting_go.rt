@@ -2,8 +2,8 @@
 
 ghost use Rattle.std.specs.Prelude.{◌≡◌, ◌<◌, ℕ, List, IfOk, OnOk, cond, []};
 ghost use Rattle.rfb_picture.specs.Places.{has_bit};
-ghost use Rattle.rfb_session.specs.owner.Telling.{leave_line};
-ghost use Rattle.rfb_session.specs.console.Telling.{IsFaultLine};
+ghost use Rattle.rfb_session.specs.owner.ShareLines.{leave_line};
+ghost use Rattle.rfb_session.specs.console.SeatLines.{IsFaultLine};
 ghost use Rattle.rfb_session.specs.console.Desk.{nobody, guest_at, lines_of, KeepsRules};
 ghost use Rattle.rfb_session.specs.console.Desk.{OtherGuests};
 ghost use Rattle.rfb_session.specs.console.Viewers.{LetsGo, LetsGoFor, LetsGoIf, LetsAllGo};

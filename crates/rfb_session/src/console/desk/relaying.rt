@@ -9,7 +9,7 @@ ghost use Rattle.rfb_session.specs.relay.Desk.{TellsSome, told_of_server, LosesD
 ghost use Rattle.rfb_session.specs.relay.Desk.{CallsDesk, whole_of, ShowsAgain, BeginsAnew};
 ghost use Rattle.rfb_session.specs.relay.Desk.{TellsServer, up_of};
 ghost use Rattle.rfb_session.specs.Mirrors.{StandsOrFailed};
-ghost use Rattle.rfb_session.specs.ShareAsking.{SomeAsked};
+ghost use Rattle.rfb_session.specs.ShareWaiters.{SomeAsked};
 
 use crate::channel::Channel;
 use crate::console::desk::{Desk, Hold, LINES_ROOM};

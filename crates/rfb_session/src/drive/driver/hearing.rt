@@ -5,8 +5,8 @@ ghost use Rattle.rfb_session.specs.drive.driver.Driver.{Asks, BeginsShowing, Cha
 ghost use Rattle.rfb_session.specs.drive.driver.Driver.{HearsDriven, Meets, Readies, Sends};
 ghost use Rattle.rfb_session.specs.drive.driver.Driver.{ShowsOrChanges, TellsIf, TellsLine};
 ghost use Rattle.rfb_session.specs.drive.driver.Driver.{Updates};
-ghost use Rattle.rfb_session.specs.drive.driver.DriveTelling.{changed_line};
-ghost use Rattle.rfb_session.specs.drive.driver.Looking as spec;
+ghost use Rattle.rfb_session.specs.drive.driver.RigLines.{changed_line};
+ghost use Rattle.rfb_session.specs.drive.driver.Sight as spec;
 ghost use Rattle.rfb_session.specs.relay.Calls.{is_shown_size};
 
 use crate::drive::driver::lines::{bell_line, changed_line, ready_line, text_line};

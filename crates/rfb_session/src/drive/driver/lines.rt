@@ -1,8 +1,8 @@
 //! Lines that tell a rig what happens.
 
 ghost use Rattle.std.specs.Prelude.{◌≡◌, IfOk};
-ghost use Rattle.rfb_session.specs.drive.driver.DriveTelling.{ready_line, done_line, changed_line};
-ghost use Rattle.rfb_session.specs.drive.driver.DriveTelling.{drive_bell_line, drive_text_line};
+ghost use Rattle.rfb_session.specs.drive.driver.RigLines.{ready_line, done_line, changed_line};
+ghost use Rattle.rfb_session.specs.drive.driver.RigLines.{drive_bell_line, drive_text_line};
 
 use crate::owner::tell_text_hex;
 use rfb_picture::Rect;

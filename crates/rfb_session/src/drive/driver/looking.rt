@@ -2,8 +2,8 @@
 
 ghost use Rattle.std.specs.Prelude.{◌≡◌, ◌<◌, ◌↔◌, IsTrue};
 ghost use Rattle.rfb_session.specs.drive.Compare.{Differs, rows_of};
-ghost use Rattle.rfb_session.specs.drive.driver.Looking.{Fits, IsUnlike, Sees, touched, touches};
-ghost use Rattle.rfb_session.specs.drive.driver.Looking.{is_part, rect_of, whole_of, part_or};
+ghost use Rattle.rfb_session.specs.drive.driver.Sight.{Fits, IsUnlike, Sees, touched, touches};
+ghost use Rattle.rfb_session.specs.drive.driver.Sight.{is_part, rect_of, whole_of, part_or};
 
 use crate::drive::comparing::{Difference, compare};
 use crate::drive::driver::saying::Unlike;

@@ -1,7 +1,7 @@
 //! Lines that name files.
 
-ghost use Rattle.rfb_session.specs.drive.driver.Running.{AwaitsPicture, Expects, FailsFor, Pastes};
-ghost use Rattle.rfb_session.specs.drive.driver.Running.{Saves};
+ghost use Rattle.rfb_session.specs.drive.driver.LineRun.{AwaitsPicture, Expects, FailsFor, Pastes};
+ghost use Rattle.rfb_session.specs.drive.driver.LineRun.{Saves};
 
 use crate::drive::driver::looking::{Sight, is_part, look, part_or};
 use crate::drive::driver::rig::RigFault;

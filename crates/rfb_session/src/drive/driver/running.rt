@@ -1,13 +1,13 @@
 //! The lines of the rig, one after another.
 
 ghost use Rattle.std.specs.Prelude.{◌≡◌, ◌≤◌, ◌<◌, ◌-◌, ◌^◌, length};
-ghost use Rattle.rfb_session.specs.drive.driver.Running.{Begins, RunsLine, RunsLines, SendsLine};
-ghost use Rattle.rfb_session.specs.drive.driver.Running.{Awaits, AwaitsChange, LetsSend, SetsLimit};
-ghost use Rattle.rfb_session.specs.drive.driver.Running.{RefusesLong, Rests, RunsRead, is_free};
-ghost use Rattle.rfb_session.specs.drive.driver.Running.{may_begin};
-ghost use Rattle.rfb_session.specs.drive.driver.Running.{has_part, place_off, screen_of};
-ghost use Rattle.rfb_session.specs.drive.driver.Running as spec;
-ghost use Rattle.rfb_session.specs.drive.driver.Sending.{place_named};
+ghost use Rattle.rfb_session.specs.drive.driver.LineRun.{Begins, RunsLine, RunsLines, SendsLine};
+ghost use Rattle.rfb_session.specs.drive.driver.LineRun.{Awaits, AwaitsChange, LetsSend, SetsLimit};
+ghost use Rattle.rfb_session.specs.drive.driver.LineRun.{RefusesLong, Rests, RunsRead, is_free};
+ghost use Rattle.rfb_session.specs.drive.driver.LineRun.{may_begin};
+ghost use Rattle.rfb_session.specs.drive.driver.LineRun.{has_part, place_off, screen_of};
+ghost use Rattle.rfb_session.specs.drive.driver.LineRun as spec;
+ghost use Rattle.rfb_session.specs.drive.driver.Acts.{place_named};
 
 use crate::drive::drive_line::DriveLine;
 use crate::drive::driver::input::{Upcoming, is_skipped};

@@ -2,11 +2,11 @@
 
 ghost use Rattle.std.specs.Prelude.{◌≡◌, ◌≤◌, ◌++◌, ◌∷◌, [], length, map, take, IfOk};
 ghost use Rattle.std.specs.Str.{chars};
-ghost use Rattle.rfb_session.specs.drive.Typing.{typed};
-ghost use Rattle.rfb_session.specs.drive.driver.Sending as spec;
-ghost use Rattle.rfb_session.specs.drive.driver.Sending.{OfKey, OfPointer, OfText, acts_of};
-ghost use Rattle.rfb_session.specs.drive.driver.Sending.{clicks, pasted, place_named, pressed};
-ghost use Rattle.rfb_session.specs.drive.driver.Sending.{spelled, turning};
+ghost use Rattle.rfb_session.specs.drive.Keyboard.{typed};
+ghost use Rattle.rfb_session.specs.drive.driver.Acts as spec;
+ghost use Rattle.rfb_session.specs.drive.driver.Acts.{OfKey, OfPointer, OfText, acts_of};
+ghost use Rattle.rfb_session.specs.drive.driver.Acts.{clicks, pasted, place_named, pressed};
+ghost use Rattle.rfb_session.specs.drive.driver.Acts.{spelled, turning};
 
 use crate::drive::drive_line::DriveLine;
 use crate::drive::key_event::KeyEvent;

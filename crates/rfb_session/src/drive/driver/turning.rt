@@ -1,10 +1,10 @@
 //! The turns of a driver.
 
 ghost use Rattle.std.specs.Prelude.{◌≡◌};
-ghost use Rattle.rfb_session.specs.drive.driver.Turning.{GivesUp, GivesUpFirst, GoesOn, Keeps};
-ghost use Rattle.rfb_session.specs.drive.driver.Turning.{Passes};
-ghost use Rattle.rfb_session.specs.drive.driver.Turning.{due_at, first_at, is_heard};
-ghost use Rattle.rfb_session.specs.drive.driver.Turning.{with_rooms, with_turns};
+ghost use Rattle.rfb_session.specs.drive.driver.DriverTurn.{GivesUp, GivesUpFirst, GoesOn, Keeps};
+ghost use Rattle.rfb_session.specs.drive.driver.DriverTurn.{Passes};
+ghost use Rattle.rfb_session.specs.drive.driver.DriverTurn.{due_at, first_at, is_heard};
+ghost use Rattle.rfb_session.specs.drive.driver.DriverTurn.{with_rooms, with_turns};
 
 use crate::drive::driver::saying::DriveSaying;
 use crate::drive::driver::{DriveOutcome, Driver, ROOM, Rig};

@@ -3,17 +3,17 @@
 ghost use Rattle.std.specs.Prelude.{◌≡◌, ◌≤◌, ◌<◌, ◌+◌, ◌-◌, ◌^◌, length, min, take};
 ghost use Rattle.std.specs.Bool.{OnFalse, OnTrue};
 ghost use Rattle.std.specs.Prelude.{IfOk, IfErr, IfSome, OnErr, OnOk};
-ghost use Rattle.rfb_viewer.specs.Standing.{fault_of};
+ghost use Rattle.rfb_viewer.specs.Model.{fault_of};
 ghost use Rattle.rfb_viewer.specs.Told.{seen};
 ghost use Rattle.rfb_wire.specs.stream.End.{StaysFailed};
 ghost use Rattle.rfb_session.specs.Failed.{StaysUnfed};
-ghost use Rattle.rfb_session.specs.Playing.{AllPlayed};
-ghost use Rattle.rfb_session.specs.PlayingSome.{AreEnough, AreFewer, AreNoFewer, AreNoMore};
-ghost use Rattle.rfb_session.specs.PlayingSome.{IsWatchedFirst, PlayedFirst, StopsPlayingUpTo};
-ghost use Rattle.rfb_session.specs.PlayingSome.{WasCounted};
+ghost use Rattle.rfb_session.specs.Playback.{AllPlayed};
+ghost use Rattle.rfb_session.specs.FirstUpdates.{AreEnough, AreFewer, AreNoFewer, AreNoMore};
+ghost use Rattle.rfb_session.specs.FirstUpdates.{IsWatchedFirst, PlayedFirst, StopsPlayingUpTo};
+ghost use Rattle.rfb_session.specs.FirstUpdates.{WasCounted};
 ghost use Rattle.rfb_session.specs.Watcher.{EndsPlaying, EndsRead, HearsCounted, HearsOf};
 ghost use Rattle.rfb_session.specs.Watcher.{HearsRead};
-ghost use Rattle.rfb_session.specs.Watching.{EndsBy, EndsWithin, IsWatched, ends_told};
+ghost use Rattle.rfb_session.specs.ViewerActs.{EndsBy, EndsWithin, IsWatched, ends_told};
 
 use crate::engine::UPDATE_READ_SIZE;
 use crate::engine::device::Source;

@@ -1,13 +1,13 @@
 //! What a viewer tells, answered, and requests where they are due.
 
 ghost use Rattle.std.specs.Prelude.{◌≡◌, ◌≤◌, ◌<◌, ◌+◌, ◌-◌, ◌^◌, [], List, ℕ, IfOk, OnOk, OnErr};
-ghost use Rattle.rfb_viewer.specs.Standing.{StandsFor};
+ghost use Rattle.rfb_viewer.specs.Model.{StandsFor};
 ghost use Rattle.rfb_viewer.specs.Told.{seen};
 ghost use Rattle.rfb_viewer.specs.Viewer.{Viewing, ViewerState};
-ghost use Rattle.rfb_session.specs.Looking.{HasAsked, IsAnswered, IsCutInAnswer, IsCutInAsking};
-ghost use Rattle.rfb_session.specs.Looking.{MayAsk};
+ghost use Rattle.rfb_session.specs.EngineRead.{HasAsked, IsAnswered, IsCutInAnswer, IsCutInAsking};
+ghost use Rattle.rfb_session.specs.EngineRead.{MayAsk};
 ghost use Rattle.rfb_session.specs.ViewEngine.{due_after};
-ghost use Rattle.rfb_session.specs.Watching.{ends_told, whole_area};
+ghost use Rattle.rfb_session.specs.ViewerActs.{ends_told, whole_area};
 ghost use Rattle.rfb_session.specs.Wire.{by_steps};
 
 use crate::engine::fault::Device;

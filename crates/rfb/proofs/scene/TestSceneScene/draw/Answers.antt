@@ -1,5 +1,5 @@
 use Rattle.std.proofs.Common.{◌≡◌, arith, rules}
-use Rattle.rfb_server.specs.Standing.{screen_of}
+use Rattle.rfb_server.specs.Model.{screen_of}
 use Rattle.rfb.proofs.SceneLemmas.{size_stepped, stepped_empty}
 use Rattle.rfb.proofs.scene.TestSceneScene.draw.Goals as goal
 

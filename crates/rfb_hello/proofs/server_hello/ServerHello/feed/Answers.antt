@@ -3,7 +3,7 @@ use Rattle.std.proofs.lemmas.List.{take_rest}
 use Rattle.std.proofs.lemmas.Result.{err_from_is_err_and}
 use Rattle.rfb_wire.proofs.stream_laws.FeedLaws.{fed_more, refused_later}
 use Rattle.rfb_hello.specs.ServerEnd.{server_end}
-use Rattle.rfb_hello.specs.ServerStanding.{StandsFor}
+use Rattle.rfb_hello.specs.ServerModel.{StandsFor}
 use Rattle.rfb_hello.proofs.ServerHelloLemmas.{none_told, some_told, server_machine}
 use Rattle.rfb_hello.proofs.server_hello.ServerHello.feed.Goals as goal
 

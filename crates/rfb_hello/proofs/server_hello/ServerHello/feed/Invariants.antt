@@ -1,7 +1,7 @@
 use Rattle.std.proofs.Common.{◌≡◌, ◌+◌, ◌-◌, ◌≤◌, length, take, true, None}
 use Rattle.rfb_wire.specs.stream.End.{FedBy}
 use Rattle.rfb_hello.specs.ServerEnd.{ServerSetup, server_end}
-use Rattle.rfb_hello.specs.ServerStanding.{StandsFor, fault_of, is_open, setup_of, left_of}
+use Rattle.rfb_hello.specs.ServerModel.{StandsFor, fault_of, is_open, setup_of, left_of}
 use Rattle.rfb_hello.proofs.server_hello.ServerHello.feed.Given as goal
 
 abbrev pub invariant-loop-used : goal.invariant-loop-used

@@ -6,8 +6,8 @@ use Rattle.rfb_wire.proofs.stream_laws.FeedLaws.{fed_step, fault_step, memory_st
 use Rattle.rfb_hello.specs.declared.fault.HelloFault.TheVariants.{NoMemory}
 use Rattle.rfb_hello.specs.declared.step.ViewerStep.{ViewerStep}
 use Rattle.rfb_hello.specs.ViewerEnd.{viewer_end, AsksMemory}
-use Rattle.rfb_hello.specs.Offering.{KeepsOffer, TakesOffer}
-use Rattle.rfb_hello.specs.ViewerStanding.{StandsFor, KeepsReason, goes_on_after}
+use Rattle.rfb_hello.specs.Offer.{KeepsOffer, TakesOffer}
+use Rattle.rfb_hello.specs.ViewerModel.{StandsFor, KeepsReason, goes_on_after}
 use Rattle.rfb_hello.proofs.ServerHelloLemmas.{none_told, some_told}
 use Rattle.rfb_hello.proofs.ViewerStepLemmas.{viewer_machine}
 use Rattle.rfb_hello.proofs.ViewerHelloLemmas.{viewer_starts, not_failed, step_there}

@@ -1,8 +1,8 @@
 use Rattle.std.proofs.Common.{◌≡◌, ◌-◌, ◌≤◌, length, take, true, None}
 use Rattle.rfb_wire.specs.stream.End.{FedBy}
 use Rattle.rfb_hello.specs.ViewerEnd.{ViewerSetup, viewer_end}
-use Rattle.rfb_hello.specs.Offering.{offered_of}
-use Rattle.rfb_hello.specs.ViewerStanding.{StandsFor, fault_of, is_open, setup_of}
+use Rattle.rfb_hello.specs.Offer.{offered_of}
+use Rattle.rfb_hello.specs.ViewerModel.{StandsFor, fault_of, is_open, setup_of}
 use Rattle.rfb_hello.proofs.viewer_hello.ViewerHello.feed.Given as goal
 
 abbrev pub invariant-loop-used : goal.invariant-loop-used

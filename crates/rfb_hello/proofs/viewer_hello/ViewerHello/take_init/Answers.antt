@@ -3,11 +3,11 @@ use Rattle.std.proofs.lemmas.List.{take_rest}
 use Rattle.byteorder.specs.Endian.{big_number}
 use Rattle.rfb_wire.specs.Fields.{u16_at, u32_at}
 use Rattle.rfb_hello.specs.declared.step.ViewerStep.{ViewerStep}
-use Rattle.rfb_hello.specs.ServerReading.{screen_fault}
+use Rattle.rfb_hello.specs.ServerItems.{screen_fault}
 use Rattle.rfb_hello.specs.ViewerEnd.{told_of_init, viewer_end}
 use Rattle.rfb_wire.specs.stream.End.{StepsBy}
-use Rattle.rfb_hello.specs.Offering.{TakesOffer}
-use Rattle.rfb_hello.specs.ViewerStanding.{StandsFor}
+use Rattle.rfb_hello.specs.Offer.{TakesOffer}
+use Rattle.rfb_hello.specs.ViewerModel.{StandsFor}
 use Rattle.rfb_hello.specs.inside.ViewerPiece.{progress_after_init}
 use Rattle.rfb_hello.proofs.ViewerStepLemmas.{becomes}
 use Rattle.rfb_hello.proofs.ViewerHelloLemmas.{init_told, init_asks, init_keeps}

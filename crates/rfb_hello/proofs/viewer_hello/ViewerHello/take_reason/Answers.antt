@@ -5,7 +5,7 @@ use Rattle.rfb_hello.specs.declared.fault.HelloFault.{HelloFault}
 use Rattle.rfb_hello.specs.declared.viewer_hello.progress.Progress.TheVariants.{Failed}
 use Rattle.rfb_hello.specs.ViewerEnd.{viewer_end}
 use Rattle.rfb_hello.specs.inside.ViewerPiece.{fault_for}
-use Rattle.rfb_hello.specs.ViewerStanding.{StandsFor, KeepsReason}
+use Rattle.rfb_hello.specs.ViewerModel.{StandsFor, KeepsReason}
 use Rattle.rfb_hello.proofs.ViewerReasonLemmas.{reason_part, reason_told, text_kept}
 use Rattle.rfb_hello.proofs.viewer_hello.ViewerHello.take_reason.Goals as goal
 

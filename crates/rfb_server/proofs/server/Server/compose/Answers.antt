@@ -1,6 +1,6 @@
 use Rattle.std.proofs.Common.{refl}
 use Rattle.std.proofs.lemmas.Result.{IfOk-weaker, IfErr-weaker}
-use Rattle.rfb_server.specs.Standing.{KeepsSession}
+use Rattle.rfb_server.specs.Model.{KeepsSession}
 use Rattle.rfb_server.proofs.UpdatingLemmas.{draws}
 use Rattle.rfb_server.proofs.server.Server.compose.Goals as goal
 

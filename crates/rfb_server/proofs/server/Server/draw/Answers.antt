@@ -1,5 +1,5 @@
 use Rattle.std.proofs.Common.{refl}
-use Rattle.rfb_server.specs.Drawing.{stroke}
+use Rattle.rfb_server.specs.Strokes.{stroke}
 use Rattle.rfb_server.proofs.DrawingLaws.{follows_stroke}
 use Rattle.rfb_server.proofs.UpdatingLemmas.{draws}
 use Rattle.rfb_server.proofs.server.Server.draw.Goals as goal

@@ -6,7 +6,7 @@ use Rattle.rfb_picture.specs.Grid.{Grid}
 use Rattle.rfb_picture.specs.Box.{is_in}
 use Rattle.rfb_picture.specs.Places.{HasBitsBetween}
 use Rattle.rfb_server.specs.inside.Gains.{right_before}
-use Rattle.rfb_server.specs.Composing.{count_row}
+use Rattle.rfb_server.specs.Composition.{count_row}
 use Rattle.rfb_server.proofs.BitCountLemmas.{ones_between, row_le}
 use Rattle.rfb_server.proofs.RightLemmas.{before_bits}
 use Rattle.rfb_server.proofs.session.Session.before_by.Goals as goal

@@ -1,5 +1,5 @@
 use Rattle.std.proofs.Common.{◌≡◌, ◌-◌, ◌≤◌, arith}
-use Rattle.rfb_server.specs.Composing.{count_row}
+use Rattle.rfb_server.specs.Composition.{count_row}
 use Rattle.rfb_server.specs.inside.Gains.{part, right_before}
 use Rattle.rfb_server.proofs.RightRowsLemmas.{before_part}
 use Rattle.rfb_server.proofs.session.Session.before_in_row.Goals as goal

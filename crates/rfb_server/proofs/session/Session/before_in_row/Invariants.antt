@@ -1,5 +1,5 @@
 use Rattle.std.proofs.Common.{◌≡◌, ◌+◌, ◌-◌, ◌≤◌}
-use Rattle.rfb_server.specs.Composing.{count_row}
+use Rattle.rfb_server.specs.Composition.{count_row}
 use Rattle.rfb_server.specs.inside.Gains.{right_before}
 use Rattle.rfb_server.proofs.session.Session.before_in_row.Given as goal
 

@@ -1,7 +1,7 @@
 use Rattle.std.proofs.Common.{refl, sym, ap, ◌∙◌, ◌≡◌, Some, None}
 use Rattle.circular_buffer.specs.Buffer.{Buffer}
 use Rattle.rfb_server.specs.declared.hint.Hint.{Hint}
-use Rattle.rfb_server.specs.Standing.{session_fault}
+use Rattle.rfb_server.specs.Model.{session_fault}
 use Rattle.rfb_server.proofs.MarksLemmas.{follows_up}
 use Rattle.rfb_server.proofs.SliceLemmas.{ok_map, err_map, serving_kept}
 use Rattle.rfb_server.proofs.EndingLemmas.{ends_refuse, ends_starve, failed_ends}

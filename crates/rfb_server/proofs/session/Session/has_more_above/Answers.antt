@@ -1,5 +1,5 @@
 use Rattle.std.proofs.Common.{◌≡◌, ◌+◌, ◌-◌, ◌*◌, ◌≤◌, refl, arith}
-use Rattle.rfb_server.specs.Composing.{count_row}
+use Rattle.rfb_server.specs.Composition.{count_row}
 use Rattle.rfb_server.specs.inside.Gains.{line, right_before}
 use Rattle.rfb_server.proofs.RightRowsLemmas.{before_row, rows_left, few_rows, few_places}
 use Rattle.rfb_server.proofs.session.Session.has_more_above.Goals as goal

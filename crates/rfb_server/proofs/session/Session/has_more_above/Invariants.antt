@@ -1,5 +1,5 @@
 use Rattle.std.proofs.Common.{◌≡◌, ◌+◌}
-use Rattle.rfb_server.specs.Composing.{count_rows}
+use Rattle.rfb_server.specs.Composition.{count_rows}
 use Rattle.rfb_server.specs.inside.Gains.{right_before}
 use Rattle.rfb_server.proofs.session.Session.has_more_above.Given as goal
 

@@ -1,5 +1,5 @@
 use Rattle.std.proofs.Common.{◌≡◌, ◌+◌, ◌-◌, ◌*◌, ◌≤◌, refl, sym, arith}
-use Rattle.rfb_server.specs.Composing.{count_row}
+use Rattle.rfb_server.specs.Composition.{count_row}
 use Rattle.rfb_server.specs.inside.Gains.{line, right_before, right_after}
 use Rattle.rfb_server.proofs.QuietLemmas.{rows_bound}
 use Rattle.rfb_server.proofs.RightRowsLemmas.{before_row, after_row, rows_left, few_rows, few_places}

@@ -5,9 +5,9 @@ use Rattle.rfb_picture.specs.Grid.{Grid, Holds}
 use Rattle.rfb_codec.specs.RectData.{moved_to}
 use Rattle.rfb_server.specs.declared.hint.Hint.{Hint}
 use Rattle.rfb_server.specs.declared.session.Session.{Session}
-use Rattle.rfb_server.specs.Following.{Follows}
+use Rattle.rfb_server.specs.KnownScreen.{Follows}
 use Rattle.rfb_server.specs.Record.{AreKnown}
-use Rattle.rfb_server.specs.Using.{move_of}
+use Rattle.rfb_server.specs.UsedHints.{move_of}
 use Rattle.rfb_server.specs.inside.Copies.{IsFree, IsUseful}
 use Rattle.rfb_server.specs.inside.Gains.{HasMoreRight}
 use Rattle.rfb_server.specs.inside.Sends.{state_of}

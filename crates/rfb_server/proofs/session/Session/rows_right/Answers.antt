@@ -1,5 +1,5 @@
 use Rattle.std.proofs.Common.{◌≡◌, ◌+◌, ◌*◌, ◌≤◌, sym, arith}
-use Rattle.rfb_server.specs.Composing.{count_row}
+use Rattle.rfb_server.specs.Composition.{count_row}
 use Rattle.rfb_server.specs.inside.Gains.{line, right_after}
 use Rattle.rfb_server.proofs.RightRowsLemmas.{after_row}
 use Rattle.rfb_server.proofs.session.Session.rows_right.Goals as goal

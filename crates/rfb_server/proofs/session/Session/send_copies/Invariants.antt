@@ -3,7 +3,7 @@ use Rattle.std.specs.Option.{ForSome}
 use Rattle.std.specs.Vec.{vec_capacity}
 use Rattle.rfb_server.specs.inside.Needs.{IsQuiet}
 use Rattle.rfb_server.specs.Claims.{IsClaimed}
-use Rattle.rfb_server.specs.Following.{Follows}
+use Rattle.rfb_server.specs.KnownScreen.{Follows}
 use Rattle.rfb_server.specs.inside.Sends.{IsKept}
 use Rattle.rfb_server.specs.inside.Copies.{AppendsCopies, IsUseful}
 use Rattle.rfb_server.proofs.session.Session.send_copies.Given as goal

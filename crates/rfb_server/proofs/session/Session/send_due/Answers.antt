@@ -3,7 +3,7 @@ use Rattle.std.proofs.Common.{vec_len, ◌*◌, ℕ, List, refl, sym, subst, rul
 use Rattle.rfb_server.specs.inside.Composed.{HasComposed}
 use Rattle.std.specs.Int.{div_ceil}
 use Rattle.rfb_server.specs.Server.{ServerState}
-use Rattle.rfb_server.specs.Composing.{IsDue}
+use Rattle.rfb_server.specs.Composition.{IsDue}
 use Rattle.rfb_server.specs.inside.Sends.{IsEnough}
 use Rattle.rfb_server.proofs.CopiedLemmas.{state_same}
 use Rattle.rfb_server.proofs.RoomLemmas.{room_within}

@@ -2,8 +2,8 @@ use Rattle.std.proofs.Common.{◌≡◌, ◌∙◌, sym, refl, ◌≤◌, length
 use Rattle.std.proofs.lemmas.List.{take_rest}
 use Rattle.rfb_wire.proofs.stream_laws.FeedLaws.{fed_more, runs_out_later}
 use Rattle.rfb_server.specs.Server.{server}
-use Rattle.rfb_server.specs.Standing.{SessionStandsFor, notes_in}
-use Rattle.rfb_server.specs.Failing.{EndsAt}
+use Rattle.rfb_server.specs.Model.{SessionStandsFor, notes_in}
+use Rattle.rfb_server.specs.Failed.{EndsAt}
 use Rattle.rfb_server.proofs.ServerLaws.{server_machine}
 use Rattle.rfb_server.proofs.FeedingLemmas.{up_same, up_then}
 use Rattle.rfb_server.proofs.SliceLemmas.{session_starts, none_told, some_told}

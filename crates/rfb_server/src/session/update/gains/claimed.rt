@@ -5,7 +5,7 @@ ghost use Rattle.rfb_picture.specs.Rect.{contains};
 ghost use Rattle.std.specs.Bool.{OnTrue, OnFalse};
 ghost use Rattle.rfb_server.specs.Claims.{IsTrue, IsAsFar, is_claimed};
 ghost use Rattle.rfb_server.specs.inside.Needs.{is_quiet};
-ghost use Rattle.rfb_server.specs.Following.{Follows};
+ghost use Rattle.rfb_server.specs.KnownScreen.{Follows};
 ghost use Rattle.rfb_server.specs.inside.Copies.{IsFree};
 ghost use Rattle.rfb_server.specs.inside.Gains.{MayCopy, HasMoreRight, IsJudged};
 ghost use Rattle.rfb_server.specs.inside.Gains.{right_before, right_after, claims_row};

@@ -4,8 +4,8 @@ ghost use Rattle.std.specs.Prelude.{◌≡◌, ◌+◌, ◌-◌, ◌*◌, ◌/�
 ghost use Rattle.rfb_pixel.specs.Format.{pixel_of};
 ghost use Rattle.rfb_picture.specs.Grid.{row_of};
 ghost use Rattle.rfb_server.specs.Claims.{IsClaimed};
-ghost use Rattle.rfb_server.specs.Following.{Follows};
-ghost use Rattle.rfb_server.specs.Composing.{count_row};
+ghost use Rattle.rfb_server.specs.KnownScreen.{Follows};
+ghost use Rattle.rfb_server.specs.Composition.{count_row};
 ghost use Rattle.rfb_server.specs.inside.Gains.{MayCopy, part, right_before, right_after};
 
 use crate::claim::Claim;

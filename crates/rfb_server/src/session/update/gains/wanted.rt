@@ -5,8 +5,8 @@ ghost use Rattle.std.specs.Option.{ForSome};
 ghost use Rattle.rfb_pixel.specs.Format.{pixel_of};
 ghost use Rattle.rfb_picture.specs.Grid.{Holds, row_of};
 ghost use Rattle.rfb_server.specs.Claims.{IsClaimed};
-ghost use Rattle.rfb_server.specs.Following.{Follows};
-ghost use Rattle.rfb_server.specs.Composing.{count_row};
+ghost use Rattle.rfb_server.specs.KnownScreen.{Follows};
+ghost use Rattle.rfb_server.specs.Composition.{count_row};
 ghost use Rattle.rfb_server.specs.inside.Gains.{MayCopy, right_before};
 
 use crate::claim::Claim;

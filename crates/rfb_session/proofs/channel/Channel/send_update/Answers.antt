@@ -1,7 +1,7 @@
 use Rattle.std.proofs.Common.{ℕ, List, ◌++◌, length, length-append, drop, ap, ◌∙◌}
 use Rattle.std.proofs.Common.{subst, arith}
 use Rattle.std.proofs.lemmas.Result.{IfOk-weaker}
-use Rattle.rfb_server.specs.Updating.{SendsUpdate}
+use Rattle.rfb_server.specs.UpdateCall.{SendsUpdate}
 use Rattle.rfb_session.proofs.ChannelLemmas.{rest_of, updates_rest}
 use Rattle.rfb_session.proofs.channel.Channel.send_update.Goals as goal
 

@@ -1,5 +1,5 @@
 use Rattle.std.proofs.Common.{ℕ, Bool, inr, subst}
-use Rattle.rfb_session.specs.owner.Telling.{leave_line}
+use Rattle.rfb_session.specs.owner.ShareLines.{leave_line}
 use Rattle.rfb_session.specs.console.Viewers.{LetsGo}
 use Rattle.rfb_session.specs.console.Console.{OnDesk}
 use Rattle.rfb_session.proofs.console.Console.end_seat.Goals as goal

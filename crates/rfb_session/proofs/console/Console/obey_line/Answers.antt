@@ -1,6 +1,6 @@
 use Rattle.std.proofs.Common.{sym, ap, ◌∙◌, Option}
 use Rattle.std.specs.Option.{option_map}
-use Rattle.rfb_server.specs.Drawing.{stroke}
+use Rattle.rfb_server.specs.Strokes.{stroke}
 use Rattle.rfb_server.specs.declared.drawing.Drawing.{Drawing}
 use Rattle.rfb_session.proofs.ConsoleLemmas.{obeys_drawn}
 use Rattle.rfb_session.proofs.console.Console.obey_line.Goals as goal

@@ -1,6 +1,6 @@
 -- None of the doors so far is both ready and wanted.
 use Rattle.std.proofs.Common.{ℕ, ◌<◌}
-use Rattle.rfb_session.specs.doors.Waiting.{IsWanted}
+use Rattle.rfb_session.specs.doors.Wants.{IsWanted}
 use Rattle.rfb_session.proofs.doors.waiting.how_long.Given as goal
 
 abbrev pub invariant-loop-door : goal.invariant-loop-door

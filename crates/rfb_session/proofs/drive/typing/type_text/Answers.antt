@@ -2,7 +2,7 @@ use Rattle.std.proofs.Common.{◌≡◌, ◌∙◌, ◌++◌, List, ℕ, ap, sym
 use Rattle.std.proofs.lemmas.Iterator.{YieldsList-from_chars}
 use Rattle.std.proofs.lemmas.Iterator.Consumers.{YieldsList-end, YieldsList-so_far}
 use Rattle.std.specs.Str.{chars}
-use Rattle.rfb_session.specs.drive.Typing.{typed}
+use Rattle.rfb_session.specs.drive.Keyboard.{typed}
 use Rattle.rfb_session.proofs.TypingLemmas.{begun, read_as_is, typed_more}
 use Rattle.rfb_session.proofs.drive.typing.type_text.Goals as goal
 

@@ -1,9 +1,9 @@
 use Rattle.std.proofs.Common.{true, false, rules, Ok, Err}
 use Rattle.std.proofs.lemmas.Result.{err_from_is_err_and}
 use Rattle.rfb_session.specs.declared.engine.fault.EngineFault.TheVariants.{Truncated}
-use Rattle.rfb_session.specs.PlayingSome.{AreFewer, AreNoFewer}
+use Rattle.rfb_session.specs.FirstUpdates.{AreFewer, AreNoFewer}
 use Rattle.rfb_session.specs.Watcher.{EndsPlaying}
-use Rattle.rfb_session.specs.Watching.{StandsBetween}
+use Rattle.rfb_session.specs.ViewerActs.{StandsBetween}
 use Rattle.rfb_session.proofs.PlaySomeLemmas.{all_up_to, cut_up_to, few_not_many, never_many}
 use Rattle.rfb_session.proofs.VerdictLemmas.{judges_end, judges_cut, judges_stop}
 use Rattle.rfb_session.proofs.WatcherLemmas.{hears_ends}

@@ -1,7 +1,7 @@
 use Rattle.std.proofs.Common.{◌≡◌, ◌∙◌, List, ℕ, ap, arith, length, refl, rules}
 use Rattle.std.proofs.lemmas.Result.{err_from_is_err_and}
 use Rattle.rfb_server.specs.declared.server.Server.{Server}
-use Rattle.rfb_server.specs.Standing.{fault_of}
+use Rattle.rfb_server.specs.Model.{fault_of}
 use Rattle.rfb_session.specs.declared.engine.fault.EngineFault.TheVariants.{Server as ServerEnded}
 use Rattle.rfb_session.specs.Wire.{by_steps}
 use Rattle.rfb_session.proofs.FailedLemmas.{err_as, no_answer}

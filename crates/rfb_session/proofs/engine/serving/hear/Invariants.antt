@@ -1,7 +1,7 @@
 -- The first of the bytes were fed, and all answers to them were written.
 use Rattle.std.proofs.Common.{◌≡◌, Some, length}
 use Rattle.rfb_server.specs.declared.fault.ServerFault.{ServerFault}
-use Rattle.rfb_server.specs.Standing.{fault_of}
+use Rattle.rfb_server.specs.Model.{fault_of}
 use Rattle.rfb_session.specs.Wire.{by_steps}
 use Rattle.rfb_session.proofs.ServeLemmas.{HeardBy}
 use Rattle.rfb_session.proofs.engine.serving.hear.Given as goal

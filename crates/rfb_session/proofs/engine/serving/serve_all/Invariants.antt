@@ -2,7 +2,7 @@
 use Rattle.std.proofs.Common.{◌≡◌, Some, []}
 use Rattle.std.specs.Io.KnownBytes.{Consumes}
 use Rattle.rfb_server.specs.declared.fault.ServerFault.{ServerFault}
-use Rattle.rfb_server.specs.Standing.{fault_of}
+use Rattle.rfb_server.specs.Model.{fault_of}
 use Rattle.rfb_session.specs.Turns.{TakesTurns}
 use Rattle.rfb_session.proofs.ServingLemmas.{ServedSoFar}
 use Rattle.rfb_session.proofs.ServeOrderLemmas.{InOrderSoFar, NoneFailed}

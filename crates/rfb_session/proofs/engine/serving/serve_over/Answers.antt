@@ -3,7 +3,7 @@ use Rattle.std.proofs.Common.{Ok, Some, ap, false, inl, inr, true, ◌≡◌}
 use Rattle.std.proofs.lemmas.Result.{err_from_is_err_and}
 use Rattle.rfb_server.specs.declared.fault.ServerFault.{ServerFault}
 use Rattle.rfb_server.specs.declared.server.Server.{Server}
-use Rattle.rfb_server.specs.Standing.{fault_of}
+use Rattle.rfb_server.specs.Model.{fault_of}
 use Rattle.rfb_session.specs.declared.engine.fault.EngineFault.TheVariants.{Server as ServerEnded, Truncated}
 use Rattle.rfb_session.specs.ServeEngine.{AllServed, ServedSome, StopsServing}
 use Rattle.rfb_session.specs.ServeOrder.{AfterTurns, AtTheEnd, Ungreeted}

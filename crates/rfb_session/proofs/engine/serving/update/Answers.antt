@@ -1,6 +1,6 @@
 use Rattle.std.proofs.Common.{List, ℕ, refl, subst, rules}
 use Rattle.std.proofs.lemmas.Result.{err_from_is_err_and}
-use Rattle.rfb_server.specs.Updating.{Updates}
+use Rattle.rfb_server.specs.UpdateCall.{Updates}
 use Rattle.rfb_session.specs.Wire.{Nothing, Sends, SendsSome}
 use Rattle.rfb_session.proofs.TurnLemmas.{unsent_of_none}
 use Rattle.rfb_session.proofs.engine.serving.update.Goals as goal

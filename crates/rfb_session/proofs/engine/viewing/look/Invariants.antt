@@ -1,7 +1,7 @@
 -- The first of the bytes were fed and kept, and all answers to them were written.
 use Rattle.std.proofs.Common.{◌≡◌, ◌+◌, ℕ, length, Some}
 use Rattle.rfb_viewer.specs.declared.fault.ViewerFault.{ViewerFault}
-use Rattle.rfb_viewer.specs.Standing.{fault_of}
+use Rattle.rfb_viewer.specs.Model.{fault_of}
 use Rattle.rfb_session.specs.Wire.{by_steps}
 use Rattle.rfb_session.proofs.LookLemmas.{LooksSoFar}
 use Rattle.rfb_session.proofs.WatcherLemmas.{HeardOf}

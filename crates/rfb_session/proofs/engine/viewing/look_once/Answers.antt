@@ -3,7 +3,7 @@ use Rattle.std.proofs.KnownBytes.{Appends-nil}
 use Rattle.std.proofs.lemmas.Result.{err_from_is_err_and}
 use Rattle.rfb_viewer.specs.Told.{seen}
 use Rattle.rfb_session.specs.Watcher.{NoCall}
-use Rattle.rfb_session.specs.Watching.{ends_told}
+use Rattle.rfb_session.specs.ViewerActs.{ends_told}
 use Rattle.rfb_session.specs.Wire.{Nothing, by_steps}
 use Rattle.rfb_session.proofs.ViewLemmas.{turn_none, call_looks, call_unanswered, call_unkept, kept_last}
 use Rattle.rfb_session.proofs.WatcherLemmas.{hears_asked, hears_once}

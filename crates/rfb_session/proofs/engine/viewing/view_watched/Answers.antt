@@ -3,9 +3,9 @@ use Rattle.std.proofs.Common.{refl, sym, subst, inl, inr, arith, rules, ap, Ok, 
 use Rattle.std.proofs.KnownBytes.{Consumes-nil}
 use Rattle.std.proofs.lemmas.Result.{err_from_is_err_and}
 use Rattle.rfb_viewer.specs.declared.viewer.Viewer.{Viewer}
-use Rattle.rfb_viewer.specs.Standing.{fault_of}
+use Rattle.rfb_viewer.specs.Model.{fault_of}
 use Rattle.rfb_session.specs.declared.engine.fault.EngineFault.TheVariants.{Viewer as ViewerEnded, Truncated, Device}
-use Rattle.rfb_session.specs.Looking.{HasLooked}
+use Rattle.rfb_session.specs.EngineRead.{HasLooked}
 use Rattle.rfb_session.specs.ViewEngine.{HasMissed, ViewedSome}
 use Rattle.rfb_session.specs.ViewOrder.{LookOver, NextLook, NoLook}
 use Rattle.rfb_session.specs.Watcher.{EndsLooking, EndsViewing}

@@ -2,7 +2,7 @@
 use Rattle.std.proofs.Common.{◌≡◌, ◌+◌, ℕ, Some, [], length}
 use Rattle.std.specs.Io.KnownBytes.{Consumes}
 use Rattle.rfb_viewer.specs.declared.fault.ViewerFault.{ViewerFault}
-use Rattle.rfb_viewer.specs.Standing.{fault_of}
+use Rattle.rfb_viewer.specs.Model.{fault_of}
 use Rattle.rfb_session.specs.ViewOrder.{LooksOver}
 use Rattle.rfb_session.proofs.ViewedLemmas.{ViewedSoFar}
 use Rattle.rfb_session.proofs.ServeOrderLemmas.{NoneFailed}

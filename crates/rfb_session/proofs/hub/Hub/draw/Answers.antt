@@ -1,4 +1,4 @@
-use Rattle.rfb_server.specs.Drawing.{stroke}
+use Rattle.rfb_server.specs.Strokes.{stroke}
 use Rattle.rfb_session.proofs.HubRunLemmas.{stands_drawn}
 use Rattle.rfb_session.proofs.hub.Hub.draw.Goals as goal
 

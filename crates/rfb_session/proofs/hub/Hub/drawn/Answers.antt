@@ -1,5 +1,5 @@
 use Rattle.std.proofs.Common.{◌∙◌, arith, inl, refl}
-use Rattle.rfb_server.specs.Drawing.{stroke}
+use Rattle.rfb_server.specs.Strokes.{stroke}
 use Rattle.rfb_server.proofs.DrawingLaws.{area_held}
 use Rattle.rfb_session.proofs.HubDrawLemmas.{all_held, notified_follow, drawn_does, made_sized}
 use Rattle.rfb_session.proofs.hub.Hub.drawn.Goals as goal

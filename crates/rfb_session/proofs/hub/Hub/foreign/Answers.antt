@@ -1,7 +1,7 @@
 use Rattle.std.proofs.Common.{◌≡◌, ◌<◌, length, List, ℕ, sym, refl, ◌∙◌, subst, arith}
 use Rattle.std.proofs.lemmas.List.{length-set}
 use Rattle.rfb_server.specs.declared.session.Session.{Session}
-use Rattle.rfb_server.specs.Following.{Follows}
+use Rattle.rfb_server.specs.KnownScreen.{Follows}
 use Rattle.rfb_session.specs.declared.hub.event.HubEvent.TheVariants.{Foreign}
 use Rattle.rfb_session.specs.HubSeats.{TakesForeign}
 use Rattle.rfb_session.specs.HubSteps.{Fed}

@@ -1,5 +1,5 @@
 use Rattle.std.proofs.Common.{inl, inr}
-use Rattle.rfb_server.specs.Drawing.{Fill as OneFill, Put as OnePut, Copy as OneCopy, Hint as OneHint}
+use Rattle.rfb_server.specs.Strokes.{Fill as OneFill, Put as OnePut, Copy as OneCopy, Hint as OneHint}
 use Rattle.rfb_session.proofs.HubDrawLemmas.{drawing_steps}
 use Rattle.rfb_session.proofs.hub.Hub.happen.Goals as goal
 

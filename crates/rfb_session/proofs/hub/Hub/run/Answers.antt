@@ -3,7 +3,7 @@ use Rattle.std.proofs.lemmas.List.{take_more, take_all}
 use Rattle.rfb_session.specs.declared.hub.event.HubEvent.{HubEvent}
 use Rattle.rfb_session.specs.Headline.{IsHeadline}
 use Rattle.rfb_session.specs.HubSteps.{RunsHub}
-use Rattle.rfb_session.specs.LinkStanding.{server_fault_of, viewer_fault_of}
+use Rattle.rfb_session.specs.LinkModel.{server_fault_of, viewer_fault_of}
 use Rattle.rfb_session.proofs.HubRunLemmas.{runs_more, each_holds, none_failed}
 use Rattle.rfb_session.proofs.NetworkLemmas.{headline_holds}
 use Rattle.rfb_session.proofs.hub.Hub.run.Goals as goal

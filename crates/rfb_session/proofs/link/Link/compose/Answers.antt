@@ -1,7 +1,7 @@
 use Rattle.std.proofs.Common.{◌≡◌, Bool, Result, Ok, Some, true, false, refl, sym, ap, ◌∙◌}
 use Rattle.rfb_pixel.specs.Format.{PixelFormat}
 use Rattle.rfb_picture.specs.Area.{Places}
-use Rattle.rfb_server.specs.Standing.{notes_in}
+use Rattle.rfb_server.specs.Model.{notes_in}
 use Rattle.rfb_session.specs.Latest.{noted}
 use Rattle.rfb_session.proofs.ComposedLemmas.{idle_not_due, idle_over, composed_over, composed_does, idle_does}
 use Rattle.rfb_session.proofs.ComposedLemmas.{asks_noted}

@@ -1,8 +1,8 @@
 use Rattle.std.proofs.Common.{◌≡◌, ℕ, ◌+◌, ◌-◌, ◌≤◌, ◌<◌, false, inl, length, length-drop, refl, ap, ◌∙◌, subst, arith}
 use Rattle.rfb_server.specs.declared.session.Session.{Session}
-use Rattle.rfb_server.specs.Standing.{session_fault}
-use Rattle.rfb_session.specs.inside.Delivering.{DeliversToServer, HasHeard}
-use Rattle.rfb_session.specs.LinkStanding.{LosesToServer}
+use Rattle.rfb_server.specs.Model.{session_fault}
+use Rattle.rfb_session.specs.inside.LinkDelivery.{DeliversToServer, HasHeard}
+use Rattle.rfb_session.specs.LinkModel.{LosesToServer}
 use Rattle.rfb_session.proofs.LossLemmas.{no_server_loss, more_server_loss}
 use Rattle.rfb_session.proofs.DeliveringLemmas.{server_none, server_more}
 use Rattle.rfb_session.proofs.ReachingLemmas.{heard_none, heard_goes_on, heard_done}

@@ -1,8 +1,8 @@
 use Rattle.std.proofs.Common.{◌-◌, ◌≤◌, length, ◌≡◌, ◌⊎◌, Some}
 use Rattle.rfb_server.specs.declared.fault.ServerFault.{ServerFault}
 use Rattle.rfb_server.specs.Hints.{hints_in}
-use Rattle.rfb_session.specs.inside.Delivering.{DeliversToServer, HasHeard, EndsHearing}
-use Rattle.rfb_session.specs.LinkStanding.{LosesToServer, server_fault_of, session_of_link, FollowsStill}
+use Rattle.rfb_session.specs.inside.LinkDelivery.{DeliversToServer, HasHeard, EndsHearing}
+use Rattle.rfb_session.specs.LinkModel.{LosesToServer, server_fault_of, session_of_link, FollowsStill}
 use Rattle.rfb_session.proofs.link.Link.deliver_to_server.Given as goal
 
 abbrev pub invariant-loop-left : goal.invariant-loop-left

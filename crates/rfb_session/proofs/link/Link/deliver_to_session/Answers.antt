@@ -1,5 +1,5 @@
 use Rattle.std.proofs.Common.{ℕ, min, sym, ap, ◌∙◌, subst}
-use Rattle.rfb_session.specs.LinkStanding.{LosesToServer}
+use Rattle.rfb_session.specs.LinkModel.{LosesToServer}
 use Rattle.rfb_session.specs.LinkBytes.{ReachesSession, TellsSole}
 use Rattle.rfb_session.proofs.DeliveringLemmas.{server_moved}
 use Rattle.rfb_session.proofs.ReachingLemmas.{heard_reaches, heard_tells, deaf_sole}

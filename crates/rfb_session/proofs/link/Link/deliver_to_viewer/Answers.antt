@@ -1,8 +1,8 @@
 use Rattle.std.proofs.Common.{◌≡◌, ℕ, ◌+◌, ◌-◌, ◌≤◌, ◌<◌, inl, length, length-drop, refl, ap, ◌∙◌, subst, arith}
 use Rattle.rfb_viewer.specs.declared.viewer.Viewer.{Viewer}
-use Rattle.rfb_viewer.specs.Standing.{fault_of}
-use Rattle.rfb_session.specs.inside.Delivering.{DeliversToViewer, HasWatched}
-use Rattle.rfb_session.specs.LinkStanding.{LosesToViewer}
+use Rattle.rfb_viewer.specs.Model.{fault_of}
+use Rattle.rfb_session.specs.inside.LinkDelivery.{DeliversToViewer, HasWatched}
+use Rattle.rfb_session.specs.LinkModel.{LosesToViewer}
 use Rattle.rfb_session.proofs.LossLemmas.{no_viewer_loss, more_viewer_loss}
 use Rattle.rfb_session.proofs.DeliveringLemmas.{viewer_none, viewer_more}
 use Rattle.rfb_session.proofs.ReachingLemmas.{watched_none, watched_goes_on, watched_done}

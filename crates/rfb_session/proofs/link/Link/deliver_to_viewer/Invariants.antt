@@ -1,7 +1,7 @@
 use Rattle.std.proofs.Common.{◌-◌, ◌≤◌, length, ◌≡◌, ◌⊎◌, Some}
 use Rattle.rfb_viewer.specs.declared.fault.ViewerFault.{ViewerFault}
-use Rattle.rfb_session.specs.inside.Delivering.{DeliversToViewer, HasWatched, EndsWatching}
-use Rattle.rfb_session.specs.LinkStanding.{LosesToViewer, viewer_fault_of, session_of_link}
+use Rattle.rfb_session.specs.inside.LinkDelivery.{DeliversToViewer, HasWatched, EndsWatching}
+use Rattle.rfb_session.specs.LinkModel.{LosesToViewer, viewer_fault_of, session_of_link}
 use Rattle.rfb_session.proofs.link.Link.deliver_to_viewer.Given as goal
 
 abbrev pub invariant-loop-left : goal.invariant-loop-left

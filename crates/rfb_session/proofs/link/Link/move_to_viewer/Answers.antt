@@ -1,5 +1,5 @@
 use Rattle.std.proofs.Common.{ℕ, min, sym, ap, ◌∙◌, subst}
-use Rattle.rfb_session.specs.LinkStanding.{LosesToViewer}
+use Rattle.rfb_session.specs.LinkModel.{LosesToViewer}
 use Rattle.rfb_session.specs.LinkBytes.{ReachesViewer}
 use Rattle.rfb_session.proofs.DeliveringLemmas.{viewer_moved}
 use Rattle.rfb_session.proofs.ReachingLemmas.{watched_reaches}

@@ -1,6 +1,6 @@
 use Rattle.std.proofs.Common.{[], refl, subst}
 use Rattle.rfb_viewer.specs.declared.setup.ViewerSetup.{ViewerSetup}
-use Rattle.rfb_viewer.specs.Standing.{StandsFor}
+use Rattle.rfb_viewer.specs.Model.{StandsFor}
 use Rattle.rfb_viewer.specs.Viewer.{first_viewer}
 use Rattle.rfb_session.specs.relay.Setup.{viewing_by}
 use Rattle.rfb_session.proofs.relay.Relay.new.Goals as goal

@@ -1,6 +1,6 @@
 use Rattle.std.proofs.Common.{◌∙◌, List, ℕ, refl, ap}
 use Rattle.rfb_hello.specs.declared.version.Version.TheVariants.{V38}
-use Rattle.rfb_server.specs.Standing.{serving_with}
+use Rattle.rfb_server.specs.Model.{serving_with}
 use Rattle.rfb_session.specs.Share.{screen_of}
 use Rattle.rfb_session.specs.relay.Server.{NoPicture, OpenedOther}
 use Rattle.rfb_session.specs.relay.Setup.{name_by}

@@ -1,6 +1,6 @@
 use Rattle.std.proofs.Common.{◌∙◌, List, ℕ, refl, sym, ap, subst}
 use Rattle.rfb_hello.specs.declared.version.Version.TheVariants.{V38}
-use Rattle.rfb_server.specs.Standing.{serving_with}
+use Rattle.rfb_server.specs.Model.{serving_with}
 use Rattle.rfb_session.specs.declared.share.Share.{Share}
 use Rattle.rfb_session.specs.Share.{screen_of}
 use Rattle.rfb_session.specs.relay.Desk.{IsOver, IsShareOf}

@@ -1,6 +1,6 @@
 use Rattle.std.proofs.Common.{◌<◌, length, sym, ◌∙◌, arith}
 use Rattle.std.proofs.lemmas.List.{length-set}
-use Rattle.rfb_server.specs.Following.{Follows}
+use Rattle.rfb_server.specs.KnownScreen.{Follows}
 use Rattle.rfb_session.specs.ShareScreen.{shown_on}
 use Rattle.rfb_session.proofs.FollowLemmas.{all_set}
 use Rattle.rfb_session.proofs.SlotLemmas.{at_slot, each_seat}

@@ -1,5 +1,5 @@
 use Rattle.std.proofs.Common.{◌≤◌, ◌∙◌, subst, arith}
-use Rattle.rfb_server.specs.Drawing.{stroke, notice_of}
+use Rattle.rfb_server.specs.Strokes.{stroke, notice_of}
 use Rattle.rfb_server.proofs.DrawingLaws.{area_held}
 use Rattle.rfb_session.specs.declared.share.screen.Screen.{Screen}
 use Rattle.rfb_session.specs.ShareScreen.{shown_on}

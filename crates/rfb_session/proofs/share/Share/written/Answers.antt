@@ -1,6 +1,6 @@
 use Rattle.std.proofs.Common.{◌<◌, length, Option, sym, ◌∙◌, subst, arith}
 use Rattle.std.proofs.lemmas.List.{length-set}
-use Rattle.rfb_server.specs.Following.{Follows}
+use Rattle.rfb_server.specs.KnownScreen.{Follows}
 use Rattle.rfb_server.specs.declared.session.Session.{Session}
 use Rattle.rfb_session.specs.ShareScreen.{shown_on}
 use Rattle.rfb_session.specs.ShareSeats.{WritesAt}

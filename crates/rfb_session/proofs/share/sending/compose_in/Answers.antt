@@ -1,7 +1,7 @@
 use Rattle.std.proofs.Common.{sym, subst}
 use Rattle.rfb_pixel.specs.declared.colour.Colour.{Colour}
 use Rattle.rfb_picture.specs.Grid.{Grid}
-use Rattle.rfb_server.specs.Following.{Follows}
+use Rattle.rfb_server.specs.KnownScreen.{Follows}
 use Rattle.rfb_session.specs.ShareSeats.{session_at}
 use Rattle.rfb_session.proofs.share.sending.compose_in.Goals as goal
 

@@ -1,5 +1,5 @@
 use Rattle.std.proofs.Common.{inl, refl}
-use Rattle.rfb_server.specs.Drawing.{stroke}
+use Rattle.rfb_server.specs.Strokes.{stroke}
 use Rattle.rfb_server.proofs.DrawingLaws.{follows_stroke}
 use Rattle.rfb_session.proofs.DrawnLemmas.{drawn_does}
 use Rattle.rfb_session.proofs.world.World.drawn.Goals as goal

@@ -1,5 +1,5 @@
 use Rattle.std.proofs.Common.{ℕ, List, Some, inl, inr, refl, sym, ap}
-use Rattle.rfb_server.specs.Drawing.{Fill as OneFill, Put as OnePut, Copy as OneCopy, Hint as OneHint}
+use Rattle.rfb_server.specs.Strokes.{Fill as OneFill, Put as OnePut, Copy as OneCopy, Hint as OneHint}
 use Rattle.std.proofs.lemmas.Result.{IfOk-weaker}
 use Rattle.rfb_server.specs.declared.session.Session.{Session}
 use Rattle.rfb_server.specs.Hints.{hints_in}

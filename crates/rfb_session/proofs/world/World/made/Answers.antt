@@ -6,7 +6,7 @@ use Rattle.rfb_wire.specs.declared.encoding.Encoding.TheVariants.{Raw}
 use Rattle.rfb_hello.specs.declared.version.Version.TheVariants.{V38}
 use Rattle.rfb_server.specs.Server.{black}
 use Rattle.rfb_viewer.specs.Viewer.{first_viewer}
-use Rattle.rfb_viewer.specs.Standing.{StandsFor, viewing_with}
+use Rattle.rfb_viewer.specs.Model.{StandsFor, viewing_with}
 use Rattle.rfb_session.specs.Played.{ends_for}
 use Rattle.rfb_session.proofs.PlayedLemmas.{fresh_for}
 use Rattle.rfb_session.proofs.world.World.made.Goals as goal

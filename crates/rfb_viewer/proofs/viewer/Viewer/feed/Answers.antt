@@ -1,6 +1,6 @@
 use Rattle.std.proofs.Common.{◌≡◌, ℕ, ◌∙◌, None, refl, ap}
-use Rattle.rfb_wire.specs.stream.Placing.{counted_on}
-use Rattle.rfb_viewer.specs.Standing.{fault_of}
+use Rattle.rfb_wire.specs.stream.FaultPlace.{counted_on}
+use Rattle.rfb_viewer.specs.Model.{fault_of}
 use Rattle.rfb_viewer.proofs.CountLemmas.{counted_fed, counted_damage, counted_moved, counted_reason}
 use Rattle.rfb_viewer.proofs.CountLemmas.{counted_offer, counted_offered}
 use Rattle.rfb_viewer.proofs.CountLemmas.{count_of_fed, count_of_fault}

@@ -2,8 +2,8 @@ use Rattle.std.proofs.Common.{◌≡◌, ◌∙◌, ℕ, List, Option, Some, Non
 use Rattle.rfb_wire.specs.stream.End.{FedBy}
 use Rattle.rfb_hello.specs.declared.step.ViewerStep.{ViewerStep}
 use Rattle.rfb_hello.specs.ViewerEnd.{ViewerSetup, viewer_end}
-use Rattle.rfb_hello.specs.Offering.{TakesOffer}
-use Rattle.rfb_hello.specs.ViewerStanding.{StandsFor as HelloStandsFor, goes_on_after}
+use Rattle.rfb_hello.specs.Offer.{TakesOffer}
+use Rattle.rfb_hello.specs.ViewerModel.{StandsFor as HelloStandsFor, goes_on_after}
 use Rattle.rfb_viewer.specs.declared.fault.ViewerFault.{ViewerFault}
 use Rattle.rfb_viewer.specs.declared.viewer.progress.Progress.TheVariants.{Handshake, Head}
 use Rattle.rfb_viewer.specs.Fault.{fault_of_hello}

@@ -1,7 +1,7 @@
 use Rattle.std.proofs.Common.{sym, subst, Option}
 use Rattle.rfb_pixel.specs.declared.colour.Colour.{Colour}
 use Rattle.rfb_picture.specs.Grid.{Grid}
-use Rattle.rfb_viewer.specs.Showing.{Shows}
+use Rattle.rfb_viewer.specs.ShownPieces.{Shows}
 use Rattle.rfb_viewer.proofs.LendLemmas.{shows_at}
 use Rattle.rfb_viewer.proofs.viewer.Viewer.picture.Goals as goal
 

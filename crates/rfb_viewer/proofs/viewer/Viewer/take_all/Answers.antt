@@ -8,18 +8,18 @@ use Rattle.rfb_viewer.specs.declared.event.ViewerEvent.{ViewerEvent}
 use Rattle.rfb_viewer.specs.declared.event.ViewerEvent.TheVariants.{UpdateDone}
 use Rattle.rfb_viewer.specs.Told.{seen, UpdateDone as Done}
 use Rattle.rfb_viewer.specs.Viewer.{viewer}
-use Rattle.rfb_viewer.specs.Standing.{StandsFor}
-use Rattle.rfb_viewer.specs.inside.Feeding.{StepsOn, end_event}
+use Rattle.rfb_viewer.specs.Model.{StandsFor}
+use Rattle.rfb_viewer.specs.inside.FedBytes.{StepsOn, end_event}
 use Rattle.rfb_viewer.proofs.ViewerLaws.{viewer_machine}
 use Rattle.rfb_viewer.proofs.FeedLemmas.{starts}
 use Rattle.rfb_viewer.specs.Counted.{IsPlacedAt}
 use Rattle.rfb_viewer.specs.Damage.{damaging, IsDamaged}
 use Rattle.rfb_viewer.specs.Moved.{moving, HasMoved}
-use Rattle.rfb_viewer.specs.inside.Moving.{Moves}
+use Rattle.rfb_viewer.specs.inside.ItemMoves.{Moves}
 use Rattle.rfb_viewer.proofs.MovedLemmas.{moving_starts, moved_on, moves_later}
-use Rattle.rfb_viewer.specs.Failing.{KeepsReason}
-use Rattle.rfb_viewer.specs.Offering.{KeepsOffer, TakesOffer}
-use Rattle.rfb_viewer.specs.inside.Damaging.{Damages, EndsIn}
+use Rattle.rfb_viewer.specs.Failed.{KeepsReason}
+use Rattle.rfb_viewer.specs.Offer.{KeepsOffer, TakesOffer}
+use Rattle.rfb_viewer.specs.inside.ItemDamage.{Damages, EndsIn}
 use Rattle.rfb_viewer.proofs.DamageFeedLemmas.{damage_starts, outside_starts, outside_same, damage_on}
 use Rattle.rfb_viewer.proofs.DamageFeedLemmas.{outside_on, outside_fault, damages_later}
 use Rattle.rfb_viewer.proofs.FailLemmas.{ends_later, kept_later, offer_later, taken_later}

@@ -3,8 +3,8 @@ use Rattle.rfb_wire.specs.stream.End.{FedBy}
 use Rattle.rfb_viewer.specs.Damage.{damaging, IsDamaged}
 use Rattle.rfb_viewer.specs.Moved.{moving, HasMoved}
 use Rattle.rfb_viewer.specs.Viewer.{Viewing, ViewerState, viewer}
-use Rattle.rfb_viewer.specs.inside.Damaging.{KeepsOutside}
-use Rattle.rfb_viewer.specs.Standing.{StandsFor, fault_of, making_of, offered_of, taken_of}
+use Rattle.rfb_viewer.specs.inside.ItemDamage.{KeepsOutside}
+use Rattle.rfb_viewer.specs.Model.{StandsFor, fault_of, making_of, offered_of, taken_of}
 use Rattle.rfb_viewer.proofs.viewer.Viewer.take_all.Given as goal
 
 abbrev pub invariant-loop-used : goal.invariant-loop-used

@@ -7,7 +7,7 @@ use Rattle.rfb_viewer.specs.declared.viewer.progress.Progress.TheVariants.{Head,
 use Rattle.rfb_viewer.specs.Fault.{fault_of_wire}
 use Rattle.rfb_viewer.specs.Viewer.{viewer}
 use Rattle.rfb_viewer.specs.Progress.{IsHeadBegun}
-use Rattle.rfb_viewer.specs.Standing.{StandsFor}
+use Rattle.rfb_viewer.specs.Model.{StandsFor}
 use Rattle.rfb_viewer.proofs.HeadLemmas.{misses_begun, one_byte, head_whole}
 use Rattle.rfb_viewer.proofs.MessageLemmas.{head_part, head_bad, head_got, head_asks}
 use Rattle.rfb_viewer.proofs.FailLemmas.{head_ends, head_memory, none_at, wire_other}

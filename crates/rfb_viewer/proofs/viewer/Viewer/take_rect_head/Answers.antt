@@ -12,7 +12,7 @@ use Rattle.rfb_viewer.specs.declared.viewer.progress.Progress.TheVariants.{Data,
 use Rattle.rfb_viewer.specs.Fault.{fault_of_wire}
 use Rattle.rfb_viewer.specs.Moved.{moved_if}
 use Rattle.rfb_viewer.specs.Viewer.{Viewing, viewer}
-use Rattle.rfb_viewer.specs.Standing.{StandsFor}
+use Rattle.rfb_viewer.specs.Model.{StandsFor}
 use Rattle.rfb_viewer.proofs.RectLemmas.{IsOpened, rect_part, rect_bad, rect_more, rect_done, rect_fault, step_by}
 use Rattle.rfb_viewer.proofs.RectLemmas.{same_painter, same_count, painting_same, head_all, not_false, not_true}
 use Rattle.rfb_viewer.proofs.RectLemmas.{past_going}

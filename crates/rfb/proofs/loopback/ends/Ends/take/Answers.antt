@@ -3,7 +3,7 @@ use Rattle.std.proofs.Common.{◌≡◌, ℕ, List, None, refl, sym, subst, IfOk
 use Rattle.rfb_pixel.specs.declared.colour.Colour.{Colour}
 use Rattle.rfb_picture.specs.Grid.{Holds, filled, copied, with_row}
 use Rattle.rfb_server.specs.Hints.{hints_of, with_hint}
-use Rattle.rfb_server.specs.Standing.{HoldsBoth, row_from, screen_of}
+use Rattle.rfb_server.specs.Model.{HoldsBoth, row_from, screen_of}
 use Rattle.rfb_viewer.specs.Calls.{call_refusal, request_refusal, format_refusal, requested, formatted}
 use Rattle.rfb_viewer.specs.Messages.{format_message, encodings_message, request_message, key_message, pointer_message}
 use Rattle.rfb_viewer.specs.Messages.{text_message}

@@ -1,5 +1,5 @@
 use Rattle.rfb_picture.specs.Grid.{filled}
-use Rattle.rfb_server.specs.Drawing.{Fill}
+use Rattle.rfb_server.specs.Strokes.{Fill}
 use Rattle.rfb_server.proofs.DrawingLaws.{whole_drawn, drawn_outside}
 use Rattle.rfb_server.proofs.tests.shared.Shared.change.Goals as goal
 

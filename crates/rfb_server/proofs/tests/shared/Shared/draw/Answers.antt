@@ -1,4 +1,4 @@
-use Rattle.rfb_server.specs.Drawing.{Fill}
+use Rattle.rfb_server.specs.Strokes.{Fill}
 use Rattle.rfb_server.proofs.DrawingLaws.{follows_stroke}
 use Rattle.rfb_server.proofs.tests.shared.Shared.draw.Goals as goal
 

@@ -1,5 +1,5 @@
 use Rattle.std.proofs.Common.{refl}
-use Rattle.rfb_session.specs.owner.Drawing.{Drawn, Outside}
+use Rattle.rfb_session.specs.owner.OwnerStroke.{Drawn, Outside}
 use Rattle.rfb_session.proofs.console.desk.Desk.draw.Goals as goal
 
 pub returns-in-Ok : goal.returns-in-Ok

@@ -1,5 +1,5 @@
 use Rattle.std.proofs.Common.{sym}
-use Rattle.rfb_session.specs.drive.driver.Running.{PartOff}
+use Rattle.rfb_session.specs.drive.driver.LineRun.{PartOff}
 use Rattle.rfb_session.proofs.drive.driver.Driver.await_change.Goals as goal
 
 pub returns-then-not-has_part : goal.returns-then-not-has_part

@@ -1,5 +1,5 @@
 use Rattle.std.proofs.Common.{refl, sym}
-use Rattle.rfb_session.specs.drive.driver.Running.{PictureOff, Shown, Unlike_yet}
+use Rattle.rfb_session.specs.drive.driver.LineRun.{PictureOff, Shown, Unlike_yet}
 use Rattle.rfb_session.proofs.drive.driver.Driver.await_picture.Goals as goal
 
 pub returns-in-Same : goal.returns-in-Same

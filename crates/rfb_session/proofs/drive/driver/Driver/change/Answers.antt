@@ -1,7 +1,7 @@
 use Rattle.std.proofs.Common.{◌∙◌, Some, refl, ap, sym, subst}
 use Rattle.rfb_picture.specs.declared.rect.Rect.{Rect}
 use Rattle.rfb_session.specs.declared.drive.driver.Pace.{Pace}
-use Rattle.rfb_viewer.specs.Standing.{picture_of}
+use Rattle.rfb_viewer.specs.Model.{picture_of}
 use Rattle.rfb_viewer.specs.declared.viewer.Viewer.{Viewer}
 use Rattle.rfb_session.specs.drive.driver.Driver.{Changed, FinishesIf, NoPicture, Unchanged}
 use Rattle.rfb_session.specs.drive.driver.Tasks.{HearsChange}

@@ -2,7 +2,7 @@ use Rattle.std.proofs.Common.{◌∙◌, ap, sym}
 use Rattle.rfb_session.specs.declared.drive.driver.input.Input.{Input}
 use Rattle.rfb_session.specs.declared.drive.driver.outcome.DriveOutcome.TheVariants as How
 use Rattle.rfb_session.specs.drive.driver.Driver.{ends, with_note}
-use Rattle.rfb_session.specs.drive.driver.Turning.{IsLate}
+use Rattle.rfb_session.specs.drive.driver.DriverTurn.{IsLate}
 use Rattle.rfb_session.proofs.drive.driver.Driver.give_up_if_late.Goals as goal
 
 pub returns : goal.returns

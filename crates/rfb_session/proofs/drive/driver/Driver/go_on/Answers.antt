@@ -1,5 +1,5 @@
 use Rattle.std.proofs.Common.{subst}
-use Rattle.rfb_session.specs.drive.driver.Turning.{Passes, Went}
+use Rattle.rfb_session.specs.drive.driver.DriverTurn.{Passes, Went}
 use Rattle.rfb_session.proofs.DriverLemmas.{none_of}
 use Rattle.rfb_session.proofs.drive.driver.Driver.go_on.Goals as goal
 

@@ -2,7 +2,7 @@ use Rattle.std.proofs.Common.{Option, refl, sym, subst}
 use Rattle.rfb_session.specs.declared.drive.words.Likeness.{Likeness}
 use Rattle.rfb_session.specs.declared.netpbm.Pixmap.{Pixmap}
 use Rattle.rfb_session.specs.drive.driver.Rigs.{Kept}
-use Rattle.rfb_session.specs.drive.driver.Turning.{KeptPicture}
+use Rattle.rfb_session.specs.drive.driver.DriverTurn.{KeptPicture}
 use Rattle.rfb_session.proofs.drive.driver.Driver.keep.Goals as goal
 
 pub returns-in-Some-clause-keeps : goal.returns-in-Some-clause-keeps

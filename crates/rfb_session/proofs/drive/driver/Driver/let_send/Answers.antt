@@ -1,6 +1,6 @@
 use Rattle.std.proofs.Common.{◌==◌, ℕ, sym, subst}
 use Rattle.rfb_session.specs.drive.driver.Driver.{FinishesIf}
-use Rattle.rfb_session.specs.drive.driver.Running.{Sent, sending}
+use Rattle.rfb_session.specs.drive.driver.LineRun.{Sent, sending}
 use Rattle.rfb_session.proofs.DriverLemmas.{went}
 use Rattle.rfb_session.proofs.drive.driver.Driver.let_send.Goals as goal
 

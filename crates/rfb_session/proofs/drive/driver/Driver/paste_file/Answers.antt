@@ -1,6 +1,6 @@
 use Rattle.std.proofs.Common.{◌∙◌, ◌++◌, [], ◌∷◌, List, ℕ, refl, sym, ap, subst}
-use Rattle.rfb_session.specs.drive.driver.Running.{LetsSend, NoRoomForText, NoText, Pasted}
-use Rattle.rfb_session.specs.drive.driver.Sending.{OfText, spelled}
+use Rattle.rfb_session.specs.drive.driver.LineRun.{LetsSend, NoRoomForText, NoText, Pasted}
+use Rattle.rfb_session.specs.drive.driver.Acts.{OfText, spelled}
 use Rattle.rfb_session.proofs.DriverLemmas.{went}
 use Rattle.rfb_session.proofs.drive.driver.Driver.paste_file.Goals as goal
 

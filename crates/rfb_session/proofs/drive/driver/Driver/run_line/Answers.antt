@@ -1,7 +1,7 @@
 use Rattle.std.proofs.Common.{◌∙◌, List, ℕ, ap, sym, subst, take}
 use Rattle.rfb_session.specs.declared.drive.driver.input.Input.{Input}
 use Rattle.rfb_session.specs.drive.driver.Input.{is_skipped}
-use Rattle.rfb_session.specs.drive.driver.Running.{Ran, RunsRead}
+use Rattle.rfb_session.specs.drive.driver.LineRun.{Ran, RunsRead}
 use Rattle.rfb_session.proofs.drive.driver.Driver.run_line.Goals as goal
 
 pub returns : goal.returns

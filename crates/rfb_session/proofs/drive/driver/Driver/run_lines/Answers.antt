@@ -1,5 +1,5 @@
 use Rattle.std.proofs.Common.{inl, inr, sym, arith, length}
-use Rattle.rfb_session.specs.drive.driver.Running.{LastLine, LongLine, NextLine, NoLine}
+use Rattle.rfb_session.specs.drive.driver.LineRun.{LastLine, LongLine, NextLine, NoLine}
 use Rattle.rfb_session.proofs.DriverLineLemmas.{all_rests, end_rests, fewer_more, long_rests}
 use Rattle.rfb_session.proofs.drive.driver.Driver.run_lines.Goals as goal
 

@@ -1,6 +1,6 @@
 -- The lines so far, of which each leaves less to run.
 use Rattle.std.proofs.Common.{length}
-use Rattle.rfb_session.specs.drive.driver.Running.{RunsLines}
+use Rattle.rfb_session.specs.drive.driver.LineRun.{RunsLines}
 use Rattle.rfb_session.proofs.DriverLineLemmas.{IsFewer}
 use Rattle.rfb_session.proofs.drive.driver.Driver.run_lines.Given as goal
 

@@ -1,4 +1,4 @@
-use Rattle.rfb_session.specs.drive.driver.Running.{Bad, Begun}
+use Rattle.rfb_session.specs.drive.driver.LineRun.{Bad, Begun}
 use Rattle.rfb_session.proofs.drive.driver.Driver.run_read.Goals as goal
 
 pub returns-in-Ok : goal.returns-in-Ok

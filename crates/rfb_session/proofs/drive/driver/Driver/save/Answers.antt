@@ -1,7 +1,7 @@
 use Rattle.std.proofs.Common.{Ok, Err, sym, subst}
 use Rattle.rfb_picture.specs.declared.rect.Rect.{Rect}
 use Rattle.rfb_session.specs.drive.driver.Rigs.{Saved}
-use Rattle.rfb_session.specs.drive.driver.Running.{NoPart, SavedPart}
+use Rattle.rfb_session.specs.drive.driver.LineRun.{NoPart, SavedPart}
 use Rattle.rfb_session.proofs.drive.driver.Driver.save.Goals as goal
 
 pub returns-then-not-is_part : goal.returns-then-not-is_part

@@ -1,7 +1,7 @@
 use Rattle.std.proofs.Common.{◌∙◌, ◌++◌, List, ℕ, sym, ap, subst}
 use Rattle.rfb_session.specs.declared.drive.words.Place.{Place}
-use Rattle.rfb_session.specs.drive.driver.Running.{LetsSend, Off, On}
-use Rattle.rfb_session.specs.drive.driver.Sending.{acts_of, place_or, spelled}
+use Rattle.rfb_session.specs.drive.driver.LineRun.{LetsSend, Off, On}
+use Rattle.rfb_session.specs.drive.driver.Acts.{acts_of, place_or, spelled}
 use Rattle.rfb_session.proofs.DriverLemmas.{place_is, went}
 use Rattle.rfb_session.proofs.drive.driver.Driver.send_line.Goals as goal
 

@@ -4,7 +4,7 @@ use Rattle.rfb_picture.specs.declared.rect.Rect.{Rect}
 use Rattle.rfb_picture.specs.Grid.{Grid}
 use Rattle.rfb_viewer.specs.Damage.{damage_of}
 use Rattle.rfb_session.specs.drive.driver.Driver.{Asks, ShowsOrChanges}
-use Rattle.rfb_session.specs.drive.driver.Looking.{whole_of}
+use Rattle.rfb_session.specs.drive.driver.Sight.{whole_of}
 use Rattle.rfb_session.proofs.DriverLemmas.{none_some, same_some}
 use Rattle.rfb_session.proofs.drive.driver.Driver.update.Goals as goal
 

@@ -1,6 +1,6 @@
 -- So many clicks so far.
 use Rattle.std.proofs.Common.{◌≡◌, ◌++◌}
-use Rattle.rfb_session.specs.drive.driver.Sending.{clicks, spelled}
+use Rattle.rfb_session.specs.drive.driver.Acts.{clicks, spelled}
 use Rattle.rfb_session.proofs.drive.driver.sending.spell_clicks.Given as goal
 
 abbrev pub invariant-loop-time : goal.invariant-loop-time

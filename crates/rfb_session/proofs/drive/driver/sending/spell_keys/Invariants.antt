@@ -1,6 +1,6 @@
 -- The keys so far.
 use Rattle.std.proofs.Common.{◌≡◌, ◌++◌, map, take}
-use Rattle.rfb_session.specs.drive.driver.Sending.{OfKey, spelled}
+use Rattle.rfb_session.specs.drive.driver.Acts.{OfKey, spelled}
 use Rattle.rfb_session.proofs.drive.driver.sending.spell_keys.Given as goal
 
 abbrev pub invariant-loop-event : goal.invariant-loop-event

@@ -1,5 +1,5 @@
 use Rattle.std.proofs.Common.{◌∙◌, [], ◌∷◌, sym, append-nil}
-use Rattle.rfb_session.specs.drive.driver.Sending.{OfPointer, act_bytes, spelled}
+use Rattle.rfb_session.specs.drive.driver.Acts.{OfPointer, act_bytes, spelled}
 use Rattle.rfb_session.proofs.SendingLemmas.{grown}
 use Rattle.rfb_session.proofs.drive.driver.sending.spell_pointer.Goals as goal
 

@@ -1,5 +1,5 @@
 use Rattle.std.proofs.Common.{◌∙◌, ◌++◌, [], ◌∷◌, List, ℕ, ap, sym, append-nil}
-use Rattle.rfb_session.specs.drive.driver.Sending.{OfText, act_bytes, spelled}
+use Rattle.rfb_session.specs.drive.driver.Acts.{OfText, act_bytes, spelled}
 use Rattle.rfb_session.proofs.SendingLemmas.{grown_on}
 use Rattle.rfb_session.proofs.drive.driver.sending.spell_text.Goals as goal
 

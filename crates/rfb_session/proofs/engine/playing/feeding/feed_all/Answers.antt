@@ -3,13 +3,13 @@ use Rattle.std.specs.Io.KnownBytes.{Consumes}
 use Rattle.std.proofs.KnownBytes.{Consumes-nil}
 use Rattle.std.proofs.lemmas.Result.{err_from_is_err_and}
 use Rattle.rfb_viewer.specs.declared.viewer.Viewer.{Viewer}
-use Rattle.rfb_viewer.specs.Standing.{fault_of}
+use Rattle.rfb_viewer.specs.Model.{fault_of}
 use Rattle.rfb_session.proofs.FailedLemmas.{no_answer, none_kept, none_then, some_turns, told_as}
 use Rattle.rfb_session.proofs.PlayLemmas.{reading_none, reading_more, reading_stops, reading_ends, reading_out}
 use Rattle.rfb_session.proofs.PlayLemmas.{reading_until, some_taken}
 use Rattle.rfb_session.specs.declared.engine.fault.EngineFault.TheVariants.{Device, Viewer as ViewerEnded}
-use Rattle.rfb_session.specs.Playing.{most}
-use Rattle.rfb_session.specs.PlayingSome.{AreFewer, AreNoFewer}
+use Rattle.rfb_session.specs.Playback.{most}
+use Rattle.rfb_session.specs.FirstUpdates.{AreFewer, AreNoFewer}
 use Rattle.rfb_session.specs.Watcher.{EndsPlaying, EndsRead}
 use Rattle.rfb_session.proofs.PlayLemmas.{goes_on}
 use Rattle.rfb_session.proofs.PlaySomeLemmas.{device_up_to, few_at_first, few_at_most, few_not_enough, few_not_many}

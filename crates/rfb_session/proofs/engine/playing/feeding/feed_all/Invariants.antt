@@ -2,9 +2,9 @@
 use Rattle.std.proofs.Common.{◌≡◌, ℕ, length, Some, []}
 use Rattle.std.specs.Io.KnownBytes.{Consumes}
 use Rattle.rfb_viewer.specs.declared.fault.ViewerFault.{ViewerFault}
-use Rattle.rfb_viewer.specs.Standing.{fault_of}
-use Rattle.rfb_session.specs.Playing.{most}
-use Rattle.rfb_session.specs.PlayingSome.{AreFewer}
+use Rattle.rfb_viewer.specs.Model.{fault_of}
+use Rattle.rfb_session.specs.Playback.{most}
+use Rattle.rfb_session.specs.FirstUpdates.{AreFewer}
 use Rattle.rfb_session.proofs.PlayLemmas.{Reading}
 use Rattle.rfb_session.proofs.WatcherLemmas.{HeardOver}
 use Rattle.rfb_session.proofs.engine.playing.feeding.feed_all.Given as goal

@@ -1,7 +1,7 @@
 use Rattle.std.proofs.Common.{take}
 use Rattle.std.proofs.lemmas.Result.{err_from_is_err_and}
 use Rattle.rfb_viewer.specs.Told.{seen}
-use Rattle.rfb_session.specs.Watching.{ends_told}
+use Rattle.rfb_session.specs.ViewerActs.{ends_told}
 use Rattle.rfb_session.proofs.WatcherLemmas.{hears_once}
 use Rattle.rfb_session.proofs.engine.playing.feeding.feed_once.Goals as goal
 

@@ -1,8 +1,8 @@
 use Rattle.std.proofs.Common.{◌+◌, ◌-◌, ◌^◌, min, arith, rules, ◌≡◌, ◌∙◌, ap, List, ℕ, length, refl, [], Ok, Err}
 use Rattle.std.proofs.lemmas.Result.{err_from_is_err_and}
 use Rattle.rfb_viewer.specs.declared.viewer.Viewer.{Viewer}
-use Rattle.rfb_viewer.specs.Standing.{fault_of}
-use Rattle.rfb_session.specs.PlayingSome.{AreFewer, AreNoFewer}
+use Rattle.rfb_viewer.specs.Model.{fault_of}
+use Rattle.rfb_session.specs.FirstUpdates.{AreFewer, AreNoFewer}
 use Rattle.rfb_session.specs.Watcher.{EndsRead}
 use Rattle.rfb_session.proofs.FailedLemmas.{again_as, no_answer}
 use Rattle.rfb_session.proofs.WrittenLemmas.{empty_rest}

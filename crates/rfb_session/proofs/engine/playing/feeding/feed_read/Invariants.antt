@@ -1,8 +1,8 @@
 -- The first of the bytes were fed and their updates counted, and these are not enough.
 use Rattle.std.proofs.Common.{◌+◌, ◌-◌, ◌^◌, ℕ, min, length, ◌≡◌, Some}
 use Rattle.rfb_viewer.specs.declared.fault.ViewerFault.{ViewerFault}
-use Rattle.rfb_viewer.specs.Standing.{fault_of}
-use Rattle.rfb_session.specs.PlayingSome.{AreFewer}
+use Rattle.rfb_viewer.specs.Model.{fault_of}
+use Rattle.rfb_session.specs.FirstUpdates.{AreFewer}
 use Rattle.rfb_session.proofs.PlayLemmas.{Watched}
 use Rattle.rfb_session.proofs.WatcherLemmas.{HeardOf}
 use Rattle.rfb_session.proofs.engine.playing.feeding.feed_read.Given as goal

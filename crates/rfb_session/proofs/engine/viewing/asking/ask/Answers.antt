@@ -1,5 +1,5 @@
 use Rattle.std.proofs.Common.{[]}
-use Rattle.rfb_session.specs.Looking.{HasAsked, IsCutInAsking}
+use Rattle.rfb_session.specs.EngineRead.{HasAsked, IsCutInAsking}
 use Rattle.rfb_session.specs.Wire.{Nothing, Sends, SendsSome, by_steps}
 use Rattle.rfb_session.proofs.WrittenLemmas.{ok_so, err_so}
 use Rattle.rfb_session.proofs.ViewLemmas.{asks_screen, passes_over}

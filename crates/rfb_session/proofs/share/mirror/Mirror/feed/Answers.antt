@@ -2,7 +2,7 @@ use Rattle.std.proofs.Common.{Option, sym, ◌∙◌, ap, subst, ◌≡◌, Some
 use Rattle.rfb_pixel.specs.declared.colour.Colour.{Colour}
 use Rattle.rfb_picture.specs.Grid.{Grid}
 use Rattle.rfb_viewer.specs.Damage.{damage_of, IsSameOutside}
-use Rattle.rfb_viewer.specs.Standing.{picture_of}
+use Rattle.rfb_viewer.specs.Model.{picture_of}
 use Rattle.rfb_session.specs.Mirrors.{seen_by}
 use Rattle.rfb_session.proofs.MirrorLemmas.{same_outside, sized_shown, shown_sized, feed_sized, feed_stands, fails_at}
 use Rattle.rfb_session.proofs.MirrorSizeLemmas.{IsSized}

@@ -2,7 +2,7 @@ use Rattle.std.proofs.Common.{arith, length, [], refl, sym, ap, ◌∙◌}
 use Rattle.rfb_hello.specs.Version.{version_text}
 use Rattle.rfb_hello.specs.ServerEnd.{ServerSetup}
 use Rattle.rfb_server.specs.Server.{first_server}
-use Rattle.rfb_server.specs.Standing.{with_screen}
+use Rattle.rfb_server.specs.Model.{with_screen}
 use Rattle.rfb_session.proofs.ShareFitLemmas.{fresh_fits, nowhere, version_size, greets_twelve}
 use Rattle.rfb_session.proofs.share.seat.ShareSeat.new.Goals as goal
 

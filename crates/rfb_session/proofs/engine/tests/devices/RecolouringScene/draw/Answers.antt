@@ -4,7 +4,7 @@ use Rattle.rfb_picture.specs.Grid.{Grid}
 use Rattle.rfb_codec.specs.Effect.{IsAlike}
 use Rattle.rfb_server.specs.declared.server.Server.{Server}
 use Rattle.rfb_server.specs.declared.fault.Outside.{Outside}
-use Rattle.rfb_server.specs.Standing.{Draws, screen_of}
+use Rattle.rfb_server.specs.Model.{Draws, screen_of}
 use Rattle.rfb_session.proofs.SizeLemmas.{width-changed, height-changed}
 use Rattle.rfb_session.proofs.engine.tests.devices.RecolouringScene.draw.Goals as goal
 

@@ -6,7 +6,7 @@ use Rattle.rfb_viewer.specs.declared.viewer.Viewer.{Viewer}
 use Rattle.rfb_viewer.specs.declared.viewer.moved.Move.{Move}
 use Rattle.rfb_viewer.specs.Moved.{moved_of, moves_after}
 use Rattle.rfb_viewer.specs.ServerBytes.{FromServer, server_bytes}
-use Rattle.rfb_viewer.specs.Standing.{StandsFor}
+use Rattle.rfb_viewer.specs.Model.{StandsFor}
 use Rattle.rfb_viewer.specs.Viewer.{Viewing, ViewerState}
 
 -- the item that the bytes end, if they do, adds its copy

@@ -15,13 +15,13 @@ use Rattle.rfb_hello.specs.KeptText.{KeptText}
 use Rattle.rfb_hello.specs.declared.viewer_hello.progress.Cause.{Cause}
 use Rattle.rfb_hello.specs.declared.viewer_hello.progress.Cause.TheVariants.{Refused as RefusedCause}
 use Rattle.rfb_hello.specs.declared.viewer_hello.progress.Cause.TheVariants.{SecurityFailed as FailedCause}
-use Rattle.rfb_hello.specs.ViewerStanding.{IsReasonKept, reason_of as reason_in}
+use Rattle.rfb_hello.specs.ViewerModel.{IsReasonKept, reason_of as reason_in}
 use Rattle.rfb_viewer.specs.declared.fault.ViewerFault.{ViewerFault}
 use Rattle.rfb_viewer.specs.declared.fault.ViewerFault.TheVariants.{Refused, SecurityFailed, NoMemory}
 use Rattle.rfb_viewer.specs.declared.viewer.Viewer.{Viewer}
 use Rattle.rfb_viewer.specs.ServerBytes.{ServerAt, server_bytes}
 use Rattle.rfb_viewer.specs.Viewer.{Viewing, ViewerState, viewer, AsksMemory}
-use Rattle.rfb_viewer.specs.Standing.{StandsFor, picture_of, reason_of}
+use Rattle.rfb_viewer.specs.Model.{StandsFor, picture_of, reason_of}
 
 -- from each state and prefix that it stood for, the bytes lead through whole items, which gave no
 -- event, to such bytes of the next one

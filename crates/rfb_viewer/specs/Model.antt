@@ -9,8 +9,8 @@ use Rattle.rfb_wire.specs.declared.encoding.Encoding.{Encoding}
 use Rattle.rfb_hello.specs.declared.version.Version.{Version}
 use Rattle.rfb_hello.specs.ViewerEnd.{ViewerSetup}
 use Rattle.rfb_hello.specs.declared.offered.Offered.{Offered}
-use Rattle.rfb_hello.specs.Offering.{offered_of as offered_in}
-use Rattle.rfb_hello.specs.ViewerStanding.{setup_of, reason_of as reason_in}
+use Rattle.rfb_hello.specs.Offer.{offered_of as offered_in}
+use Rattle.rfb_hello.specs.ViewerModel.{setup_of, reason_of as reason_in}
 use Rattle.rfb_viewer.specs.declared.fault.ViewerFault.{ViewerFault}
 use Rattle.rfb_viewer.specs.declared.viewer.Viewer.{Viewer}
 use Rattle.rfb_viewer.specs.declared.viewer.progress.Request.{Request}

@@ -7,14 +7,14 @@ use Rattle.rfb_viewer.specs.declared.viewer.Viewer.{Viewer}
 use Rattle.rfb_viewer.specs.declared.viewer.progress.Failure.{Failure}
 use Rattle.rfb_viewer.specs.declared.viewer.updates.Taken.{Taken}
 use Rattle.rfb_viewer.specs.Counted.{IsPlacedAt}
-use Rattle.rfb_viewer.specs.Failing.{KeepsReason}
-use Rattle.rfb_viewer.specs.Offering.{KeepsOffer, TakesOffer}
+use Rattle.rfb_viewer.specs.Failed.{KeepsReason}
+use Rattle.rfb_viewer.specs.Offer.{KeepsOffer, TakesOffer}
 use Rattle.rfb_viewer.specs.Told.{seen}
-use Rattle.rfb_viewer.specs.Standing.{fault_of, making_of, taken_of}
-use Rattle.rfb_viewer.specs.inside.Damaging.{Damages, EndsIn}
+use Rattle.rfb_viewer.specs.Model.{fault_of, making_of, taken_of}
+use Rattle.rfb_viewer.specs.inside.ItemDamage.{Damages, EndsIn}
 use Rattle.rfb_viewer.specs.Moved.{moved_of}
-use Rattle.rfb_viewer.specs.inside.Moving.{Moves}
-use Rattle.rfb_viewer.specs.inside.Feeding.{StepsOn, end_event}
+use Rattle.rfb_viewer.specs.inside.ItemMoves.{Moves}
+use Rattle.rfb_viewer.specs.inside.FedBytes.{StepsOn, end_event}
 
 -- it takes some of the bytes, all of one item, and goes on
 pub record Takes (old : Viewer) (bytes : List ℕ) (used : ℕ) (event : Option ViewerEvent)

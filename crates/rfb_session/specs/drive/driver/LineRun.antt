@@ -6,8 +6,8 @@ use Rattle.std.specs.Global.{Vec}
 use Rattle.rfb_pixel.specs.declared.colour.Colour.{Colour}
 use Rattle.rfb_picture.specs.declared.rect.Rect.{Rect}
 use Rattle.rfb_picture.specs.Grid.{Grid}
-use Rattle.rfb_viewer.specs.Standing.{picture_of}
-use Rattle.rfb_wire.specs.stream.Placing.{counted_on}
+use Rattle.rfb_viewer.specs.Model.{picture_of}
+use Rattle.rfb_wire.specs.stream.FaultPlace.{counted_on}
 use Rattle.rfb_session.specs.declared.drive.drive_line.BadLine.{BadLine}
 use Rattle.rfb_session.specs.declared.drive.drive_line.DriveLine.{DriveLine}
 use Rattle.rfb_session.specs.declared.drive.drive_line.DriveLine.TheVariants as Line
@@ -26,9 +26,9 @@ use Rattle.rfb_session.specs.declared.netpbm.Pixmap.{Pixmap}
 use Rattle.rfb_session.specs.drive.DriveLines.{Says, SaysNone}
 use Rattle.rfb_session.specs.drive.driver.Driver.{EndsWith, Finishes, FinishesIf, Refuses, ends}
 use Rattle.rfb_session.specs.drive.driver.Input.{IsLineOf, IsPart, IsTooLong, is_skipped, taken}
-use Rattle.rfb_session.specs.drive.driver.Looking.{Fits, IsSame, IsUnlike, is_part, part_or}
+use Rattle.rfb_session.specs.drive.driver.Sight.{Fits, IsSame, IsUnlike, is_part, part_or}
 use Rattle.rfb_session.specs.drive.driver.Rigs.{Rigging, Looked, Took, Saved}
-use Rattle.rfb_session.specs.drive.driver.Sending.{OfText, acts_of, place_named, place_or, spelled}
+use Rattle.rfb_session.specs.drive.driver.Acts.{OfText, acts_of, place_named, place_or, spelled}
 use Rattle.rfb_session.specs.drive.driver.Tasks.{is_idle, is_passed, is_touched}
 
 abbrev pub millis : ℕ → ℕ

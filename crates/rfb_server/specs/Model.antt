@@ -9,11 +9,11 @@ use Rattle.rfb_picture.specs.Area.{Places}
 use Rattle.rfb_wire.specs.declared.encoding.Encoding.{Encoding}
 use Rattle.rfb_codec.specs.RectData.{moved_to}
 use Rattle.rfb_hello.specs.declared.version.Version.{Version}
-use Rattle.rfb_hello.specs.ServerStanding.{setup_of}
+use Rattle.rfb_hello.specs.ServerModel.{setup_of}
 use Rattle.rfb_server.specs.declared.fault.ServerFault.{ServerFault}
 use Rattle.rfb_server.specs.declared.session.Session.{Session}
 use Rattle.rfb_server.specs.declared.server.Server.{Server}
-use Rattle.rfb_server.specs.Following.{Follows}
+use Rattle.rfb_server.specs.KnownScreen.{Follows}
 use Rattle.rfb_server.specs.Server.{Serving, ServerState}
 use Rattle.rfb_server.specs.Progress.{ProgressStandsFor, fault_in}
 

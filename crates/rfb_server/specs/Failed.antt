@@ -11,8 +11,8 @@ use Rattle.rfb_server.specs.declared.session.Session.{Session}
 use Rattle.rfb_server.specs.declared.server.Server.{Server}
 use Rattle.rfb_server.specs.ClientBytes.{client_bytes}
 use Rattle.rfb_server.specs.Server.{Serving, ServerState, server, AsksMemory}
-use Rattle.rfb_server.specs.Standing.{SessionStandsFor, StandsFor, screen_of}
-use Rattle.rfb_server.specs.Standing.{Notes, notes_in, notes_of, notes_at}
+use Rattle.rfb_server.specs.Model.{SessionStandsFor, StandsFor, screen_of}
+use Rattle.rfb_server.specs.Model.{Notes, notes_in, notes_of, notes_at}
 
 -- it ends at these bytes of the item that stands next in the state, by a fault of theirs or because
 -- it asks for memory there; the screen and the notes are the state's

@@ -11,8 +11,8 @@ use Rattle.rfb_viewer.specs.declared.viewer.Viewer.{Viewer}
 use Rattle.rfb_viewer.specs.ServerBytes.{ServerAt, FromServer, is_between}
 use Rattle.rfb_viewer.specs.Told.{ViewerTold, Reply, Ready, UpdateDone, Bell, CutText, ColourMapSkipped}
 use Rattle.rfb_viewer.specs.Viewer.{Viewing, ViewerState, viewer, AsksMemory}
-use Rattle.rfb_viewer.specs.Standing.{StandsFor, fault_of}
-use Rattle.rfb_viewer.specs.Failing.{KeepsPicture, KeepsReason}
+use Rattle.rfb_viewer.specs.Model.{StandsFor, fault_of}
+use Rattle.rfb_viewer.specs.Failed.{KeepsPicture, KeepsReason}
 use Rattle.rfb_viewer.specs.Calls.{request_refusal, requested}
 use Rattle.rfb_viewer.specs.Messages.{request_message}
 use Rattle.rfb_session.specs.InFlight.{viewer_reply}

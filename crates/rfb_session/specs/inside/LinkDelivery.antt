@@ -3,20 +3,20 @@ use Rattle.std.specs.Prelude.{◌≡◌, ◌≢◌, ℕ, Bool, List, ◌++◌, t
 use Rattle.rfb_server.specs.declared.fault.ServerFault.{ServerFault}
 use Rattle.rfb_server.specs.declared.fault.ServerFault.TheVariants.{NoMemory as ServerWants}
 use Rattle.rfb_server.specs.declared.session.Session.{Session}
-use Rattle.rfb_server.specs.Standing.{session_fault}
+use Rattle.rfb_server.specs.Model.{session_fault}
 use Rattle.rfb_viewer.specs.declared.fault.ViewerFault.{ViewerFault}
 use Rattle.rfb_viewer.specs.declared.fault.ViewerFault.TheVariants.{NoMemory as ViewerWants}
 use Rattle.rfb_viewer.specs.declared.viewer.Viewer.{Viewer}
-use Rattle.rfb_viewer.specs.Standing.{fault_of}
+use Rattle.rfb_viewer.specs.Model.{fault_of}
 use Rattle.rfb_session.specs.declared.link.Link.{Link}
 use Rattle.rfb_session.specs.Link.{Ends, LinkState}
 use Rattle.rfb_session.specs.LinkSteps.{MovesToViewer, MovesToServer}
-use Rattle.rfb_session.specs.LinkStanding.{LinkStandsFor, server_fault_of, viewer_fault_of}
+use Rattle.rfb_session.specs.LinkModel.{LinkStandsFor, server_fault_of, viewer_fault_of}
 use Rattle.rfb_session.specs.LinkBytes.{HearsOver, IsSole, SessionEndsBy, ViewerEndsBy}
 use Rattle.rfb_session.specs.InFlight.{AreMade}
 use Rattle.rfb_session.specs.Network.{Network, IsReached}
 use Rattle.rfb_session.specs.EngineRun.{TakesNone}
-use Rattle.rfb_session.specs.Watching.{ViewerFeeds}
+use Rattle.rfb_session.specs.ViewerActs.{ViewerFeeds}
 
 -- this holds where the viewer has failed, and not for want of memory
 abbrev pub IfViewerEnded : Link → Type 0 → Type 0

@@ -6,8 +6,8 @@ use Rattle.rfb_viewer.specs.Told.{ViewerTold, UpdateDone}
 use Rattle.rfb_session.specs.declared.engine.fault.EngineFault.{EngineFault}
 use Rattle.rfb_session.specs.declared.engine.fault.EngineFault.TheVariants.{Server, Viewer as ViewerEnded, Truncated}
 use Rattle.rfb_session.specs.declared.engine.fault.EngineFault.TheVariants.{Device, NoMemory}
-use Rattle.rfb_session.specs.Watching.{ViewerRuns, WasFed, StandsBetween, ends_told}
-use Rattle.rfb_session.specs.Playing.{Played, AllPlayed, PlayedUntil, StopsPlaying}
+use Rattle.rfb_session.specs.ViewerActs.{ViewerRuns, WasFed, StandsBetween, ends_told}
+use Rattle.rfb_session.specs.Playback.{Played, AllPlayed, PlayedUntil, StopsPlaying}
 
 -- it was fed these bytes, and the update that they end, if they do, was counted after those before
 pub record WasCounted (old : Viewer) (bytes : List ℕ) (before told : ℕ) (new : Viewer)

@@ -5,13 +5,13 @@ use Rattle.rfb_viewer.specs.declared.fault.ViewerFault.{ViewerFault}
 use Rattle.rfb_viewer.specs.declared.viewer.Viewer.{Viewer}
 use Rattle.rfb_viewer.specs.Told.{ViewerTold}
 use Rattle.rfb_viewer.specs.Viewer.{Viewing, ViewerState}
-use Rattle.rfb_viewer.specs.Standing.{StandsFor}
+use Rattle.rfb_viewer.specs.Model.{StandsFor}
 use Rattle.rfb_session.specs.declared.engine.fault.EngineFault.{EngineFault}
 use Rattle.rfb_session.specs.declared.engine.fault.EngineFault.TheVariants.{Server, Viewer as ViewerEnded, Truncated}
 use Rattle.rfb_session.specs.declared.engine.fault.EngineFault.TheVariants.{Device, NoMemory}
 use Rattle.rfb_session.specs.Devices.{AppendsBeginning}
 use Rattle.rfb_session.specs.EngineRun.{Did}
-use Rattle.rfb_session.specs.Watching.{ViewerAct, Asks, viewer_sends, ends_told, WasFed, EndsBy}
+use Rattle.rfb_session.specs.ViewerActs.{ViewerAct, Asks, viewer_sends, ends_told, WasFed, EndsBy}
 use Rattle.rfb_session.specs.ViewEngine.{is_incremental, RunsInTurn, KeepsFirst, KeepsUntil}
 use Rattle.rfb_session.specs.Wire.{Writing}
 

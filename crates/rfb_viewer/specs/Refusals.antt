@@ -13,7 +13,7 @@ use Rattle.rfb_viewer.specs.declared.viewer.progress.Progress.TheVariants.{RectH
 use Rattle.rfb_viewer.specs.declared.viewer.progress.Progress.TheVariants.{Data, Colours, CutText}
 use Rattle.rfb_viewer.specs.declared.viewer.progress.Progress.TheVariants.{Failed}
 use Rattle.rfb_viewer.specs.Calls.{is_inside, refusal_if}
-use Rattle.rfb_viewer.specs.Standing.{is_outstanding}
+use Rattle.rfb_viewer.specs.Model.{is_outstanding}
 
 -- ---- what calls look at
 

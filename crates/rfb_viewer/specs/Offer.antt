@@ -3,14 +3,14 @@
 use Rattle.std.specs.Prelude.{◌≡◌, ℕ, List, Option, Some}
 use Rattle.rfb_wire.specs.stream.Sequel.{First, Second}
 use Rattle.rfb_hello.specs.declared.offered.Offered.{Offered}
-use Rattle.rfb_hello.specs.Offering.{IsOfferedAt as IsOfferedIn, IsOfferOn as IsOfferIn}
+use Rattle.rfb_hello.specs.Offer.{IsOfferedAt as IsOfferedIn, IsOfferOn as IsOfferIn}
 use Rattle.rfb_viewer.specs.declared.fault.ViewerFault.{ViewerFault}
 use Rattle.rfb_viewer.specs.declared.fault.ViewerFault.TheVariants.{NoneNotOffered, BadSecurityWord}
 use Rattle.rfb_viewer.specs.declared.viewer.Viewer.{Viewer}
 use Rattle.rfb_viewer.specs.ServerBytes.{ServerAt}
 use Rattle.rfb_viewer.specs.Told.{ViewerTold, Reply}
-use Rattle.rfb_viewer.specs.Failing.{LeadsTo}
-use Rattle.rfb_viewer.specs.Standing.{offered_of}
+use Rattle.rfb_viewer.specs.Failed.{LeadsTo}
+use Rattle.rfb_viewer.specs.Model.{offered_of}
 
 -- these bytes are the word of the type that is chosen, or the list of exactly those types
 abbrev pub IsOfferedAt : Offered → ServerAt → List ℕ → Type 0

@@ -6,7 +6,7 @@ use Rattle.rfb_server.specs.declared.hint.Hint.{Hint}
 use Rattle.rfb_server.specs.Encodings.{is_listed}
 use Rattle.rfb_server.specs.Server.{ServerState}
 use Rattle.rfb_server.specs.Request.{is_asked, is_whole}
-use Rattle.rfb_server.specs.Composing.{Move, moved, IsGain}
+use Rattle.rfb_server.specs.Composition.{Move, moved, IsGain}
 
 -- the copy that a hint speaks of
 abbrev pub move_of : Hint → Move

@@ -3,7 +3,7 @@ use Rattle.std.specs.Prelude.{◌≡◌, ℕ, suc, zero, Bool, cond, List, [], �
 use Rattle.std.specs.Fmt.{decimal}
 use Rattle.rfb_session.specs.declared.share.event.SeatEvent.{SeatEvent}
 use Rattle.rfb_session.specs.declared.share.event.SeatEvent.TheVariants.{Ready, Key, Pointer, CutText}
-use Rattle.rfb_session.specs.owner.Telling.{join_line, leave_line, event_line}
+use Rattle.rfb_session.specs.owner.ShareLines.{join_line, leave_line, event_line}
 
 -- a connection from there takes a seat
 abbrev pub come_line : ℕ → List ℕ → List ℕ

@@ -1,6 +1,6 @@
 -- Whether anybody at a share waits for an update.
 use Rattle.std.specs.Prelude.{ℕ, Option, Some, None}
-use Rattle.rfb_server.specs.Updating.{HasAsked}
+use Rattle.rfb_server.specs.UpdateCall.{HasAsked}
 use Rattle.rfb_session.specs.declared.share.Share.{Share}
 use Rattle.rfb_session.specs.declared.share.seat.ShareSeat.{ShareSeat}
 use Rattle.rfb_session.specs.Share.{seat_in}

@@ -6,7 +6,7 @@ use Rattle.rfb_viewer.specs.declared.viewer.Viewer.{Viewer}
 use Rattle.rfb_session.specs.declared.engine.fault.EngineFault.{EngineFault}
 use Rattle.rfb_session.specs.declared.engine.fault.EngineFault.TheVariants.{Server, Viewer as ViewerEnded, Truncated}
 use Rattle.rfb_session.specs.declared.engine.fault.EngineFault.TheVariants.{Device, NoMemory}
-use Rattle.rfb_session.specs.Watching.{ViewerRuns, EndsBy, StandsBetween}
+use Rattle.rfb_session.specs.ViewerActs.{ViewerRuns, EndsBy, StandsBetween}
 
 -- a count stays at the greatest 64-bit number
 abbrev pub most : ℕ → ℕ

@@ -4,8 +4,8 @@ use Rattle.std.specs.Prelude.{Bool, true, false, cond, ◌&&◌, not, List, []}
 use Rattle.std.specs.Prelude.{Option, Some, None, is_some}
 use Rattle.rfb_pixel.specs.declared.colour.Colour.{Colour}
 use Rattle.rfb_picture.specs.Grid.{Grid}
-use Rattle.rfb_viewer.specs.Standing.{picture_of}
-use Rattle.rfb_wire.specs.stream.Placing.{counted_on}
+use Rattle.rfb_viewer.specs.Model.{picture_of}
+use Rattle.rfb_wire.specs.stream.FaultPlace.{counted_on}
 use Rattle.rfb_session.specs.console.Time.{begun as first_of}
 use Rattle.rfb_session.specs.declared.drive.driver.Driver.{Driver}
 use Rattle.rfb_session.specs.declared.drive.driver.Turns.{Turns}
@@ -14,7 +14,7 @@ use Rattle.rfb_session.specs.declared.drive.driver.saying.Lateness.{Lateness}
 use Rattle.rfb_session.specs.drive.driver.Driver.{EndsWith, FinishesIf}
 use Rattle.rfb_session.specs.drive.driver.Input.{part_only}
 use Rattle.rfb_session.specs.drive.driver.Rigs.{Rigging, Kept}
-use Rattle.rfb_session.specs.drive.driver.Running.{Rests, RunsLines, is_free, with_task}
+use Rattle.rfb_session.specs.drive.driver.LineRun.{Rests, RunsLines, is_free, with_task}
 use Rattle.rfb_session.specs.drive.driver.Tasks.{due, is_passed, lateness, stamped, wanted}
 
 -- what waits is written until then after the end; else the next turn is wanted when something happens by time

@@ -8,7 +8,7 @@ use Rattle.rfb_viewer.specs.declared.event.ViewerEvent.TheVariants.{UpdateDone}
 use Rattle.rfb_viewer.specs.declared.viewer.Viewer.{Viewer}
 use Rattle.rfb_viewer.specs.Told.{seen}
 use Rattle.rfb_viewer.specs.Viewer.{Viewing, viewer, AsksMemory}
-use Rattle.rfb_viewer.specs.Standing.{StandsFor}
+use Rattle.rfb_viewer.specs.Model.{StandsFor}
 
 -- it steps by bytes of one item, all of which it used: what it tells, and what it then stands for,
 -- are as the grammar has it

@@ -14,7 +14,7 @@ use Rattle.rfb_server.specs.declared.drawing.Drawing.TheVariants as As
 use Rattle.rfb_server.specs.declared.drawing.notice.Notice.{Notice}
 use Rattle.rfb_server.specs.declared.hint.Hint.{Hint as HintOf}
 use Rattle.rfb_server.specs.Hints.{with_hint, scroll_hint}
-use Rattle.rfb_server.specs.Standing.{row_from, AreOf, HoldsBoth}
+use Rattle.rfb_server.specs.Model.{row_from, AreOf, HoldsBoth}
 
 -- one drawing, or a hint
 pub data Stroke : Type 0 where

@@ -12,7 +12,7 @@ use Rattle.rfb_hello.specs.declared.step.ViewerStep.TheVariants.{Reply}
 use Rattle.rfb_hello.specs.declared.viewer_hello.ViewerHello.{ViewerHello}
 use Rattle.rfb_hello.specs.ServerHandshake.{ServerPoint, AwaitsSecurity, IsWord, IsTypes}
 use Rattle.rfb_hello.specs.ViewerEnd.{ViewerSetup, viewer_end}
-use Rattle.rfb_hello.specs.ViewerStanding.{StandsFor}
+use Rattle.rfb_hello.specs.ViewerModel.{StandsFor}
 
 -- what the server has offered
 abbrev pub offered_of : ViewerHello → Offered

@@ -19,7 +19,7 @@ use Rattle.rfb_session.specs.declared.drive.words.Press.{Press}
 use Rattle.rfb_session.specs.declared.drive.words.Way.{Way}
 use Rattle.rfb_session.specs.declared.drive.words.Way.TheVariants as Turns
 use Rattle.rfb_session.specs.drive.Keys.{down, up}
-use Rattle.rfb_session.specs.drive.Typing.{typed}
+use Rattle.rfb_session.specs.drive.Keyboard.{typed}
 
 -- ---- messages, RFC 6143 sections 7.5.4 to 7.5.6
 

@@ -12,8 +12,8 @@ use Rattle.rfb_viewer.specs.declared.viewer.progress.Progress.{Progress}
 use Rattle.rfb_viewer.specs.declared.viewer.progress.Progress.TheVariants.{Handshake, Head, RectHead as RectHeadPart}
 use Rattle.rfb_viewer.specs.declared.viewer.progress.Progress.TheVariants.{Data, Colours, CutText, Failed}
 use Rattle.rfb_viewer.specs.Damage.{joined, under_way, ended_of, damage_of, head_rect, holds, colour_at}
-use Rattle.rfb_viewer.specs.Failing.{EndsAt}
-use Rattle.rfb_viewer.specs.Standing.{StandsFor, picture_of}
+use Rattle.rfb_viewer.specs.Failed.{EndsAt}
+use Rattle.rfb_viewer.specs.Model.{StandsFor, picture_of}
 use Rattle.rfb_viewer.specs.Viewer.{Viewing, ViewerState}
 
 -- where a screen was made it counts whole

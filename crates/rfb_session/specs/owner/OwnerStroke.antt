@@ -1,8 +1,8 @@
 -- What is drawn on a share for its owner's lines.
 use Rattle.std.specs.Prelude.{◌≡◌, Bool, true, false, Option, Some, None}
-use Rattle.rfb_server.specs.Drawing.{Stroke}
-use Rattle.rfb_server.specs.Drawing.{Fill as OneFill, Copy as OneCopy, Hint as OneHint}
-use Rattle.rfb_server.specs.Drawing.{Scroll as OneScroll}
+use Rattle.rfb_server.specs.Strokes.{Stroke}
+use Rattle.rfb_server.specs.Strokes.{Fill as OneFill, Copy as OneCopy, Hint as OneHint}
+use Rattle.rfb_server.specs.Strokes.{Scroll as OneScroll}
 use Rattle.rfb_session.specs.declared.share.Share.{Share}
 use Rattle.rfb_session.specs.Share.{canvas_of}
 use Rattle.rfb_session.specs.ShareScreen.{IsOnCanvas}

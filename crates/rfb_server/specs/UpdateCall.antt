@@ -7,12 +7,12 @@ use Rattle.rfb_server.specs.declared.session.Session.{Session}
 use Rattle.rfb_server.specs.declared.server.Server.{Server}
 use Rattle.rfb_server.specs.Server.{Serving, ServerState}
 use Rattle.rfb_server.specs.Progress.{is_ready}
-use Rattle.rfb_server.specs.Standing.{SessionStandsFor, StandsFor, KeepsSession, Keeps}
-use Rattle.rfb_server.specs.Standing.{session_fault, session_serving, fault_of, screen_of}
-use Rattle.rfb_server.specs.Composing.{Part, Composes, IsDue}
+use Rattle.rfb_server.specs.Model.{SessionStandsFor, StandsFor, KeepsSession, Keeps}
+use Rattle.rfb_server.specs.Model.{session_fault, session_serving, fault_of, screen_of}
+use Rattle.rfb_server.specs.Composition.{Part, Composes, IsDue}
 use Rattle.rfb_server.specs.declared.hint.Hint.{Hint}
 use Rattle.rfb_server.specs.Hints.{hints_in, hints_of}
-use Rattle.rfb_server.specs.Using.{AreUsed, usable}
+use Rattle.rfb_server.specs.UsedHints.{AreUsed, usable}
 
 -- one composing of what a session stood for, which was due: its bytes were appended, its copies are
 -- those hints that are of use, and over the screen the session stands for what it leaves

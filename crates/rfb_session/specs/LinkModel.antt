@@ -7,14 +7,14 @@ use Rattle.rfb_server.specs.declared.fault.ServerFault.TheVariants.{NoMemory as 
 use Rattle.rfb_server.specs.declared.session.Session.{Session}
 use Rattle.rfb_server.specs.Fault.{fault_number}
 use Rattle.rfb_server.specs.Server.{Serving, ServerState, first_server}
-use Rattle.rfb_server.specs.Composing.{IsDue}
-use Rattle.rfb_server.specs.Standing.{SessionStandsFor, with_screen, session_fault}
-use Rattle.rfb_server.specs.Following.{Follows}
+use Rattle.rfb_server.specs.Composition.{IsDue}
+use Rattle.rfb_server.specs.Model.{SessionStandsFor, with_screen, session_fault}
+use Rattle.rfb_server.specs.KnownScreen.{Follows}
 use Rattle.rfb_viewer.specs.declared.fault.ViewerFault.{ViewerFault}
 use Rattle.rfb_viewer.specs.declared.fault.ViewerFault.TheVariants.{NoMemory as ViewerWants}
 use Rattle.rfb_viewer.specs.declared.viewer.Viewer.{Viewer}
 use Rattle.rfb_viewer.specs.Viewer.{first_viewer}
-use Rattle.rfb_viewer.specs.Standing.{StandsFor as ViewerStandsFor, picture_of, fault_of}
+use Rattle.rfb_viewer.specs.Model.{StandsFor as ViewerStandsFor, picture_of, fault_of}
 use Rattle.rfb_session.specs.declared.event.Event.{Event}
 use Rattle.rfb_session.specs.declared.event.Event.TheVariants.{ToServer, ToViewer}
 use Rattle.rfb_session.specs.declared.link.Link.{Link}
@@ -23,7 +23,7 @@ use Rattle.rfb_session.specs.declared.told.Told.{Told}
 use Rattle.rfb_session.specs.Latest.{composing_in}
 use Rattle.rfb_session.specs.Link.{Ends, LinkState, server_of}
 use Rattle.rfb_session.specs.InFlight.{AreMade}
-use Rattle.rfb_session.specs.Carrying.{Carries}
+use Rattle.rfb_session.specs.TwoEnds.{Carries}
 use Rattle.rfb_session.specs.Network.{Network, Steps, IsReached}
 use Rattle.rfb_session.specs.LinkBytes.{ActsOnBytes}
 use Rattle.rfb_session.specs.Told.{RefusesAs, Tells, TellsAlone}
