@@ -52,8 +52,8 @@ fn same_front(a: &[Colour], b: &[Colour]) -> usize
     at
 }
 
-// Whether the sixteen places of two rows that begin at `at` are the same. It has no branch, so that
-// the compiler compares them by vectors.
+// Whether the sixteen places of two rows that begin at `at` are the same. It has no branch, and the
+// components are compared one by one, so that the compiler takes vectors.
 #[inline(always)]
 fn are_same(a: &[Colour], b: &[Colour], at: usize) -> bool
     requires left { at + 16 ≤ length a.now }
@@ -63,7 +63,8 @@ fn are_same(a: &[Colour], b: &[Colour], at: usize) -> bool
 {
     let mut same = true;
     for place in at..at + PIECE {
-        same = same & (a[place] == b[place]);
+        let (x, y) = (a[place], b[place]);
+        same = same & (x.r == y.r) & (x.g == y.g) & (x.b == y.b);
     }
     same
 }
