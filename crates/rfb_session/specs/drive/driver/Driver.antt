@@ -65,6 +65,12 @@ module _ {R : Type 0} where
     pub lines : driver.lines ≡ []
     pub notes : driver.notes ≡ []
     pub outcome : driver.outcome ≡ None
+    pub changed : driver.pace.changed ≡ None
+    pub rooms : (driver.rooms.server ≡ 65536) × (driver.rooms.orders ≡ 65536)
+    pub turned : (driver.turns.first ≡ None) × (driver.turns.next ≡ None)
+    pub patience : driver.turns.patience ≡ None
+    pub goes_on : driver.turns.is_over ≡ false
+    pub heard : driver.are_notes_lost ≡ false
 
   -- the rig, the lines that came and what is taken are as they were, and what has ended stays so
   pub record KeepsRig (old new : Driver R) : Type 0 where
