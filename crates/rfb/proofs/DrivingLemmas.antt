@@ -1,9 +1,8 @@
 -- How a drive ends, by what happened to its core.
-use Rattle.std.proofs.Common.{◌≡◌, ◌∙◌, ap, sym, subst, ℕ, List, [], Option, Some, None, Result, Ok, Err}
+use Rattle.std.proofs.Common.{◌≡◌, subst, ℕ, List, [], Option, None, Result, Ok, Err}
 use Rattle.std.proofs.Common.{IfErr, IsErrAnd, OnOk, OnErr, refl, inr}
 use Rattle.rfb_session.specs.declared.drive.driver.Driver.{Driver}
 use Rattle.rfb_session.specs.declared.drive.driver.outcome.DriveOutcome.{DriveOutcome}
-use Rattle.rfb_session.specs.declared.drive.driver.outcome.DriveOutcome.TheVariants.{Done}
 use Rattle.rfb_session.specs.doors.Tenants.{Goes, Happening}
 use Rattle.rfb_session.specs.drive.driver.Steps.{DriverSteps, LetsIn, TurnsAway}
 use Rattle.rfb.specs.declared.driving.drive_words.DriveOptions.{DriveOptions}

@@ -7,6 +7,7 @@ pub mod DrivingLemmas
 pub mod CrossingLemmas
 pub mod EndsLemmas
 pub mod FirstLineLemmas
+pub mod FilmingLemmas
 pub mod FollowingLemmas
 pub mod HubWordLemmas
 pub mod HubStepLemmas

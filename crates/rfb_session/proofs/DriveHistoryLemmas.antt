@@ -11,7 +11,8 @@ use Rattle.rfb_session.specs.drive.driver.DriveHistory.{IsRun, RunsAt, texts_joi
 use Rattle.rfb_session.specs.drive.driver.Rigs.{Rigging}
 use Rattle.rfb_session.specs.drive.driver.LineRun.{LastLine, LongLine, NextLine, NoLine, RunsLines}
 use Rattle.rfb_session.specs.drive.driver.Steps.{DriverSteps}
-use Rattle.rfb_session.specs.drive.driver.DriverTurn.{AllEnded, EndedBefore, GivesUp, GivesUpFirst, GoesOn, InTime, IsLate}
+use Rattle.rfb_session.specs.drive.driver.DriverTurn.{AllEnded, EndedBefore, GivesUp, GivesUpFirst, GoesOn}
+use Rattle.rfb_session.specs.drive.driver.DriverTurn.{InTime, IsLate}
 use Rattle.rfb_session.specs.drive.driver.DriverTurn.{Keeps, KeptPicture, NotLate, NothingShown, Silent, TooLate, Went}
 use Rattle.rfb_session.proofs.DriverLineLemmas.{ended_by, line_stays, long_ends}
 use Rattle.rfb_session.proofs.DriverStepLemmas.{ends_with_keeps, finishes_if_keeps}

@@ -70,7 +70,8 @@ module _ (viewing : Viewing) (old new : Viewer) where
         h.1,
         rw all (message_waits h.0 (b.head ++ (b.colours ++ unit)) h.2.left_is
             (colours_wait b.first b.count b.head (b.colours ++ unit) b.head_is (omega (arith, missing, long, count)))),
-        rw all (part_stands viewing old new s prefix (b.head ++ (b.colours ++ unit)) h.0 (Colours left) stands h.1 h.2 h.3
+        rw all (part_stands viewing old new s prefix (b.head ++ (b.colours ++ unit))
+            h.0 (Colours left) stands h.1 h.2 h.3
             made
             (λ ready stored. (
               ready,
@@ -134,7 +135,8 @@ module _ (viewing : Viewing) (old new : Viewer) where
         h.1,
         rw all (message_waits h.0 (b.head ++ (b.text ++ unit)) h.2.left_is
             (server_text_waits n b.head (b.text ++ unit) b.head_is few)),
-        rw all (part_stands viewing old new s prefix (b.head ++ (b.text ++ unit)) h.0 (CutText n left now) stands h.1 h.2 h.3
+        rw all (part_stands viewing old new s prefix (b.head ++ (b.text ++ unit))
+            h.0 (CutText n left now) stands h.1 h.2 h.3
             made
             (λ ready stored. (
               ready,

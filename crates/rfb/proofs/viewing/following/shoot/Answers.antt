@@ -1,4 +1,4 @@
-use Rattle.rfb.proofs.FollowingLemmas.{keeps_name, reads_film}
+use Rattle.rfb.proofs.FilmingLemmas.{keeps_name, reads_film}
 use Rattle.rfb.proofs.viewing.following.shoot.Goals as goal
 
 pub returns-clause-shot : goal.returns-clause-shot
