@@ -415,6 +415,22 @@ def lines_are_those_of_a_file_that_is_named():
     assert screen.events() == tapped(ord("a"), ord("b"))
 
 
+def lines_may_be_words():
+    screen = Screen()
+    drive = Drive(screen.port, "key a", "# no line", "", "--tell", "key b c", "--", "move 4 6")
+    drive.ends()
+    assert screen.events() == [*tapped(*b"abc"), (POINTER, 0, 4, 6)], screen.events()
+    assert drive.output.endswith(b"done 1\ndone 4\ndone 5\n"), drive.output
+
+
+def a_word_that_is_a_bad_line_is_said_by_its_number():
+    screen = Screen()
+    drive = Drive(screen.port, "key a", "", "kex", "key b")
+    drive.ends(1)
+    assert drive.errors.endswith(b"line 3: bad line\n"), drive.errors
+    assert screen.events() == tapped(ord("a"))
+
+
 def a_format_and_encodings_are_asked_for():
     screen, drive = driven("--format", "rgb565", "--encodings", "copyrect,raw")
     assert screen.heard[1] == (2, COPY_RECT, RAW) and screen.form is FORMATS["rgb565"]
@@ -446,7 +462,8 @@ ROWS = [each_line_is_its_messages_and_no_more, lines_that_come_at_once_are_done_
         what_happens_is_reported, a_bad_line_is_said_by_its_number_and_nothing_of_it_is_sent,
         a_line_that_is_too_long_is_bad, files_that_cannot_be_had_are_said,
         a_server_that_goes_away_ends_it, a_server_that_says_nothing_ends_it_in_time,
-        lines_are_those_of_a_file_that_is_named, a_format_and_encodings_are_asked_for,
+        lines_are_those_of_a_file_that_is_named, lines_may_be_words,
+        a_word_that_is_a_bad_line_is_said_by_its_number, a_format_and_encodings_are_asked_for,
         no_sentence_is_said_where_none_is_wanted, a_drive_goes_through_a_relay]
 
 if __name__ == "__main__":

@@ -93,12 +93,12 @@ share --port 9 --retry 1
 relay a --port 9 -o b
 drive
 drive a:65536
-drive a b
+drive a b -i c
 drive a --port 9
 drive a --timeout 0
 drive a --timeout 4294967296
 drive a --keep
-drive a --tell yes
+drive a --tell=yes
 drive a --format rgb
 drive a -o b
 drive a -i
@@ -205,7 +205,10 @@ Usage: rfb <COMMAND>""" + MORE),
               OF_ADDRESS % b"<SERVER>"),
     bad_words("drive_of_no_server", "drive",
               b"error: the following required arguments were not provided:\n  <SERVER>\n\n"
-              b"Usage: rfb drive <SERVER>" + MORE),
+              b"Usage: rfb drive <SERVER> [LINE]..." + MORE),
+    bad_words("drive_of_a_file_and_of_words", "drive a -i b key",
+              b"error: the argument '--input <FILE>' cannot be used with '[LINE]...'\n\n"
+              b"Usage: rfb drive [OPTIONS] <SERVER> [LINE]..." + MORE),
     bad_words("view_without_a_port", "view",
               b"error: the following required arguments were not provided:\n  --port <P>\n\n"
               b"Usage: rfb view --port <P>" + MORE),

@@ -1,6 +1,8 @@
 -- What was given to options, from what the getters tell.
 use Rattle.std.proofs.Common.{◌≡◌, ◌<◌, ◌^◌, ◌∙◌, ap, ap₂, sym, refl, subst, codes, [], ℕ, Bool, true, false, not, ◌&&◌}
 use Rattle.std.proofs.Common.{List, Option, Some, None, Result, Ok, Err, MatchResult, option_map, IfSome, is_some, Bor}
+use Rattle.std.proofs.Common.{◌+◌, ◌++◌, ◌∷◌, append_assoc, inl, length, map, slice_index_or, take}
+use Rattle.std.proofs.lemmas.List.{flat_map_more, map_more}
 use Rattle.std.proofs.lemmas.Option.{none-some, same_Some}
 use Rattle.std.specs.Str.Parse.{IsNumeral, ParsesUnsigned, digits_value, without_leading_plus}
 use Rattle.clap.specs.Matches.{ReadsOne}
@@ -13,7 +15,7 @@ use Rattle.rfb.specs.declared.options.WrongWords.{WrongWords}
 use Rattle.rfb.specs.declared.options.WrongWords.TheVariants.{Words, Value}
 use Rattle.arrayvec.specs.ArrayVec.{ArrayVec}
 use Rattle.rfb_wire.specs.declared.encoding.Encoding.{Encoding}
-use Rattle.rfb.specs.command.Values.{GivesOr, IsAbsent, IsFlagged, IsThere}
+use Rattle.rfb.specs.command.Values.{GivesOr, IsAbsent, IsFlagged, IsThere, as_lines}
 use Rattle.rfb.specs.command.ServeWords.{CountsConnections, GivesConnections, HasBadConnections}
 use Rattle.rfb.specs.command.ViewWords.{BadAlways, HasBadFollow, HasBadView}
 use Rattle.rfb.specs.command.Program.{asked, program}
@@ -86,6 +88,33 @@ read_given bits E G t None h only numeral small = absurd (none_read bits E G t N
 read_given bits E G t (Some m) h only numeral small =
     ap (λ (n : ℕ). Some n) (number_read bits E G t (Some m) m refl h only)
 
+-- ---- words that are lines
+
+-- a word more is a line more
+pub line_more : (before mid after : List ℕ) (words : List (Bor Text)) (i : ℕ) (d : Bor Text) → i < length words →
+    before ≡ as_lines (map (λ word. word.now) (take i words)) → mid ≡ before ++ (slice_index_or words i d).now →
+    after ≡ mid ++ 10 ∷ [] → after ≡ as_lines (map (λ word. word.now) (take (i + 1) words))
+line_more before mid after words i d inside so_far text end =
+    let more : map (λ (w : Bor Text). w.now) (take (i + 1) words)
+    ≡ map (λ (w : Bor Text). w.now) (take i words) ++ (slice_index_or words i d).now ∷ [] =
+    map_more (λ (w : Bor Text). w.now) words i d inside in
+    end ∙ ap (λ l. l ++ 10 ∷ []) (text ∙ ap (λ l. l ++ (slice_index_or words i d).now) so_far)
+    ∙ append_assoc (as_lines (map (λ word. word.now) (take i words))) (slice_index_or words i d).now (10 ∷ [])
+    ∙ flat_map_more (λ (word : Text). word ++ 10 ∷ []) [] (map (λ word. word.now) (take i words))
+    (slice_index_or words i d).now
+    ∙ ap as_lines (sym more)
+
+-- words are there, or are not, as a getter has it
+pub are_words_there : (o : Option (Bor (List (Bor Text)))) (words : Option (List Text)) →
+    option_map (λ s. map (λ v. v.now) s.now) o ≡ words → is_some o ≡ true → (l : List Text) × (words ≡ Some l)
+are_words_there None words is there = let e : false ≡ true = there in absurd (cc)
+are_words_there (Some s) words is there = (map (λ v. v.now) s.now, sym is)
+
+pub are_words_absent : (o : Option (Bor (List (Bor Text)))) (words : Option (List Text)) →
+    option_map (λ s. map (λ v. v.now) s.now) o ≡ words → is_some o ≡ false → words ≡ None
+are_words_absent None words is none = sym is
+are_words_absent (Some s) words is none = let e : true ≡ false = none in absurd (cc)
+
 -- ---- what words ask for
 
 pub asked_order : (words : List Text) (o : Option (Text × List Row)) (r : Result Order WrongWords) →
@@ -93,7 +122,7 @@ pub asked_order : (words : List Text) (o : Option (Text × List Row)) (r : Resul
     MatchResult r (AreOrdered words) (AreWrong words)
 asked_order words o (Ok order) taken same is =
     (taken, subst (λ (a : Option (Text × List Row)). IsOrder a order) same is)
-asked_order words o (Err (Words error)) taken same is = absurd is
+asked_order words o (Err (Words error)) taken same is = inl is
 asked_order words o (Err (Value value)) taken same is =
     (taken, subst HasBadValue same is)
 

@@ -1,9 +1,10 @@
--- Files in place of standard input and output.
-use Rattle.std.proofs.Common.{◌≡◌, ◌⊎◌, inl, inr, sym, subst, OnOk, OnErr, Result, Ok, Err, Option, None, Some, List, ℕ}
+-- What stands in place of standard input and output.
+use Rattle.std.proofs.Common.{◌≡◌, ◌⊎◌, sym, subst, inl, inr, OnOk, OnErr, Result, Ok, Err, Option, None, Some, List, ℕ}
 use Rattle.std.proofs.Common.{Bor}
 use Rattle.clap.specs.Words.{Text}
 use Rattle.rfb.specs.declared.fault.Failure.{Failure}
-use Rattle.rfb.specs.CommandLine.{FromFile, IntoFile}
+use Rattle.rfb.specs.declared.options.paths.Input.{Input}
+use Rattle.rfb.specs.CommandLine.{FromInput, IntoFile}
 
 pub on_ok : (r : Result (Unit {0}) Failure) (P Q : Type 0) → (P → Q) → OnOk r P → OnOk r Q
 on_ok (Ok done) P Q gives p = gives p
@@ -13,29 +14,22 @@ pub on_err : (r : Result (Unit {0}) Failure) (P Q : Type 0) → (P → Q) → On
 on_err (Ok done) P Q gives p = tt
 on_err (Err failure) P Q gives p = gives p
 
--- what is done with the bytes of a file that is named is done through it
-pub through_file : (input output : Option (Bor Text)) (path : Bor Text)
-    (Acts : Option (List ℕ) → Option (List ℕ) → Option (List ℕ) → Type 0)
-    (read bytes before after : Option (List ℕ)) → input ≡ Some path → IntoFile output (Acts bytes) before after →
-    IntoFile output (λ blank full. FromFile input (λ b. Acts b blank full) read) before after
-through_file input None path Acts read bytes before after is acts =
-    subst (λ (i : Option (Bor Text)). FromFile i (λ b. Acts b before after) read) (sym is) (bytes, acts)
-through_file input (Some file) path Acts read bytes before after is (same, blank, full, acts) = (
-  same,
-  blank,
-  full,
-  subst (λ (i : Option (Bor Text)). FromFile i (λ b. Acts b blank full) read) (sym is) (bytes, acts),
-)
+-- what is written in place of the output is, where more is known of it
+pub into_file : (output : Option (Bor Text)) (Acts Others : Option (List ℕ) → Option (List ℕ) → Type 0)
+    (before after : Option (List ℕ)) → ((b a : Option (List ℕ)) → Acts b a → Others b a) →
+    IntoFile output Acts before after → IntoFile output Others before after
+into_file None Acts Others before after gives acts = gives before after acts
+into_file (Some file) Acts Others before after gives (same, blank, full, acts) =
+    (same, blank, full, gives blank full acts)
 
--- and without one with what is read
-pub through_none : (input output : Option (Bor Text))
-    (Acts : Option (List ℕ) → Option (List ℕ) → Option (List ℕ) → Type 0)
-    (read before after : Option (List ℕ)) → input ≡ None → IntoFile output (Acts read) before after →
-    IntoFile output (λ blank full. FromFile input (λ b. Acts b blank full) read) before after
-through_none input None Acts read before after is acts =
-    subst (λ (i : Option (Bor Text)). FromFile i (λ b. Acts b before after) read) (sym is) acts
-through_none input (Some file) Acts read before after is (same, blank, full, acts) =
-    (same, blank, full, subst (λ (i : Option (Bor Text)). FromFile i (λ b. Acts b blank full) read) (sym is) acts)
+-- what is done with what stands in place of the input is done through it
+pub through : (input i : Input) (output : Option (Bor Text))
+    (Acts : Option (List ℕ) → Option (List ℕ) → Option (List ℕ) → Type 0) (read before after : Option (List ℕ)) →
+    input ≡ i → IntoFile output (λ blank full. FromInput i (λ bytes. Acts bytes blank full) read) before after →
+    IntoFile output (λ blank full. FromInput input (λ bytes. Acts bytes blank full) read) before after
+through input i output Acts read before after is acts =
+    subst (λ (k : Input). IntoFile output (λ blank full. FromInput k (λ bytes. Acts bytes blank full) read) before after)
+    (sym is) acts
 
 -- nothing was written, or what follows
 pub or_other : (P Q R : Type 0) → (Q → R) → P ⊎ Q → P ⊎ R

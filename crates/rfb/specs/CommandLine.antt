@@ -24,6 +24,8 @@ use Rattle.rfb_session.specs.Pixmap.{pixmap}
 use Rattle.clap.specs.Words.{Text}
 use Rattle.rfb.specs.declared.options.Order.{Order}
 use Rattle.rfb.specs.declared.commands.Task.{Task}
+use Rattle.rfb.specs.declared.options.paths.Input.{Input}
+use Rattle.rfb.specs.declared.options.paths.Input.TheVariants.{Standard, File, Lines}
 use Rattle.rfb.specs.declared.options.paths.Paths.{Paths}
 use Rattle.rfb.specs.declared.commands.Task.TheVariants.{Script, Loop, Play, Serve, View, Follow, Share, Relay}
 use Rattle.rfb.specs.declared.commands.Task.TheVariants.{Drive}
@@ -163,10 +165,12 @@ Leaves P (Share options) read before after = LeavesShare options before after
 Leaves P (Relay options) read before after = LeavesRelay options before after
 Leaves P (Drive options) read before after = LeavesDrive P options before after
 
--- where a file is named, it is read in place of standard input; of its bytes nothing is known
-abbrev pub FromFile : Option (Bor Text) → (Option (List ℕ) → Type 0) → Option (List ℕ) → Type 0
-FromFile None Acts read = Acts read
-FromFile (Some path) Acts read = (bytes : Option (List ℕ)) × Acts bytes
+-- a file that is named is read in place of standard input, and of its bytes nothing is known; words
+-- that are lines are, too
+abbrev pub FromInput : Input → (Option (List ℕ) → Type 0) → Option (List ℕ) → Type 0
+FromInput Standard Acts read = Acts read
+FromInput (File path) Acts read = (bytes : Option (List ℕ)) × Acts bytes
+FromInput (Lines text) Acts read = Acts (Some text.items)
 
 -- where a file is named, it is written in place of standard output, which stays as it was
 abbrev pub IntoFile : Option (Bor Text) → (Option (List ℕ) → Option (List ℕ) → Type 0) →
@@ -175,11 +179,11 @@ IntoFile None Acts before after = Acts before after
 IntoFile (Some path) Acts before after =
     (after ≡ before) × (blank full : Option (List ℕ)) × Acts blank full
 
--- both; where no file is named, this is what was read and written
+-- both; where nothing is named, this is what was read and written
 abbrev pub Through : Paths → (Option (List ℕ) → Option (List ℕ) → Option (List ℕ) → Type 0) →
     Option (List ℕ) → Option (List ℕ) → Option (List ℕ) → Type 0
 Through paths Acts read before after =
-    IntoFile paths.output (λ blank full. FromFile paths.input (λ bytes. Acts bytes blank full)
+    IntoFile paths.output (λ blank full. FromInput paths.input (λ bytes. Acts bytes blank full)
     read) before after
 
 -- the same of what words ask for

@@ -2,9 +2,9 @@
 use Rattle.std.specs.Prelude.{◌≡◌, ◌≢◌, ◌≤◌, ◌⊎◌, Bool, true, false, List, [], ◌∷◌, Option, Some, None, codes, filter}
 use Rattle.std.specs.Prelude.{not, nat_eq, ◌&&◌}
 use Rattle.std.specs.Cmp.Lexicographic.{pointwise}
-use Rattle.clap.specs.Words.{HasKind, IsAmong, Row, Text, fault_of, first_of}
+use Rattle.clap.specs.Words.{HasKind, IsAmong, Row, Text, fault_of, first_of, kind_of}
 use Rattle.clap.specs.declared.error.kind.ErrorKind.{ErrorKind}
-use Rattle.clap.specs.declared.error.kind.ErrorKind.TheVariants.{DisplayHelp, DisplayVersion}
+use Rattle.clap.specs.declared.error.kind.ErrorKind.TheVariants.{DisplayHelp, DisplayVersion, OutOfMemory}
 use Rattle.rfb.specs.declared.options.Order.{Order}
 use Rattle.rfb.specs.declared.commands.Task.{Task}
 use Rattle.rfb.specs.declared.commands.Task.TheVariants.{Script, Loop, Play, Serve, View, Follow, Share, Relay}
@@ -131,5 +131,5 @@ AreWrong words (Words error) = HasKind (fault_of program words) error
 AreWrong words (Value value) = HaveBadValue words
 
 abbrev pub IsWrongValue : Option (Text × List Row) → WrongWords → Type 0
-IsWrongValue given (Words error) = ⊥
+IsWrongValue given (Words error) = kind_of error ≡ OutOfMemory
 IsWrongValue given (Value value) = HasBadValue given

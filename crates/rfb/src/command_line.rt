@@ -72,6 +72,13 @@ Usage: rfb view [OPTIONS] [SERVER]
 
 For more information, try '--help'.";
 
+const LINES: &str = "\
+error: the argument '--input <FILE>' cannot be used with '[LINE]...'
+
+Usage: rfb drive [OPTIONS] <SERVER> [LINE]...
+
+For more information, try '--help'.";
+
 const SIDES: &str = "\
 error: the argument '--picture <FILE>' cannot be used with '--width <N>' or '--height <N>'
 
@@ -234,6 +241,7 @@ For more information, try '--help'."
         BadValue::Connections => writeln!(errors, "{CONNECTIONS}"),
         BadValue::Followed => writeln!(errors, "{FOLLOWED}"),
         BadValue::Pace => writeln!(errors, "{PACE}"),
+        BadValue::Lines => writeln!(errors, "{LINES}"),
     };
 }
 

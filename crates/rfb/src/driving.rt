@@ -65,7 +65,7 @@ pub fn drive_at<P: AllocGlobal + Clock + Files + Net, R: Read, W: Write, E: Writ
     }
     let server = server_at(context.rt, options.server, options.timeout, notes)?;
     let alloc = context.alloc();
-    let (input, streams) = input_of(streams, options.has_file);
+    let (input, streams) = input_of(streams, options.has_lines);
     let fd = server.as_raw_fd();
     let front = front_of(fd);
     let shell = &mut Shell::new(context.rt, alloc, None::<P::Listener>, front, streams)?;
@@ -112,12 +112,12 @@ fn driver_of<'a, P: AllocGlobal + Files>(
     Driver::new(alloc, setup_of(options), rig)
 }
 
-// Whether there are lines to read, and the streams as the loop knows them: a file in place of
-// standard input is always ready.
-fn input_of(streams: Streams, has_file: bool) -> (bool, Streams) {
-    let is_there = streams.input || has_file;
+// Whether there are lines to read, and the streams as the loop knows them: those that are named,
+// in place of standard input, are always ready.
+fn input_of(streams: Streams, has_lines: bool) -> (bool, Streams) {
+    let is_there = streams.input || has_lines;
     let streams = Streams {
-        input: streams.input && !has_file,
+        input: streams.input && !has_lines,
         ..streams
     };
     (is_there, streams)

@@ -184,9 +184,9 @@ Example, of a server at display 1 that viewers have at port 5950:
   rfb relay localhost:1 --port 5950";
 
 const RIGS: &str = "\
-Lines of standard input, or of a file with -i, are done one after another. The first is begun once the
-server's first update is whole, each of the others once the one before it is done. One space parts two
-words; an empty line and one that begins with # are skipped.
+Lines are done one after another: each LINE, or those of standard input or of a file. The first is
+begun once the server's first update is whole, each of the others once the one before it is done. One
+space parts two words; an empty line and one that begins with # are skipped.
   key NAME..                  keys go down and up; with hyphens together, as ctrl-alt-delete
   down NAME, up NAME          one goes down, or up
   type TEXT                   the rest of the line is typed
@@ -213,4 +213,4 @@ Standard output has a line for each thing that happens:
 docs/PROTOCOL.md says of each line what is sent for it.
 
 Example:
-  printf 'type make\\nkey Return\\nstill 2\\nsave built.ppm\\n' | rfb drive example.org:1";
+  rfb drive example.org:1 'type make' 'key Return' 'still 2' 'save built.ppm'";

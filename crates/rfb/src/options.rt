@@ -16,8 +16,8 @@ ghost use Rattle.rfb.specs.command.Program.{asked, program};
 
 use crate::commands::{COMMANDS, Task, commands_of, task_in, verb_named};
 use crate::help::{Topic, VERSION};
-pub use crate::options::paths::Paths;
 use crate::options::paths::paths_in;
+pub use crate::options::paths::{Input, Paths};
 use clap::{ArgMatches, Command, Error};
 use std::alloc::{AllocError, Global};
 use std::convert::AsStr;
@@ -54,6 +54,8 @@ pub enum BadValue<'a> {
     Followed,
     /// A number of pictures in a second, of one alone.
     Pace,
+    /// Lines that are words, and a file that has some.
+    Lines,
 }
 
 /// Why words ask for no task.
@@ -71,7 +73,7 @@ pub fn read_words<'a, S: AsStr>(alloc: Global, words: &'a [S]) -> Result<Order<'
         (AreWrong (map S.text words.now)) }
 {
     match parse(alloc, words) {
-        Ok(matches) => order_in(&matches),
+        Ok(matches) => order_in(alloc, &matches),
         Err(error) => Err(WrongWords::Words(error)),
     }
 }
@@ -99,29 +101,30 @@ fn commands<'a>(alloc: Global) -> Result<Command<'a>, AllocError>
 }
 
 // What the words ask for, once they are parsed.
-fn order_in<'a>(matches: &ArgMatches<'a>) -> Result<Order<'a>, WrongWords<'a>>
+fn order_in<'a>(alloc: Global, matches: &ArgMatches<'a>) -> Result<Order<'a>, WrongWords<'a>>
     ensures { MatchResult result (IsOrder (subcommand_rows_of matches.now))
         (IsWrongValue (subcommand_rows_of matches.now)) }
 {
-    match task_of(matches) {
-        Ok(task) => Ok(Order {
-            task,
-            paths: paths_of(matches),
-        }),
-        Err(value) => Err(WrongWords::Value(value)),
+    let task = match task_of(matches) {
+        Ok(task) => task,
+        Err(value) => return Err(WrongWords::Value(value)),
+    };
+    match paths_of(alloc, matches) {
+        Ok(paths) => Ok(Order { task, paths }),
+        Err(error) => Err(WrongWords::Words(Error::from(error))),
     }
 }
 
-// The files of the command that is named.
-fn paths_of<'a>(matches: &ArgMatches<'a>) -> Paths<'a>
-    ensures { GivesFiles (subcommand_rows_of matches.now) result }
+// What the command that is named reads and writes.
+fn paths_of<'a>(alloc: Global, matches: &ArgMatches<'a>) -> Result<Paths<'a>, AllocError>
+    ensures { IfOk result (GivesFiles (subcommand_rows_of matches.now)) }
 {
     match matches.subcommand() {
-        Some((_name, given)) => paths_in(given),
-        None => Paths {
-            input: None,
+        Some((_name, given)) => paths_in(alloc, given),
+        None => Ok(Paths {
+            input: Input::Standard,
             output: None,
-        },
+        }),
     }
 }
 

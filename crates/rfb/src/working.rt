@@ -1,7 +1,7 @@
 //! What words ask for is done, with files in place of standard input and output where they are
 //! named.
 
-ghost use Rattle.std.specs.Prelude.{◌≡◌, ◌⊎◌, OnOk, OnErr};
+ghost use Rattle.std.specs.Prelude.{◌≡◌, ◌⊎◌, ℕ, List, Option, OnOk, OnErr};
 ghost use Rattle.rfb.specs.CommandLine.{Does, IntoFile, Leaves, Through};
 ghost use Rattle.rfb.specs.Context.{KeepsStreams};
 
@@ -12,7 +12,7 @@ use crate::commands::{Task, run};
 use crate::context::Context;
 use crate::explain::{Notes, tell_terminal, tell_unread, tell_unwritten};
 use crate::fault::{Failure, Fault};
-use crate::options::Order;
+use crate::options::{Input, Order, Paths};
 use crate::working::source::Source;
 use crate::working::target::{Target, open_target};
 use std::fs::{File, Files, OpenFile};
@@ -20,8 +20,8 @@ use std::io::{IsTerminal, Read, Write};
 use std::net::Net;
 use std::time::Clock;
 
-/// Does what an order asks for. A file that is named is read in place of the input. Where a file
-/// cannot be opened, or not be read or written whole, sentences say so.
+/// Does what an order asks for. A file that is named is read in place of the input, and so are words
+/// that are lines. Where a file cannot be opened, or not be read or written whole, sentences say so.
 pub fn work_through<P: AllocGlobal + Clock + Files + Net, R: Read, W: Write, E: Write>(
     context: &mut Context<P, R, W, E>,
     order: Order<'_>,
@@ -37,9 +37,42 @@ where
         (W.contents context.old.output.now) (W.contents context.new.output.now)) }
     ensures same { KeepsStreams context.old context.new }
 {
-    let Some(path) = order.paths.input else {
-        return work_into(context, order.task, order.paths.output);
-    };
+    let Order { task, paths } = order;
+    let Paths { input, output } = paths;
+    match input {
+        Input::Standard => work_into(context, task, output),
+        Input::File(path) => work_from(context, task, path, output),
+        Input::Lines(text) => {
+            let mut lines = text.as_slice();
+            let mut inner = Context {
+                rt: context.rt,
+                input: &mut lines,
+                output: &mut *context.output,
+                errors: &mut *context.errors,
+                explains: context.explains,
+            };
+            work_into(&mut inner, task, output)
+        }
+    }
+}
+
+// Does a task that reads the file of this path.
+fn work_from<P: AllocGlobal + Clock + Files + Net, R: Read, W: Write, E: Write>(
+    context: &mut Context<P, R, W, E>,
+    task: Task<'_>,
+    path: &str,
+    output: Option<&str>,
+) -> Result<(), Failure>
+where
+    P::File: IsTerminal,
+    ensures done { OnOk result ((bytes : Option (List ℕ)) × IntoFile output.entry
+        (Does P task.entry bytes)
+        (W.contents context.old.output.now) (W.contents context.new.output.now)) }
+    ensures left { OnErr result ((context.new.output.now ≡ context.old.output.now)
+        ⊎ ((bytes : Option (List ℕ)) × IntoFile output.entry (Leaves P task.entry bytes)
+        (W.contents context.old.output.now) (W.contents context.new.output.now))) }
+    ensures same { KeepsStreams context.old context.new }
+{
     match File::open(context.rt, path) {
         Ok(file) => {
             let mut source = Source::new(file);
@@ -50,7 +83,7 @@ where
                 errors: &mut *context.errors,
                 explains: context.explains,
             };
-            let done = work_into(&mut inner, order.task, order.paths.output);
+            let done = work_into(&mut inner, task, output);
             source.tell_failure(path, &mut Notes::new(context.errors, context.explains));
             done
         }

@@ -10,7 +10,7 @@ use Rattle.rfb.specs.command.Rules.{connections_rule, forever_rule, picture_rule
 use Rattle.rfb.specs.command.Rules.{timeout_rule, updates_rule, follow_rule, rate_rule}
 use Rattle.rfb.specs.command.Rules.{handshake_rule, hold_rule, shared_rule, view_only_rule, quiet_rule}
 use Rattle.rfb.specs.command.Rules.{needed_server_rule, other_name_rule, relay_encodings_rule, retry_rule}
-use Rattle.rfb.specs.command.Rules.{keep_rule, line_timeout_rule, tell_rule}
+use Rattle.rfb.specs.command.Rules.{keep_rule, line_rule, line_timeout_rule, tell_rule}
 
 -- a command of these words
 abbrev pub command : Text → List Rule → Shape
@@ -51,7 +51,7 @@ relay_shape = command (codes "relay")
 abbrev pub drive_shape : Shape
 drive_shape = command (codes "drive")
     (needed_server_rule ∷ line_timeout_rule ∷ keep_rule ∷ tell_rule ∷ quiet_rule ∷ format_rule
-    ∷ relay_encodings_rule ∷ input_rule ∷ [])
+    ∷ relay_encodings_rule ∷ input_rule ∷ line_rule ∷ [])
 
 abbrev pub shape_named : Verb → Shape
 shape_named verbs.Script = script_shape

@@ -1,6 +1,6 @@
 -- The words of the command line, one by one.
 use Rattle.std.specs.Prelude.{ℕ, pos, true, [], ◌∷◌, Some, codes}
-use Rattle.clap.specs.declared.builder.action.ArgAction.TheVariants.{SetTrue}
+use Rattle.clap.specs.declared.builder.action.ArgAction.TheVariants.{Append, SetTrue}
 use Rattle.clap.specs.declared.builder.value_parser.ValueParser.TheVariants.{Signed}
 use Rattle.clap.specs.Words.{Rule, Text, new_rule}
 
@@ -156,6 +156,13 @@ abbrev pub keep_rule : Rule
 keep_rule = record (new_rule (codes "keep")) {
   long = Some (codes "keep");
   value_names = 1;
+}
+
+-- lines for a rig, each a word
+abbrev pub line_rule : Rule
+line_rule = record (new_rule (codes "line")) {
+  value_names = 1;
+  action = Some Append;
 }
 
 -- changes of the screen are reported

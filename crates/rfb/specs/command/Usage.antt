@@ -1,6 +1,6 @@
 -- What a table of commands and words stands for, as the parser of words knows it.
 use Rattle.std.specs.Prelude.{ℕ, pos, true, [], ◌∷◌, Some, map}
-use Rattle.clap.specs.declared.builder.action.ArgAction.TheVariants.{SetTrue}
+use Rattle.clap.specs.declared.builder.action.ArgAction.TheVariants.{Append, SetTrue}
 use Rattle.clap.specs.declared.builder.value_parser.ValueParser.TheVariants.{Signed}
 use Rattle.clap.specs.Simple.{new_shape}
 use Rattle.clap.specs.Words.{Rule, Shape, Text, new_rule}
@@ -32,6 +32,7 @@ abbrev pub taking : Takes → Rule → Rule
 taking takes.Nothing rule = record rule { action = Some SetTrue }
 taking (takes.Text value) rule = valued rule
 taking (takes.TextOr value default) rule = or_else default.now (valued rule)
+taking (takes.Texts value) rule = record (valued rule) { action = Some Append }
 taking (takes.NeededText value) rule = record (valued rule) { required = true }
 taking (takes.Number value most) rule = numbered most rule
 taking (takes.NumberOr value most default) rule = or_else default.now (numbered most rule)

@@ -1,9 +1,12 @@
 -- What a word gives: a format, encodings, a number, a file, or that it is there.
-use Rattle.std.specs.Prelude.{◌≡◌, ◌≤◌, ℕ, Bool, true, false, List, Option, Some, None, codes, option_map}
+use Rattle.std.specs.Prelude.{◌≡◌, ◌≤◌, ℕ, Bool, true, false, List, [], ◌∷◌, ◌++◌, Option, Some, None, codes}
+use Rattle.std.specs.Prelude.{flat_map, option_map}
 use Rattle.std.specs.Str.Parse.{IsNumeral, digits_value, without_leading_plus}
-use Rattle.clap.specs.Words.{Row, Text, first_of, one_of}
+use Rattle.clap.specs.Words.{Row, Text, all_of, first_of, one_of}
 use Rattle.rfb_pixel.specs.Format.{PixelFormat, rgb888}
 use Rattle.rfb_wire.specs.declared.encoding.Encoding.{Encoding}
+use Rattle.rfb.specs.declared.options.paths.Input.{Input}
+use Rattle.rfb.specs.declared.options.paths.Input.TheVariants.{Standard, File, Lines}
 use Rattle.rfb.specs.declared.options.paths.Paths.{Paths}
 use Rattle.rfb_session.specs.language.Words.{AreEncodings, IsFormatWord, parts_of}
 
@@ -60,14 +63,27 @@ IsFlagged name rows flag =
     (one_of name rows ≡ Some (codes "true") → flag ≡ true)
     × (one_of name rows ≡ Some (codes "false") → flag ≡ false)
 
--- the files that are named, where one is
+-- words as lines, each with its end
+abbrev pub as_lines : List Text → List ℕ
+as_lines words = flat_map (λ word. word ++ 10 ∷ []) words
+
+-- what is read: a file that is named, or else the words that are lines, or else standard input
+abbrev pub GivesInput : List Row → Input → Type 0
+GivesInput rows Standard =
+    (first_of (codes "input") rows ≡ None) × (all_of (codes "line") rows ≡ None)
+GivesInput rows (File path) = first_of (codes "input") rows ≡ Some path.now
+GivesInput rows (Lines text) =
+    (first_of (codes "input") rows ≡ None)
+    × ((words : List Text) × (all_of (codes "line") rows ≡ Some words) × (text.items ≡ as_lines words))
+
+-- what is named to be read and written
 pub record GivesPaths (rows : List Row) (paths : Paths) : Type 0 where
-  pub input : option_map (λ path. path.now) paths.input ≡ first_of (codes "input") rows
+  pub input : GivesInput rows paths.input
   pub output : option_map (λ path. path.now) paths.output ≡ first_of (codes "output") rows
 
--- the same of a command; where none is named there is no file
+-- the same of a command; where none is named nothing else is
 abbrev pub GivesFiles : Option (Text × List Row) → Paths → Type 0
-GivesFiles None paths = (paths.input ≡ None) × (paths.output ≡ None)
+GivesFiles None paths = (paths.input ≡ Standard) × (paths.output ≡ None)
 GivesFiles (Some (name, rows)) paths = GivesPaths rows paths
 
 -- an address that is given, or the loopback address
@@ -86,6 +102,13 @@ IsAbsent name rows = first_of name rows ≡ None
 
 abbrev pub IsThere : Text → List Row → Type 0
 IsThere name rows = (word : Text) × (first_of name rows ≡ Some word)
+
+-- words that may be given as often as one likes are, or are not
+abbrev pub HasNoWords : Text → List Row → Type 0
+HasNoWords name rows = all_of name rows ≡ None
+
+abbrev pub HasWords : Text → List Row → Type 0
+HasWords name rows = (words : List Text) × (all_of name rows ≡ Some words)
 
 -- the word that is given, or else this one
 abbrev pub NamesWord : Text → Option Text → Text → Type 0

@@ -2,13 +2,14 @@
 
 ghost use Rattle.std.specs.Prelude.{◌≡◌, codes, option_map, MatchResult};
 ghost use Rattle.clap.specs.Words.{first_of, found_of, rows_of};
-ghost use Rattle.rfb.specs.command.DriveWords.{GivesDriveOptions, HasBadDrive};
+ghost use Rattle.rfb.specs.command.DriveWords.{AreNamed, GivesDriveOptions, HasBadDrive};
+ghost use Rattle.rfb.specs.command.DriveWords.{NamesLinesTwice};
 
 use crate::help::Topic;
 use crate::options::BadValue;
 use crate::options::address::{Address, NEEDED_SERVER, server_in};
 use crate::options::common::{ALL_ENCODINGS, FORMAT, INPUT, QUIET};
-use crate::options::given::{count_or, is_given, is_there, wants_in};
+use crate::options::given::{are_there, count_or, is_given, is_there, wants_in};
 use crate::options::usage::{Mark, Takes, Usage, Word};
 use crate::script::Wants;
 use clap::ArgMatches;
@@ -26,8 +27,8 @@ pub struct DriveOptions<'a> {
     pub tells_changes: bool,
     /// Whether there are no sentences, whatever else asks for them.
     pub is_quiet: bool,
-    /// Whether the lines are a file's.
-    pub has_file: bool,
+    /// Whether the lines are a file's, or words.
+    pub has_lines: bool,
     /// What the server is asked for.
     pub wants: Wants,
 }
@@ -38,7 +39,7 @@ const TIMEOUT: u32 = 30;
 /// What `drive` is called with.
 pub const DRIVE: &Usage<'static> = &Usage {
     name: "drive",
-    about: "Does what lines on standard input say: presses keys, moves, waits, compares, saves",
+    about: "Does what lines say: presses keys, moves, waits, compares, saves",
     topic: Topic::Rigs,
     words: &[
         NEEDED_SERVER,
@@ -64,6 +65,12 @@ pub const DRIVE: &Usage<'static> = &Usage {
         FORMAT,
         ALL_ENCODINGS,
         INPUT,
+        Word {
+            name: "line",
+            mark: Mark::Alone,
+            takes: Takes::Texts("LINE"),
+            help: "Lines to do, in place of those of standard input",
+        },
     ],
 };
 
@@ -74,15 +81,29 @@ pub fn drive_options_in<'a>(given: &ArgMatches<'a>) -> Result<DriveOptions<'a>, 
 {
     let server = server_in(given)?;
     let wants = wants_in(given)?;
+    let has_lines = are_lines_named(given)?;
     Ok(DriveOptions {
         server,
         timeout: count_or(given, "timeout", TIMEOUT),
         keep: keep_in(given),
         tells_changes: is_given(given, "tell"),
         is_quiet: is_given(given, "quiet"),
-        has_file: is_there(given, "input"),
+        has_lines,
         wants,
     })
+}
+
+// Whether lines are named: by a file that has them, or as words. They may not be both.
+fn are_lines_named<'a>(given: &ArgMatches<'a>) -> Result<bool, BadValue<'a>>
+    ensures { MatchResult result (AreNamed (rows_of (found_of given.now)))
+        (λ _. NamesLinesTwice (rows_of (found_of given.now))) }
+{
+    let has_file = is_there(given, "input");
+    let has_words = are_there(given, "line");
+    if has_file && has_words {
+        return Err(BadValue::Lines);
+    }
+    Ok(has_file || has_words)
 }
 
 // The folder that is named, if one is.

@@ -8,7 +8,8 @@ ghost use Rattle.rfb_wire.specs.declared.encoding.Encoding.{Encoding as AnEncodi
 ghost use Rattle.rfb.specs.command.Values.{GivesEncodings, HasBadEncodings};
 ghost use Rattle.rfb.specs.command.Values.{GivesFormat, GivesNumber, GivesOr, HasBadFormat};
 ghost use Rattle.rfb.specs.command.RelayWords.{GivesWants, HasBadWants};
-ghost use Rattle.rfb.specs.command.Values.{IsAbsent, IsFlagged, IsThere, MayGiveNumber};
+ghost use Rattle.rfb.specs.command.Values.{HasNoWords, HasWords, IsAbsent, IsFlagged, IsThere};
+ghost use Rattle.rfb.specs.command.Values.{MayGiveNumber};
 ghost use Rattle.rfb_session.specs.language.Words.{AreEncodings, IsFormatWord, parts_of};
 
 use crate::defaults::all_encodings;
@@ -33,6 +34,14 @@ pub fn is_there(given: &ArgMatches<'_>, name: &str) -> bool
     ensures absent { result ≡ false → IsAbsent name.now (rows_of (found_of given.now)) }
 {
     word_in(given, name).is_some()
+}
+
+/// Whether a word that may be given several times is.
+pub fn are_there(given: &ArgMatches<'_>, name: &str) -> bool
+    ensures there { result ≡ true → HasWords name.now (rows_of (found_of given.now)) }
+    ensures absent { result ≡ false → HasNoWords name.now (rows_of (found_of given.now)) }
+{
+    given.get_strs(name).is_some()
 }
 
 /// The word that is given to an option, if one is.

@@ -54,6 +54,8 @@ pub enum Takes<'a> {
     TextOr(&'a str, &'a str),
     /// The same. The word has to be there.
     NeededText(&'a str),
+    /// As many texts as there are.
+    Texts(&'a str),
     /// A number from 1 to this one.
     Number(&'a str, u32),
     /// The same; without the word it is the one that the text spells.
@@ -96,6 +98,7 @@ fn arg_of<'a>(alloc: Global, word: &Word<'a>) -> Arg<'a>
         Takes::Text(value) => valued(alloc, word, value),
         Takes::TextOr(value, default) => valued(alloc, word, value).default_value(default),
         Takes::NeededText(value) => valued(alloc, word, value).required(true),
+        Takes::Texts(value) => valued(alloc, word, value).action(ArgAction::Append),
         Takes::Number(value, most) => numbered(alloc, word, value, most),
         Takes::NumberOr(value, most, default) => {
             numbered(alloc, word, value, most).default_value(default)

@@ -5,6 +5,6 @@ use Rattle.rfb.proofs.options.paths.paths_in.Goals as goal
 
 pub returns : goal.returns
 returns c = record {
-  input = c.get_str.ensures ∙ first_value-rows (found_of c.args.given.now) (codes "input");
-  output = c.get_str-2.ensures ∙ first_value-rows (found_of c.args.given.now) (codes "output");
+  input = c.in_ok-input_in.ensures;
+  output = c.get_str.ensures ∙ first_value-rows (found_of c.args.given.now) (codes "output");
 }
