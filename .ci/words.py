@@ -169,7 +169,7 @@ def faults():
 
 
 CALLS = [
-    Call("version", ["--version"], output=b"rfb 0.1.0\n"),
+    Call("version", ["--version"], output=b"rfb 0.2.0\n"),
     Call("help_on_faults", ["help", "faults"], output=faults()),
     Call("help_to_a_terminal", ["help", "faults"], device="/dev/ptmx"),
     bad_words("no_command", "", b"""error: 'rfb' requires a subcommand but one was not provided

@@ -1,7 +1,7 @@
 //! What `--help` says.
 
 /// The version that `--version` prints after the program's name.
-pub const VERSION: &str = "0.1.0";
+pub const VERSION: &str = "0.2.0";
 
 /// What stands below the words in help.
 pub enum Topic {
