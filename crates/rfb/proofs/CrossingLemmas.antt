@@ -1,5 +1,6 @@
 -- Bytes that cross a connection, and what reaches the end behind it.
-use Rattle.std.proofs.Common.{◌≡◌, ◌∙◌, ◌+◌, sym, ap, refl, subst, ℕ, [], ◌++◌, List, length, take}
+use Rattle.std.proofs.Common.{◌≡◌, ◌∙◌, ◌+◌, sym, ap, refl, subst, ℕ}
+use Rattle.std.proofs.Common.{[], ◌++◌, List, length, take}
 use Rattle.std.proofs.Common.{drop, length-append, Option}
 use Rattle.std.proofs.KnownBytes.{Appends-nil, Appends-trans, Consumes-nil, Consumes-trans}
 use lib.Seq.{take-add, take-append_seam}

@@ -1,5 +1,6 @@
 -- What a watcher of a film heard, from what its engine told it.
-use Rattle.std.proofs.Common.{◌≡◌, ◌<◌, ◌+◌, ◌-◌, ◌^◌, ◌∙◌, ap, sym, subst, inl, inr, refl, ℕ}
+use Rattle.std.proofs.Common.{◌≡◌, ◌<◌, ◌+◌, ◌-◌, ◌^◌, ◌∙◌, ap, sym}
+use Rattle.std.proofs.Common.{subst, inl, inr, refl, ℕ}
 use Rattle.std.proofs.Common.{List, ◌++◌, Option, None, Some, Result, arith, min}
 use Rattle.rfb_viewer.specs.declared.viewer.Viewer.{Viewer}
 use Rattle.rfb_viewer.specs.Told.{ViewerTold, Reply, Ready, UpdateDone, Bell, CutText, ColourMapSkipped}
@@ -109,7 +110,8 @@ module _ {W C N : Type 0} (contents : W → Option (List ℕ)) where
       (ap (λ (f : Filming W C N). updates_told (told_of f)) hears)
 
   -- what was read makes one
-  pub reads_film : (asked : ℕ) (ended : Result ℕ EngineFault) (unread left : Option (List ℕ)) (first last : Viewer)
+  pub reads_film : (asked : ℕ) (ended : Result ℕ EngineFault)
+      (unread left : Option (List ℕ)) (first last : Viewer)
       (old new : Filming W C N) → updates_told (told_of old) ≡ 0 →
       HearsRead (Films contents) (EndsViewing asked ended last) unread left first old new →
       HearsRead Shoots (EndsCounted asked ended last (updates_told (told_of new))) unread left first
@@ -129,7 +131,8 @@ module _ {W C N : Type 0} (contents : W → Option (List ℕ)) where
         },
       )
 
-  pub keeps_name : (asked : ℕ) (ended : Result ℕ EngineFault) (unread left : Option (List ℕ)) (first last : Viewer)
+  pub keeps_name : (asked : ℕ) (ended : Result ℕ EngineFault)
+      (unread left : Option (List ℕ)) (first last : Viewer)
       (old new : Filming W C N) → updates_told (told_of old) ≡ 0 →
       HearsRead (Films contents) (EndsViewing asked ended last) unread left first old new →
       film_name new ≡ film_name old

@@ -91,8 +91,10 @@ read_given bits E G t (Some m) h only numeral small =
 -- ---- words that are lines
 
 -- a word more is a line more
-pub line_more : (before mid after : List ℕ) (words : List (Bor Text)) (i : ℕ) (d : Bor Text) → i < length words →
-    before ≡ as_lines (map (λ word. word.now) (take i words)) → mid ≡ before ++ (slice_index_or words i d).now →
+pub line_more : (before mid after : List ℕ) (words : List (Bor Text)) (i : ℕ) (d : Bor Text) →
+    i < length words →
+    before ≡ as_lines (map (λ word. word.now) (take i words)) →
+    mid ≡ before ++ (slice_index_or words i d).now →
     after ≡ mid ++ 10 ∷ [] → after ≡ as_lines (map (λ word. word.now) (take (i + 1) words))
 line_more before mid after words i d inside so_far text end =
     let more : map (λ (w : Bor Text). w.now) (take (i + 1) words)
@@ -106,7 +108,8 @@ line_more before mid after words i d inside so_far text end =
 
 -- words are there, or are not, as a getter has it
 pub are_words_there : (o : Option (Bor (List (Bor Text)))) (words : Option (List Text)) →
-    option_map (λ s. map (λ v. v.now) s.now) o ≡ words → is_some o ≡ true → (l : List Text) × (words ≡ Some l)
+    option_map (λ s. map (λ v. v.now) s.now) o ≡ words → is_some o ≡ true →
+    (l : List Text) × (words ≡ Some l)
 are_words_there None words is there = let e : false ≡ true = there in absurd (cc)
 are_words_there (Some s) words is there = (map (λ v. v.now) s.now, sym is)
 

@@ -1,5 +1,6 @@
 -- What stands in place of standard input and output.
-use Rattle.std.proofs.Common.{◌≡◌, ◌⊎◌, sym, subst, inl, inr, OnOk, OnErr, Result, Ok, Err, Option, None, Some, List, ℕ}
+use Rattle.std.proofs.Common.{◌≡◌, ◌⊎◌, sym, subst, inl, inr, OnOk, OnErr, Result, Ok}
+use Rattle.std.proofs.Common.{Err, Option, None, Some, List, ℕ}
 use Rattle.std.proofs.Common.{Bor}
 use Rattle.clap.specs.Words.{Text}
 use Rattle.rfb.specs.declared.fault.Failure.{Failure}
@@ -24,11 +25,14 @@ into_file (Some file) Acts Others before after gives (same, blank, full, acts) =
 
 -- what is done with what stands in place of the input is done through it
 pub through : (input i : Input) (output : Option (Bor Text))
-    (Acts : Option (List ℕ) → Option (List ℕ) → Option (List ℕ) → Type 0) (read before after : Option (List ℕ)) →
+    (Acts : Option (List ℕ) → Option (List ℕ) → Option (List ℕ) → Type 0)
+    (read before after : Option (List ℕ)) →
     input ≡ i → IntoFile output (λ blank full. FromInput i (λ bytes. Acts bytes blank full) read) before after →
     IntoFile output (λ blank full. FromInput input (λ bytes. Acts bytes blank full) read) before after
 through input i output Acts read before after is acts =
-    subst (λ (k : Input). IntoFile output (λ blank full. FromInput k (λ bytes. Acts bytes blank full) read) before after)
+    subst
+    (λ (k : Input). IntoFile output (λ blank full. FromInput k (λ bytes. Acts bytes blank full) read)
+    before after)
     (sym is) acts
 
 -- nothing was written, or what follows

@@ -1,5 +1,6 @@
 -- What a word gives: a format, encodings, a number, a file, or that it is there.
-use Rattle.std.specs.Prelude.{◌≡◌, ◌≤◌, ℕ, Bool, true, false, List, [], ◌∷◌, ◌++◌, Option, Some, None, codes}
+use Rattle.std.specs.Prelude.{◌≡◌, ◌≤◌, ℕ, Bool, true, false, List, [], ◌∷◌}
+use Rattle.std.specs.Prelude.{◌++◌, Option, Some, None, codes}
 use Rattle.std.specs.Prelude.{flat_map, option_map}
 use Rattle.std.specs.Str.Parse.{IsNumeral, digits_value, without_leading_plus}
 use Rattle.clap.specs.Words.{Row, Text, all_of, first_of, one_of}
@@ -63,17 +64,30 @@ IsFlagged name rows flag =
     (one_of name rows ≡ Some (codes "true") → flag ≡ true)
     × (one_of name rows ≡ Some (codes "false") → flag ≡ false)
 
+-- a word is given, or is not
+abbrev pub IsAbsent : Text → List Row → Type 0
+IsAbsent name rows = first_of name rows ≡ None
+
+abbrev pub IsThere : Text → List Row → Type 0
+IsThere name rows = (word : Text) × (first_of name rows ≡ Some word)
+
+-- words that may be given as often as one likes are, or are not
+abbrev pub HasNoWords : Text → List Row → Type 0
+HasNoWords name rows = all_of name rows ≡ None
+
+abbrev pub HasWords : Text → List Row → Type 0
+HasWords name rows = (words : List Text) × (all_of name rows ≡ Some words)
+
 -- words as lines, each with its end
 abbrev pub as_lines : List Text → List ℕ
 as_lines words = flat_map (λ word. word ++ 10 ∷ []) words
 
 -- what is read: a file that is named, or else the words that are lines, or else standard input
 abbrev pub GivesInput : List Row → Input → Type 0
-GivesInput rows Standard =
-    (first_of (codes "input") rows ≡ None) × (all_of (codes "line") rows ≡ None)
+GivesInput rows Standard = IsAbsent (codes "input") rows × HasNoWords (codes "line") rows
 GivesInput rows (File path) = first_of (codes "input") rows ≡ Some path.now
 GivesInput rows (Lines text) =
-    (first_of (codes "input") rows ≡ None)
+    IsAbsent (codes "input") rows
     × ((words : List Text) × (all_of (codes "line") rows ≡ Some words) × (text.items ≡ as_lines words))
 
 -- what is named to be read and written
@@ -95,20 +109,6 @@ NamesHost (Some word) host = host ≡ word
 pub record GivesOr (name : Text) (most otherwise : ℕ) (rows : List Row) (n : ℕ) : Type 0 where
   pub absent : one_of name rows ≡ None → n ≡ otherwise
   pub given : GivesNumber name 1 most rows n
-
--- a word is given, or is not
-abbrev pub IsAbsent : Text → List Row → Type 0
-IsAbsent name rows = first_of name rows ≡ None
-
-abbrev pub IsThere : Text → List Row → Type 0
-IsThere name rows = (word : Text) × (first_of name rows ≡ Some word)
-
--- words that may be given as often as one likes are, or are not
-abbrev pub HasNoWords : Text → List Row → Type 0
-HasNoWords name rows = all_of name rows ≡ None
-
-abbrev pub HasWords : Text → List Row → Type 0
-HasWords name rows = (words : List Text) × (all_of name rows ≡ Some words)
 
 -- the word that is given, or else this one
 abbrev pub NamesWord : Text → Option Text → Text → Type 0

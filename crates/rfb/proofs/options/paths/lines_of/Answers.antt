@@ -8,7 +8,8 @@ pub loop-word-preserved : goal.loop-word-preserved
 loop-word-preserved c = record {
   text = line_more c.loop-word.text.items _ _ c.args.words.now c.loop-word.word-index _ c.loop-word-test.true
       c.loop-word.invariant.text
-      (c.in_ok-extend_from_slice.ensures.items ∙ ap (λ bytes. c.loop-word.text.items ++ bytes) c.as_bytes.ensures.value)
+      (c.in_ok-extend_from_slice.ensures.items
+      ∙ ap (λ bytes. c.loop-word.text.items ++ bytes) c.as_bytes.ensures.value)
       c.in_ok-push.ensures.items;
 }
 
