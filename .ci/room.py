@@ -45,8 +45,9 @@ def up(number, by):
 
 
 def picture(w, h, size):
-    """A value of `size` bytes for each place: six for a colour, three components of two bytes."""
-    return [w * h * size]
+    """A value of `size` bytes for each place: six for a colour, three components of two bytes. And
+    two bytes for each row, the line that it is in."""
+    return [w * h * size, 2 * h]
 
 
 def place_set(w, h):

@@ -1,13 +1,15 @@
 -- Laws of copies within one grid: what is read of it before it is written.
 use Rattle.std.proofs.Common.{ℕ, ◌≡◌, ◌+◌, ◌-◌, ◌*◌, ◌<◌, ◌≤◌, refl, ◌∙◌, arith, if◌then◌else◌, nat_le, nat_lt, ◌&&◌}
-use Rattle.std.proofs.Common.{◌||◌, Bool, true, false}
+use Rattle.std.proofs.Common.{◌||◌, Bool, true, false, List}
 use Rattle.std.proofs.lemmas.Bool.Decides.{nat_tests}
 use Rattle.std.proofs.Math.Nat.{mul-le-mul_right}
 use Rattle.rfb_picture.specs.declared.rect.Rect.{Rect}
 use Rattle.rfb_picture.specs.Rect.{contains}
 use Rattle.rfb_picture.specs.Grid.{Grid, IsGrid, Holds, at_or, copied}
+use Rattle.rfb_picture.specs.inside.Lines.{AreLines, place_in}
 use Rattle.std.proofs.lemmas.List.{get_or_default}
-use Rattle.rfb_picture.proofs.GridLemmas.{place_below, index_in_row, contains_true, at-changed}
+use Rattle.rfb_picture.proofs.GridLemmas.{place_below, contains_true, at-changed}
+use Rattle.rfb_picture.proofs.LineLemmas.{index_in_line}
 
 -- ---- which rows a copy has written
 
@@ -35,6 +37,10 @@ pub rows_done_more : (r : Rect) (sy n x y : ℕ) →
     || contains (record { x = r.x; y = r.y + row_after r sy n; w = r.w; h = 1 }) x y)
 rows_done_more r sy n x y l = grind (arith, nat_tests)
 
+-- it is one of the rectangle's
+row_below : (r : Rect) (sy n row : ℕ) → n < r.h → row ≡ row_after r sy n → row < r.h
+row_below r sy n row l is = grind (arith, nat_tests)
+
 -- and the row that it reads is not written yet
 pub source_row_left : (r : Rect) (sy n x : ℕ) → n < r.h →
     contains (rows_done r sy n) x (sy + row_after r sy n) ≡ false
@@ -45,12 +51,12 @@ pub rows_all_done : (r : Rect) (sy n x y : ℕ) → n ≡ r.h →
     contains (rows_done r sy n) x y ≡ contains r x y
 rows_all_done r sy n x y e = grind (arith, nat_tests)
 
--- in the rectangle of a row, the index in the list is as far from the start of its source as the
--- column is from its first
-index_of_source : (x0 y0 sx sy n w x y : ℕ) →
+-- in the rectangle of a row, a place is as far from the start of its source as the column is from
+-- its first
+place_of_source : (lines : List ℕ) (x0 y0 sx sy n w x y : ℕ) →
     contains (record { x = x0; y = y0; w = n; h = 1 }) x y ≡ true →
-    sy * w + sx + (y * w + x - (y0 * w + x0)) ≡ sy * w + (sx + (x - x0))
-index_of_source x0 y0 sx sy n w x y e =
+    place_in lines w sx sy + (place_in lines w x y - place_in lines w x0 y0) ≡ place_in lines w (sx + (x - x0)) sy
+place_of_source lines x0 y0 sx sy n w x y e =
     let h = contains_true (record { x = x0; y = y0; w = n; h = 1 }) x y e in
     let same : y ≡ y0 = omega arith in
     rw same (omega arith)
@@ -82,38 +88,36 @@ module _ {X : Type 0} where
   at_value false now u v w e same = e
 
   -- with the places of one row more, a copy is one row further
-  pub copied_more : (r : Rect) (sx sy n row x y w : ℕ) (now : X) (before first : ℕ → X) →
-      r.x + r.w ≤ w →
-      sx + r.w ≤ w →
-      n < r.h →
-      row ≡ row_after r sy n →
-      x < w →
-      ((x y : ℕ) → x < w →
-      before (y * w + x)
+  pub line_copied : (w h : ℕ) (lines : List ℕ) (r : Rect) (sx sy n row x y : ℕ) (now : X) (before first : ℕ → X) →
+      AreLines h lines → r.x + r.w ≤ w → sx + r.w ≤ w → r.y + r.h ≤ h → sy + r.h ≤ h →
+      n < r.h → row ≡ row_after r sy n → x < w → y < h →
+      ((x y : ℕ) → x < w → y < h →
+      before (place_in lines w x y)
       ≡ (if contains (rows_done r sy n) x y
-      then first ((sy + (y - r.y)) * w + (sx + (x - r.x))) else first (y * w + x))) →
-      now ≡ (if nat_le ((r.y + row) * w + r.x) (y * w + x)
-      && nat_lt (y * w + x) ((r.y + row) * w + r.x + r.w)
-      then before ((sy + row) * w + sx + (y * w + x - ((r.y + row) * w + r.x)))
-      else before (y * w + x)) →
+      then first (place_in lines w (sx + (x - r.x)) (sy + (y - r.y))) else first (place_in lines w x y))) →
+      now ≡ (if nat_le (place_in lines w r.x (r.y + row)) (place_in lines w x y)
+      && nat_lt (place_in lines w x y) (place_in lines w r.x (r.y + row) + r.w)
+      then before (place_in lines w sx (sy + row) + (place_in lines w x y - place_in lines w r.x (r.y + row)))
+      else before (place_in lines w x y)) →
       now ≡ (if contains (rows_done r sy (n + 1)) x y
-      then first ((sy + (y - r.y)) * w + (sx + (x - r.x))) else first (y * w + x))
-  copied_more r sx sy n row x y w now before first p q l this m was is =
-      let test = index_in_row r.x (r.y + row) r.w w x y p m in
+      then first (place_in lines w (sx + (x - r.x)) (sy + (y - r.y))) else first (place_in lines w x y))
+  line_copied w h lines r sx sy n row x y now before first are p q hd hs l this m k was is =
+      let below : row < r.h = row_below r sy n row l this in
+      let test = index_in_line w h lines r.x (r.y + row) r.w x y are (omega arith) k p m in
       let done = rows_done_more r sy n x y l in
       let more = rw (← this) at done in
       rw more
       (either (contains (rows_done r sy n) x y)
       (contains (record { x = r.x; y = r.y + row; w = r.w; h = 1 }) x y) now _ _
-      (rw (← was x y m)
+      (rw (← was x y m k)
       (at_value (contains (record { x = r.x; y = r.y + row; w = r.w; h = 1 }) x y) now _ _ _
       (rw test at is)
       (λ e.
       let left = source_row_left r sy n (sx + (x - r.x)) l in
       let free = rw (← this) at left in
-      let read = was (sx + (x - r.x)) (sy + row) (source_column r.x (r.y + row) sx r.w w x y q e) in
+      let read = was (sx + (x - r.x)) (sy + row) (source_column r.x (r.y + row) sx r.w w x y q e) (omega arith) in
       rw (
-        index_of_source r.x (r.y + row) sx (sy + row) r.w w x y e,
+        place_of_source lines r.x (r.y + row) sx (sy + row) r.w w x y e,
         source_row r.x r.y row sy r.w x y e,
       )
       (rw free at read)))))

@@ -1,5 +1,6 @@
 -- Laws of grids, for this crate's proofs and those above it: what stands where after a change.
-use Rattle.std.proofs.Common.{ℕ, zero, suc, List, [], ◌∷◌, ◌≡◌, ◌+◌, ◌-◌, ◌*◌, ◌/◌, ◌%◌, ◌<◌, ◌≤◌, length, get_or, drop}
+use Rattle.std.proofs.Common.{ℕ, zero, suc, List, [], ◌∷◌, ◌≡◌, ◌+◌, ◌-◌, ◌*◌, ◌/◌, ◌%◌, ◌<◌, ◌≤◌, length, get_or}
+use Rattle.std.proofs.Common.{drop}
 use Rattle.std.proofs.Common.{refl, ap, sym, ◌∙◌, arith, add-zero, zero-add, if◌then◌else◌, slice_index_or, nat_le}
 use Rattle.std.proofs.Common.{nat_lt, ◌&&◌, ◌||◌, inl, inr, Bool, true, false}
 use Rattle.std.proofs.lemmas.List.{same_lists, get_or-replicate, get_or-take, get_or-drop, get_or_default}
@@ -104,19 +105,6 @@ module _ {X : Type 0} where
       now ≡ (if b then v else w)
   at_value true now u v w e same = e ∙ same refl
   at_value false now u v w e same = e
-
-  -- with the places of one row more, a rectangle of one row more has the value
-  pub filled_more : (r : Rect) (n x y w : ℕ) (now before first value : X) →
-      r.x + r.w ≤ w →
-      x < w →
-      before ≡ (if contains (record r { h = n }) x y then value else first) →
-      now ≡ (if nat_le ((r.y + n) * w + r.x) (y * w + x)
-      && nat_lt (y * w + x) ((r.y + n) * w + r.x + r.w) then value else before) →
-      now ≡ (if contains (record r { h = n + 1 }) x y then value else first)
-  filled_more r n x y w now before first value p q was is =
-      let row = index_in_row r.x (r.y + n) r.w w x y p q in
-      rw (contains_more r n x y)
-      (either (contains (record r { h = n }) x y) _ now value first (rw (row, was) at is))
 
   -- values written from (x, y) on stand in their row
   pub row_written : (x y w i j : ℕ) (row : List X) (d now old : X) →

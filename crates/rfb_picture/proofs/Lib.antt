@@ -1,5 +1,11 @@
 pub mod GridLemmas
 pub mod GridLaws
+pub mod LineLemmas
+pub mod ShownLemmas
+pub mod SettleLemmas
+pub mod TurnLemmas
+pub mod TurnedLemmas
+pub mod TurnCopyLemmas
 pub mod CopyLemmas
 pub mod CopyLaws
 pub mod LoanLemmas

@@ -1,15 +1,18 @@
 -- Laws of rows that are lent for writing: what the grid ends as.
 use Rattle.std.proofs.Common.{ℕ, List, ◌++◌, ◌≡◌, ◌+◌, ◌-◌, ◌*◌, ◌<◌, ◌≤◌, length, take, drop, get_or, slice_index_or}
-use Rattle.std.proofs.Common.{refl, ap, sym, ◌∙◌, arith, if◌then◌else◌, nat_le, nat_lt, ◌&&◌, Vec, length-append}
+use Rattle.std.proofs.Common.{refl, ap, sym, ◌∙◌, arith, if◌then◌else◌, nat_le, nat_lt, ◌&&◌, Bool, Vec}
+use Rattle.std.proofs.Common.{length-append}
 use Rattle.std.proofs.Common.{length-drop}
 use Rattle.std.proofs.lemmas.List.{get_or-take, get_or-append_right, get_or-drop, get_or_default, length-take-le}
 use Rattle.std.proofs.Math.ListN.{get_or-append}
 use Rattle.std.proofs.Math.Nat.{mul-le-mul_right}
 use Rattle.std.proofs.lemmas.Bool.Decides.{nat_tests}
 use Rattle.std.specs.Vec.{with_items_from}
-use Rattle.rfb_picture.specs.Grid.{Grid, grid, IsGrid, at_or, changed, with_row, with_run}
+use Rattle.rfb_picture.specs.Grid.{Grid, grid, IsGrid, at_or, changed, row_of, with_row, with_run}
 use Rattle.rfb_picture.proofs.GridLemmas.{place_below, changed_is, row_written, same_changes, width-changed}
 use Rattle.rfb_picture.proofs.GridLemmas.{height-changed}
+use Rattle.rfb_picture.specs.inside.Lines.{AreInOrder, IsKept, IsPicture, place_in, shown}
+use Rattle.rfb_picture.proofs.ShownLemmas.{ordered_lines, shown_is}
 
 module _ {X : Type 0} where
   same_parts : (g k : Grid X) → g.width ≡ k.width → g.height ≡ k.height → g.places ≡ k.places →
@@ -20,7 +23,7 @@ module _ {X : Type 0} where
       parts
 
   -- values written over a list from index n on
-  abbrev written_over : List X → ℕ → List X → List X
+  abbrev pub written_over : List X → ℕ → List X → List X
   written_over xs n ws = take n xs ++ (ws ++ drop (length ws) (drop n xs))
 
   length-written_over : (xs : List X) (n : ℕ) (ws : List X) → n ≤ length xs →
@@ -29,13 +32,13 @@ module _ {X : Type 0} where
       let front : length (take n xs) ≡ n = length-take-le n xs l in
       simp (length-append, length-drop) (omega arith)
 
-  before_run : (xs : List X) (n : ℕ) (ws : List X) (k : ℕ) (d : X) →
+  pub before_run : (xs : List X) (n : ℕ) (ws : List X) (k : ℕ) (d : X) →
       n ≤ length xs → k < n → get_or (written_over xs n ws) k d ≡ get_or xs k d
   before_run xs n ws k d l p =
       let front : length (take n xs) ≡ n = length-take-le n xs l in
       get_or-append (take n xs) _ d k (omega arith) ∙ get_or-take n xs k d p
 
-  in_run : (xs : List X) (n : ℕ) (ws : List X) (k : ℕ) (d other : X) →
+  pub in_run : (xs : List X) (n : ℕ) (ws : List X) (k : ℕ) (d other : X) →
       n ≤ length xs → n ≤ k → k < n + length ws →
       get_or (written_over xs n ws) k d ≡ get_or ws (k - n) other
   in_run xs n ws k d other l p q =
@@ -43,7 +46,7 @@ module _ {X : Type 0} where
       ∙ (get_or-append ws _ d (k - n) (omega arith)
       ∙ get_or_default ws (k - n) d other (omega arith))
 
-  after_run : (xs : List X) (n : ℕ) (ws : List X) (k : ℕ) (d : X) →
+  pub after_run : (xs : List X) (n : ℕ) (ws : List X) (k : ℕ) (d : X) →
       n ≤ length xs → n + length ws ≤ k → get_or (written_over xs n ws) k d ≡ get_or xs k d
   after_run xs n ws k d l p =
       let there : n + (length ws + (k - n - length ws)) ≡ k = omega arith in
@@ -119,3 +122,45 @@ module _ {X : Type 0} where
       row_written x y g.width i j row (at_or g i j d) _ (at_or g i j d) fits p refl) in
       ap (λ (k : Grid X). grid g.width g.height k.places) same
       ∙ same_parts _ _ (sym (width-changed _ g)) (sym (height-changed _ g)) refl
+
+  -- ---- where the lines are in order
+
+  -- what is shown is the places as they are
+  ordered_shown : (w h : ℕ) (lines : List ℕ) (places : List X) → AreInOrder h lines → IsGrid (grid w h places) →
+      shown w h lines places ≡ grid w h places
+  ordered_shown w h lines places order whole =
+      shown_is w h lines places (grid w h places)
+      (record { whole = whole; lines_are = ordered_lines h lines order }) whole refl refl
+      (λ x y d p q. ap (λ k. slice_index_or places (k * w + x) d) (order.same y q))
+
+  -- places that have been put in their order are what was shown
+  module _ {Z : Type 0} (v : Vec X Z) (w h : ℕ) (lines ordered : List ℕ) (places : List X)
+      (kept : IsKept w h lines places) (order : AreInOrder h ordered) (same : length v.items ≡ length places)
+      (each : (i j : ℕ) (d : X) → i < w → j < h →
+      slice_index_or v.items (j * w + i) d ≡ slice_index_or places (place_in lines w i j) d) where
+    pub are_shown : shown w h lines places ≡ grid w h v.items
+    are_shown =
+        shown_is w h lines places (grid w h v.items) kept (same ∙ kept.whole) refl refl
+        (λ i j d p q. sym (each i j d p q))
+
+    pub row_lent : (x y n : ℕ) → take n (drop (y * w + x) v.items) ≡ row_of (shown w h lines places) x y n
+    row_lent x y n = ap (λ (g : Grid X). take n (drop (y * w + x) g.places)) (sym are_shown)
+
+    -- a run that is written over them is one of what was shown
+    pub run_lent : (x y : ℕ) (run : List X) → x ≤ w → y < h →
+        shown w h ordered (with_items_from v (y * w + x) run).items ≡ with_run x y run (shown w h lines places)
+    run_lent x y run column row =
+        ordered_shown w h ordered (with_items_from v (y * w + x) run).items order
+        (length-run_written v (y * w + x) run ∙ same ∙ kept.whole)
+        ∙ run_left v x y w h run (same ∙ kept.whole) column row
+        ∙ ap (with_run x y run) (sym are_shown)
+
+    pub still_picture : (n : ℕ) (run : List X) (turned : Bool) →
+        IsPicture w h turned ordered (with_items_from v n run).items
+    still_picture n run turned = record {
+      kept = record {
+        whole = length-run_written v n run ∙ same ∙ kept.whole;
+        lines_are = ordered_lines h ordered order;
+      };
+      order = λ no. order;
+    }

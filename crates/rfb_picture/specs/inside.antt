@@ -1,4 +1,6 @@
 -- Words of private contracts. No public clause reads them, so a reader can skip them.
+pub mod Lines
+pub mod Turn
 pub mod Runs
 pub mod Cells
 pub mod Plane

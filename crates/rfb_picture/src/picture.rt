@@ -3,14 +3,17 @@
 ghost use Rattle.std.specs.Prelude.{◌≡◌, ℕ, ◌+◌, ◌*◌, ◌<◌, ◌≤◌, ◌↔◌, length, slice_index_or, IfOk};
 ghost use Rattle.std.specs.Prelude.{IsTrue};
 ghost use Rattle.std.specs.Borrow.{sem};
+ghost use Rattle.rfb_picture.specs.inside.Lines.{IsKept};
 ghost use Rattle.rfb_picture.specs.inside.Runs.{RowsFilled, RunFilled, RowsPut, RunPut};
 
 mod copying;
+mod lines;
 #[cfg(test)]
 mod tests;
 
 use crate::rect::Rect;
 use copying::copy_rows;
+use lines::{Rows, lines_of, place_of, put_in_order, turn};
 use std::alloc::{AllocError, Global};
 use std::marker::Model;
 
@@ -23,19 +26,25 @@ const PIECE: usize = 256;
 pub struct Picture<T> {
     width: u16,
     height: u16,
+    // Whether a row may be in another line than that of its number.
+    is_turned: bool,
+    // Which line of the places each row is in, so that rows can move without their places.
+    lines: Vec<u16>,
     places: Vec<T>,
 }
 
 impl<T> Model for Picture<T> {
-    ghost use Rattle.rfb_picture.specs.Grid.{Grid, grid, grid_code, IsGrid};
+    ghost use Rattle.rfb_picture.specs.Grid.{Grid, grid_code};
+    ghost use Rattle.rfb_picture.specs.inside.Lines.{IsPicture, shown};
 
     ghost Value = { Grid T };
 
     ghost coded = { grid_code T.code };
 
-    ghost view = { λ p. grid p.width p.height p.places.items };
+    ghost view = { λ p. shown p.width p.height p.lines.items p.places.items };
 
-    ghost invariant = { λ p. IsGrid (grid p.width p.height p.places.items) };
+    ghost invariant = { λ p.
+        IsPicture p.width p.height p.is_turned p.lines.items p.places.items };
 }
 
 impl<T: Copy> Picture<T> {
@@ -44,7 +53,8 @@ impl<T: Copy> Picture<T> {
     ghost use Rattle.rfb_picture.specs.Loan.{LendsRow};
 
     /// A picture of `width` by `height` places with `value` at each. It asks for room for exactly
-    /// that many values, in one piece; where there is none it gives the error, and nothing is kept.
+    /// that many values, in one piece, and for two bytes a row; where there is none it gives the
+    /// error, and nothing is kept.
     ///
     /// It is inlined, so that it is known there which value is written: zeros are cleared.
     #[inline(always)]
@@ -54,6 +64,7 @@ impl<T: Copy> Picture<T> {
         ensures width { IfOk result (λ p. p.width ≡ width) }
         ensures height { IfOk result (λ p. p.height ≡ height) }
     {
+        let lines = lines_of(alloc, height)?;
         let count = usize::from(height) * usize::from(width);
         let mut places = Vec::with_capacity(alloc, count)?;
         while places.len() < count {
@@ -63,6 +74,8 @@ impl<T: Copy> Picture<T> {
         Ok(Picture {
             width,
             height,
+            is_turned: false,
+            lines,
             places,
         })
     }
@@ -101,7 +114,7 @@ impl<T: Copy> Picture<T> {
         requires row { y < self.now.height }
         ensures { (d : T) → result ≡ at_or self.now x y d }
     {
-        self.places[usize::from(y) * usize::from(self.width) + usize::from(x)]
+        self.places[place_of(&self.lines, self.width, x, y)]
     }
 
     /// Lends the values at `w` places of row `y`, from column `x` on.
@@ -112,11 +125,12 @@ impl<T: Copy> Picture<T> {
         ensures value { result.now ≡ row_of self.now x y w }
         ensures len { length result.now ≡ w }
     {
-        let start = usize::from(y) * usize::from(self.width) + usize::from(x);
+        let start = place_of(&self.lines, self.width, x, y);
         &self.places[start..start + usize::from(w)]
     }
 
-    /// Lends `w` places of row `y` for writing, from column `x` on.
+    /// Lends `w` places of row `y` for writing, from column `x` on. Where rows have moved by
+    /// `copy_by_lines` it moves their places first.
     #[inline]
     pub fn row_mut(&mut self, x: u16, y: u16, w: u16) -> &mut [T]
         requires columns { x + w ≤ self.old.width }
@@ -126,7 +140,14 @@ impl<T: Copy> Picture<T> {
         ensures len { length result.now ≡ w }
         ensures whole { IsGrid self.old }
     {
-        let start = usize::from(y) * usize::from(self.width) + usize::from(x);
+        let width = usize::from(self.width);
+        put_in_order(
+            &mut self.is_turned,
+            &mut self.lines,
+            &mut self.places,
+            width,
+        );
+        let start = usize::from(y) * width + usize::from(x);
         self.places.slice_mut(start..start + usize::from(w))
     }
 
@@ -137,7 +158,8 @@ impl<T: Copy> Picture<T> {
         ensures width { self.new.width ≡ self.old.width }
         ensures height { self.new.height ≡ self.old.height }
     {
-        fill_rows(&mut self.places, usize::from(self.width), rect, value);
+        let width = usize::from(self.width);
+        fill_rows(&mut self.places, &self.lines, width, rect, value);
     }
 
     /// Writes `row` at (`x`, `y`) and on to the right. `row` stays the caller's.
@@ -148,7 +170,7 @@ impl<T: Copy> Picture<T> {
         ensures width { self.new.width ≡ self.old.width }
         ensures height { self.new.height ≡ self.old.height }
     {
-        let start = usize::from(y) * usize::from(self.width) + usize::from(x);
+        let start = place_of(&self.lines, self.width, x, y);
         put_places(&mut self.places, start, row);
     }
 
@@ -161,7 +183,8 @@ impl<T: Copy> Picture<T> {
         ensures width { self.new.width ≡ self.old.width }
         ensures height { self.new.height ≡ self.old.height }
     {
-        put_rows(&mut self.places, usize::from(self.width), rect, rows);
+        let width = usize::from(self.width);
+        put_rows(&mut self.places, &self.lines, width, rect, rows);
     }
 
     /// Gives each place of `dst` what its place of the rectangle of that size at (`sx`, `sy`) had,
@@ -173,7 +196,36 @@ impl<T: Copy> Picture<T> {
         ensures width { self.new.width ≡ self.old.width }
         ensures height { self.new.height ≡ self.old.height }
     {
-        copy_rows(&mut self.places, usize::from(self.width), dst, sx, sy);
+        let width = usize::from(self.width);
+        copy_rows(&mut self.places, &self.lines, width, dst, sx, sy);
+    }
+
+    /// The same. Rows that are copied all across over others by fewer rows than they are take only
+    /// so many of them along. It is for pictures of which no row is lent for writing.
+    pub fn copy_by_lines(&mut self, dst: Rect, sx: u16, sy: u16)
+        requires target { Holds self.old dst }
+        requires source { Holds self.old (record dst { x = sx; y = sy }) }
+        ensures value { self.new ≡ copied dst sx sy self.old }
+        ensures width { self.new.width ≡ self.old.width }
+        ensures height { self.new.height ≡ self.old.height }
+    {
+        if dst.w < self.width || dst.y > sy + dst.h || sy > dst.y + dst.h {
+            self.copy(dst, sx, sy);
+            return;
+        }
+        let rows = Rows {
+            to: dst.y,
+            from: sy,
+            count: dst.h,
+        };
+        let rest = turn(&mut self.lines, rows);
+        self.is_turned = true;
+        let left = Rect {
+            y: rest.to,
+            h: rest.count,
+            ..dst
+        };
+        self.copy(left, sx, rest.from);
     }
 
     /// Becomes a copy of `other`, which has the same size and stays the caller's.
@@ -182,18 +234,21 @@ impl<T: Copy> Picture<T> {
         requires height { self.old.height ≡ other.now.height }
         ensures { self.new ≡ other.now }
     {
+        self.is_turned = other.is_turned;
+        self.lines.copy_from_slice(&other.lines);
         self.places.copy_from_slice(&other.places);
     }
 }
 
-// Gives `value` to each place of the rectangle, in rows of `width` places.
-fn fill_rows<T: Copy>(places: &mut [T], width: usize, rect: Rect, value: T)
+// Gives `value` to each place of the rectangle, in lines of `width` places.
+fn fill_rows<T: Copy>(places: &mut [T], lines: &[u16], width: usize, rect: Rect, value: T)
     requires columns { rect.x + rect.w ≤ width }
-    requires rows { (rect.y + rect.h) * width ≤ length places.old }
-    ensures { RowsFilled width rect value places.old places.new }
+    requires rows { rect.y + rect.h ≤ length lines.now }
+    requires kept { IsKept width (length lines.now) lines.now places.old }
+    ensures { RowsFilled lines.now width rect value places.old places.new }
 {
     for row in 0..usize::from(rect.h) {
-        let start = (usize::from(rect.y) + row) * width + usize::from(rect.x);
+        let start = usize::from(lines[usize::from(rect.y) + row]) * width + usize::from(rect.x);
         fill_places(places, start, usize::from(rect.w), value);
     }
 }
@@ -217,16 +272,17 @@ fn fill_row<T: Copy>(row: &mut [T], value: T)
     }
 }
 
-// Writes `rows`, one after the other, over the rectangle's, in rows of `width` places.
-fn put_rows<T: Copy>(places: &mut [T], width: usize, rect: Rect, rows: &[T])
+// Writes `rows`, one after the other, over the rectangle's, in lines of `width` places.
+fn put_rows<T: Copy>(places: &mut [T], lines: &[u16], width: usize, rect: Rect, rows: &[T])
     requires columns { rect.x + rect.w ≤ width }
-    requires rows { (rect.y + rect.h) * width ≤ length places.old }
+    requires rows { rect.y + rect.h ≤ length lines.now }
+    requires kept { IsKept width (length lines.now) lines.now places.old }
     requires size { length rows.now ≡ rect.h * rect.w }
-    ensures { RowsPut width rect rows.now places.old places.new }
+    ensures { RowsPut lines.now width rect rows.now places.old places.new }
 {
     let count = usize::from(rect.w);
     for row in 0..usize::from(rect.h) {
-        let start = (usize::from(rect.y) + row) * width + usize::from(rect.x);
+        let start = usize::from(lines[usize::from(rect.y) + row]) * width + usize::from(rect.x);
         let first = row * count;
         put_places(places, start, &rows[first..first + count]);
     }

@@ -79,11 +79,11 @@ impl Drawing<'_> {
             Drawing::Rows(area, rows) => screen.put_rows(area, rows),
             Drawing::Pixels(area, format, bytes) => paint_pixels(format, area, bytes, screen),
             Drawing::Bytes(area, bytes) => paint_bytes(area, bytes, screen),
-            Drawing::Copy(area, sx, sy) => screen.copy(area, sx, sy),
+            Drawing::Copy(area, sx, sy) => screen.copy_by_lines(area, sx, sy),
             Drawing::Scroll(area, dx, dy) => {
                 prove!(area.w <= screen.width() && area.h <= screen.height());
                 let (to, from) = area.scrolled(dx, dy);
-                screen.copy(to, from.x, from.y);
+                screen.copy_by_lines(to, from.x, from.y);
             }
             Drawing::Hint(..) => {}
         }

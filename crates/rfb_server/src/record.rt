@@ -38,7 +38,7 @@ impl Record {
     ghost use Rattle.rfb_server.specs.Record.{AreKnown, forgotten, ShowsKnown, TellsKnown};
 
     /// A record of a screen of `width` by `height` places, of which none is known. It asks for room
-    /// for all its places, in seven pieces; where there is none it gives the error, and nothing is
+    /// for all its places, in eight pieces; where there is none it gives the error, and nothing is
     /// kept.
     pub(crate) fn new(alloc: Global, width: u16, height: u16) -> Result<Record, AllocError>
         ensures value { IfOk result (λ r. r ≡ uniform width height None) }

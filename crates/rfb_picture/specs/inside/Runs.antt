@@ -4,6 +4,7 @@ use Rattle.std.specs.Prelude.{ℕ, List, ◌≡◌, ◌+◌, ◌-◌, ◌*◌, �
 use Rattle.std.specs.Prelude.{if◌then◌else◌}
 use Rattle.rfb_picture.specs.declared.rect.Rect.{Rect}
 use Rattle.rfb_picture.specs.Rect.{contains}
+use Rattle.rfb_picture.specs.inside.Lines.{place_in}
 
 -- place i is one of the count places from the first on
 abbrev pub in_run : ℕ → ℕ → ℕ → Bool
@@ -16,12 +17,12 @@ module _ {X : Type 0} where
       (i : ℕ) (d : X) →
       slice_index_or new i d ≡ (if in_run start count i then value else slice_index_or old i d)
 
-  -- the rectangle's places have the value, and the others what they had, in rows of that width
-  abbrev pub RowsFilled : ℕ → Rect → X → List X → List X → Type 0
-  RowsFilled width rect value old new =
-      (x y : ℕ) (d : X) → x < width →
-      slice_index_or new (y * width + x) d
-      ≡ (if contains rect x y then value else slice_index_or old (y * width + x) d)
+  -- the rectangle's places have the value, and the others what they had, in lines of that width
+  abbrev pub RowsFilled : List ℕ → ℕ → Rect → X → List X → List X → Type 0
+  RowsFilled lines width rect value old new =
+      (x y : ℕ) (d : X) → x < width → y < length lines →
+      slice_index_or new (place_in lines width x y) d
+      ≡ (if contains rect x y then value else slice_index_or old (place_in lines width x y) d)
 
   -- the places from the first on have the values of a row, and the others what they had
   abbrev pub RunPut : ℕ → List X → List X → List X → Type 0
@@ -32,13 +33,13 @@ module _ {X : Type 0} where
       else slice_index_or old i d)
 
   -- the rectangle's places have the values of a list, row after row, and the others what they had,
-  -- in rows of that width
-  abbrev pub RowsPut : ℕ → Rect → List X → List X → List X → Type 0
-  RowsPut width rect rows old new =
-      (x y : ℕ) (d : X) → x < width →
-      slice_index_or new (y * width + x) d
+  -- in lines of that width
+  abbrev pub RowsPut : List ℕ → ℕ → Rect → List X → List X → List X → Type 0
+  RowsPut lines width rect rows old new =
+      (x y : ℕ) (d : X) → x < width → y < length lines →
+      slice_index_or new (place_in lines width x y) d
       ≡ (if contains rect x y then slice_index_or rows ((y - rect.y) * rect.w + (x - rect.x)) d
-      else slice_index_or old (y * width + x) d)
+      else slice_index_or old (place_in lines width x y) d)
 
   -- count places from one on have what those from another on had, and the others what they had
   abbrev pub RunCopied : ℕ → ℕ → ℕ → List X → List X → Type 0
@@ -49,11 +50,11 @@ module _ {X : Type 0} where
       else slice_index_or old i d)
 
   -- the rectangle's places have what the rectangle of that size at (sx, sy) had, and the others
-  -- what they had, in rows of that width
-  abbrev pub RowsCopied : ℕ → Rect → ℕ → ℕ → List X → List X → Type 0
-  RowsCopied width dst sx sy old new =
-      (x y : ℕ) (d : X) → x < width →
-      slice_index_or new (y * width + x) d
+  -- what they had, in lines of that width
+  abbrev pub RowsCopied : List ℕ → ℕ → Rect → ℕ → ℕ → List X → List X → Type 0
+  RowsCopied lines width dst sx sy old new =
+      (x y : ℕ) (d : X) → x < width → y < length lines →
+      slice_index_or new (place_in lines width x y) d
       ≡ (if contains dst x y
-      then slice_index_or old ((sy + (y - dst.y)) * width + (sx + (x - dst.x))) d
-      else slice_index_or old (y * width + x) d)
+      then slice_index_or old (place_in lines width (sx + (x - dst.x)) (sy + (y - dst.y))) d
+      else slice_index_or old (place_in lines width x y) d)

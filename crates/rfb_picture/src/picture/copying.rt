@@ -1,19 +1,27 @@
 //! Copies of rows within one list of places, which may lie over one another.
 
 ghost use Rattle.std.specs.Prelude.{◌+◌, ◌*◌, ◌≤◌, ◌⊎◌, length};
+ghost use Rattle.rfb_picture.specs.inside.Lines.{IsKept};
 ghost use Rattle.rfb_picture.specs.inside.Runs.{RowsCopied, RunCopied};
 
 use crate::rect::Rect;
 
-// Gives each place of `dst` what its place of the rectangle at (`sx`, `sy`) had, in rows of `width`
+// Gives each place of `dst` what its place of the rectangle at (`sx`, `sy`) had, in lines of `width`
 // places.
-#[tactic(auto, using(crate::proofs::CopyLemmas::row_fits))]
-pub(super) fn copy_rows<T: Copy>(places: &mut [T], width: usize, dst: Rect, sx: u16, sy: u16)
+pub(super) fn copy_rows<T: Copy>(
+    places: &mut [T],
+    lines: &[u16],
+    width: usize,
+    dst: Rect,
+    sx: u16,
+    sy: u16,
+)
     requires columns { dst.x + dst.w ≤ width }
-    requires rows { (dst.y + dst.h) * width ≤ length places.old }
+    requires rows { dst.y + dst.h ≤ length lines.now }
     requires source_columns { sx + dst.w ≤ width }
-    requires source_rows { (sy + dst.h) * width ≤ length places.old }
-    ensures { RowsCopied width dst sx sy places.old places.new }
+    requires source_rows { sy + dst.h ≤ length lines.now }
+    requires kept { IsKept width (length lines.now) lines.now places.old }
+    ensures { RowsCopied lines.now width dst sx sy places.old places.new }
 {
     let rows = usize::from(dst.h);
     for done in 0..rows {
@@ -21,8 +29,8 @@ pub(super) fn copy_rows<T: Copy>(places: &mut [T], width: usize, dst: Rect, sx: 
         // written.
         let row = if dst.y <= sy { done } else { rows - 1 - done };
         prove!(row < rows);
-        let from = (usize::from(sy) + row) * width + usize::from(sx);
-        let to = (usize::from(dst.y) + row) * width + usize::from(dst.x);
+        let from = usize::from(lines[usize::from(sy) + row]) * width + usize::from(sx);
+        let to = usize::from(lines[usize::from(dst.y) + row]) * width + usize::from(dst.x);
         copy_places(places, from, to, usize::from(dst.w));
     }
 }

@@ -23,6 +23,19 @@ fn copy(picture: &mut Picture<u8>, dst: Rect, sx: u16, sy: u16) -> bool {
     true
 }
 
+fn copy_by_lines(picture: &mut Picture<u8>, dst: Rect, sx: u16, sy: u16) -> bool {
+    let source = Rect {
+        x: sx,
+        y: sy,
+        ..dst
+    };
+    if !picture.holds(dst) || !picture.holds(source) {
+        return false;
+    }
+    picture.copy_by_lines(dst, sx, sy);
+    true
+}
+
 fn is_copied_over(picture: &mut Picture<u8>) -> bool {
     let dst = Rect {
         x: 1,
@@ -105,11 +118,14 @@ fn are_copied_from(
     copies
 }
 
-// Whether `copy` leaves at each place what a second picture, which nothing was written to,
-// has there or at its source.
+// Whether both copies leave at each place what a second picture, which nothing was written to,
+// has there or at its source. Rows are in other lines each time.
 fn is_copied(picture: &mut Picture<u8>, before: &Picture<u8>, dst: Rect, sx: u16, sy: u16) -> bool {
     put_rows(picture, &SIXTEEN)
         && copy(picture, dst, sx, sy)
+        && shows_copied(picture, before, dst, sx, sy)
+        && put_rows(picture, &SIXTEEN)
+        && copy_by_lines(picture, dst, sx, sy)
         && shows_copied(picture, before, dst, sx, sy)
 }
 
@@ -156,7 +172,7 @@ const ALL: Rect = Rect {
 };
 
 fn has_room(picture: &Picture<u8>, wanted: usize) -> bool {
-    picture.places.capacity() == wanted
+    picture.places.capacity() == wanted && picture.lines.capacity() == usize::from(picture.height)
 }
 
 fn keeps_its_room(picture: &mut Picture<u8>, other: &Picture<u8>) -> bool {
@@ -166,6 +182,7 @@ fn keeps_its_room(picture: &mut Picture<u8>, other: &Picture<u8>) -> bool {
         && fill(picture, ALL, 7)
         && put_row(picture, 1, 1, &[5, 6])
         && copy(picture, Rect { w: 3, ..ALL }, 1, 0)
+        && copy_by_lines(picture, Rect { h: 2, ..ALL }, 0, 1)
         && lend_and_write(picture)
         && has_room(picture, 12)
 }
@@ -184,6 +201,33 @@ fn lends_a_row_for_writing(rt: HostRuntime) -> Result<(), AllocError> {
     assert!(rt; is_lent(&mut picture));
     drop(picture);
     Ok(())
+}
+
+#[test]
+fn lends_a_row_whose_line_has_moved(rt: HostRuntime) -> Result<(), AllocError> {
+    let mut picture = bytes(rt.alloc(), 4, 4, 0)?;
+    assert!(rt; is_lent_after_a_move(&mut picture));
+    drop(picture);
+    Ok(())
+}
+
+// The first three rows go one down; then a pair is written.
+fn is_lent_after_a_move(picture: &mut Picture<u8>) -> bool {
+    let down = Rect {
+        x: 0,
+        y: 1,
+        w: 4,
+        h: 3,
+    };
+    let moved = put_rows(picture, &SIXTEEN) && copy_by_lines(picture, down, 0, 0);
+    if !moved || picture.width() < 4 || picture.height() < 3 {
+        return false;
+    }
+    write_pair(picture, 2, 2, &[80, 90]);
+    has_rows(
+        picture,
+        &[SIXTEEN[0], SIXTEEN[0], &[5, 6, 80, 90], SIXTEEN[2]],
+    )
 }
 
 const NONE: [u8; 4] = [0, 0, 0, 0];

@@ -54,7 +54,7 @@ impl Record {
         ensures width { self.new.width ≡ self.old.width }
         ensures height { self.new.height ≡ self.old.height }
     {
-        self.pixels.copy(to, sx, sy);
+        self.pixels.copy_by_lines(to, sx, sy);
         learn(&mut self.known, to);
     }
 }

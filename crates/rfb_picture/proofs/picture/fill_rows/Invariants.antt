@@ -1,12 +1,13 @@
-use Rattle.std.proofs.Common.{◌≡◌, ℕ, ◌+◌, ◌*◌, ◌<◌, slice_index_or, if◌then◌else◌}
+-- The rectangle's rows so far have the value, and the other places are as they were.
+use Rattle.std.proofs.Common.{◌≡◌, ℕ, ◌<◌, length, slice_index_or, if◌then◌else◌}
 use Rattle.rfb_picture.specs.Rect.{contains}
+use Rattle.rfb_picture.specs.inside.Lines.{place_in}
 use Rattle.rfb_picture.proofs.picture.fill_rows.Given as goal
 
--- the rectangle's rows so far have the value, and the other places are as they were
 abbrev pub invariant-loop-row : goal.invariant-loop-row
 invariant-loop-row g l =
     (x y : ℕ) (d : g.row.T.Denot) →
-    x < l.width →
-    slice_index_or l.places (y * l.width + x) d
+    x < l.width → y < length l.lines →
+    slice_index_or l.places (place_in l.lines l.width x y) d
     ≡ (if contains (record l.rect { h = l.row }) x y then l.value
-    else slice_index_or l.initial.places (y * l.width + x) d)
+    else slice_index_or l.initial.places (place_in l.lines l.width x y) d)

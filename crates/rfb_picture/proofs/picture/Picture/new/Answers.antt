@@ -1,5 +1,6 @@
 use Rattle.std.proofs.Common.{List, ℕ, ◌≡◌, ◌≤◌, ◌*◌, ◌-◌, ◌++◌, length, replicate, take, ap, sym, ◌∙◌, arith, rules}
 use Rattle.std.proofs.lemmas.List.{take_all, replicate-append-replicate, length-replicate}
+use Rattle.rfb_picture.proofs.ShownLemmas.{uniform_shown}
 use Rattle.rfb_picture.proofs.picture.Picture.new.Goals as goal
 
 -- a list of one value that is made longer by it is such a list
@@ -26,3 +27,9 @@ loop-value-preserved g c =
     resized c.loop-value.places.items c.resize.new.self.items _ c.min-len.result
     (c.from.result * c.from-2.result) c.args.value
     (search rules) c.loop-value.invariant.0 (search rules) (search rules) c.in_ok-resize.ensures.items
+
+pub returns-clause-value : goal.returns-clause-value
+returns-clause-value g c =
+    uniform_shown c.args.width c.args.height c.in_ok-lines.lines.items c.args.value c.loop-value.places.items
+    c.in_ok-lines.ensures c.loop-value.invariant.0
+    (rw (← c.from.ensures, ← c.from-2.ensures) (omega arith))
