@@ -1,5 +1,6 @@
 -- Laws of copies within one grid: what is read of it before it is written.
-use Rattle.std.proofs.Common.{ℕ, ◌≡◌, ◌+◌, ◌-◌, ◌*◌, ◌<◌, ◌≤◌, refl, ◌∙◌, arith, if◌then◌else◌, nat_le, nat_lt, ◌&&◌}
+use Rattle.std.proofs.Common.{ℕ, ◌≡◌, ◌+◌, ◌-◌, ◌*◌, ◌<◌, ◌≤◌, refl, ◌∙◌, arith}
+use Rattle.std.proofs.Common.{if◌then◌else◌, nat_le, nat_lt, ◌&&◌}
 use Rattle.std.proofs.Common.{◌||◌, Bool, true, false, List}
 use Rattle.std.proofs.lemmas.Bool.Decides.{nat_tests}
 use Rattle.std.proofs.Math.Nat.{mul-le-mul_right}
@@ -88,7 +89,8 @@ module _ {X : Type 0} where
   at_value false now u v w e same = e
 
   -- with the places of one row more, a copy is one row further
-  pub line_copied : (w h : ℕ) (lines : List ℕ) (r : Rect) (sx sy n row x y : ℕ) (now : X) (before first : ℕ → X) →
+  pub line_copied : (w h : ℕ) (lines : List ℕ) (r : Rect) (sx sy n row x y : ℕ) (now : X)
+      (before first : ℕ → X) →
       AreLines h lines → r.x + r.w ≤ w → sx + r.w ≤ w → r.y + r.h ≤ h → sy + r.h ≤ h →
       n < r.h → row ≡ row_after r sy n → x < w → y < h →
       ((x y : ℕ) → x < w → y < h →

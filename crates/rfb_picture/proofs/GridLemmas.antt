@@ -1,7 +1,9 @@
 -- Laws of grids, for this crate's proofs and those above it: what stands where after a change.
-use Rattle.std.proofs.Common.{ℕ, zero, suc, List, [], ◌∷◌, ◌≡◌, ◌+◌, ◌-◌, ◌*◌, ◌/◌, ◌%◌, ◌<◌, ◌≤◌, length, get_or}
+use Rattle.std.proofs.Common.{ℕ, zero, suc, List, [], ◌∷◌, ◌≡◌, ◌+◌, ◌-◌, ◌*◌, ◌/◌}
+use Rattle.std.proofs.Common.{◌%◌, ◌<◌, ◌≤◌, length, get_or}
 use Rattle.std.proofs.Common.{drop}
-use Rattle.std.proofs.Common.{refl, ap, sym, ◌∙◌, arith, add-zero, zero-add, if◌then◌else◌, slice_index_or, nat_le}
+use Rattle.std.proofs.Common.{refl, ap, sym, ◌∙◌, arith, add-zero, zero-add, if◌then◌else◌, slice_index_or}
+use Rattle.std.proofs.Common.{nat_le}
 use Rattle.std.proofs.Common.{nat_lt, ◌&&◌, ◌||◌, inl, inr, Bool, true, false}
 use Rattle.std.proofs.lemmas.List.{same_lists, get_or-replicate, get_or-take, get_or-drop, get_or_default}
 use Rattle.std.proofs.lemmas.List.{length-take-le, length-drop, length-replicate}

@@ -1,5 +1,6 @@
 -- Laws of rows that are lent for writing: what the grid ends as.
-use Rattle.std.proofs.Common.{ℕ, List, ◌++◌, ◌≡◌, ◌+◌, ◌-◌, ◌*◌, ◌<◌, ◌≤◌, length, take, drop, get_or, slice_index_or}
+use Rattle.std.proofs.Common.{ℕ, List, ◌++◌, ◌≡◌, ◌+◌, ◌-◌, ◌*◌, ◌<◌, ◌≤◌, length}
+use Rattle.std.proofs.Common.{take, drop, get_or, slice_index_or}
 use Rattle.std.proofs.Common.{refl, ap, sym, ◌∙◌, arith, if◌then◌else◌, nat_le, nat_lt, ◌&&◌, Bool, Vec}
 use Rattle.std.proofs.Common.{length-append}
 use Rattle.std.proofs.Common.{length-drop}
@@ -126,7 +127,8 @@ module _ {X : Type 0} where
   -- ---- where the lines are in order
 
   -- what is shown is the places as they are
-  ordered_shown : (w h : ℕ) (lines : List ℕ) (places : List X) → AreInOrder h lines → IsGrid (grid w h places) →
+  ordered_shown : (w h : ℕ) (lines : List ℕ) (places : List X) → AreInOrder h lines →
+      IsGrid (grid w h places) →
       shown w h lines places ≡ grid w h places
   ordered_shown w h lines places order whole =
       shown_is w h lines places (grid w h places)

@@ -1,5 +1,6 @@
 -- Laws of a list whose values are written over a rectangle, row after row.
-use Rattle.std.proofs.Common.{ℕ, List, ◌≡◌, ◌+◌, ◌-◌, ◌*◌, ◌<◌, ◌≤◌, length, take, drop, ◌∙◌, arith, if◌then◌else◌}
+use Rattle.std.proofs.Common.{ℕ, List, ◌≡◌, ◌+◌, ◌-◌, ◌*◌, ◌<◌, ◌≤◌, length, take, drop}
+use Rattle.std.proofs.Common.{◌∙◌, arith, if◌then◌else◌}
 use Rattle.std.proofs.Common.{slice_index_or, nat_le, nat_lt, ◌&&◌}
 use Rattle.std.proofs.lemmas.List.{get_or-take, get_or-drop, get_or_default}
 use Rattle.rfb_picture.specs.declared.rect.Rect.{Rect}
@@ -17,7 +18,8 @@ module _ {X : Type 0} where
       get_or-take c (drop (n * c) rows) i d l ∙ get_or-drop (n * c) rows i d
 
   -- with the places of one row more, a rectangle of one row more has its values
-  pub line_put : (w h : ℕ) (lines : List ℕ) (r : Rect) (n x y : ℕ) (rows piece : List X) (d now before first : X) →
+  pub line_put : (w h : ℕ) (lines : List ℕ) (r : Rect) (n x y : ℕ) (rows piece : List X)
+      (d now before first : X) →
       AreLines h lines → r.x + r.w ≤ w → r.y + n < h → x < w → y < h →
       length piece ≡ r.w →
       piece ≡ take r.w (drop (n * r.w) rows) →

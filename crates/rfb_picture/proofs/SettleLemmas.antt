@@ -1,5 +1,6 @@
 -- Laws of lines that change places.
-use Rattle.std.proofs.Common.{ℕ, zero, suc, List, ◌≡◌, ◌≢◌, ◌+◌, ◌*◌, ◌/◌, ◌%◌, ◌<◌, ◌≤◌, ◌∙◌, ap, sym, refl}
+use Rattle.std.proofs.Common.{ℕ, zero, suc, List, ◌≡◌, ◌≢◌, ◌+◌, ◌*◌, ◌/◌, ◌%◌, ◌<◌}
+use Rattle.std.proofs.Common.{◌≤◌, ◌∙◌, ap, sym, refl}
 use Rattle.std.proofs.Common.{arith, length}
 use Rattle.std.proofs.Common.{slice_index_or, nat_eq, nat_lt, Bool, true, false, if◌then◌else◌, inl, inr}
 use Rattle.std.proofs.lemmas.Bool.{cases_order}
@@ -154,7 +155,8 @@ at_most_one t u n p others =
     let few = counts_one (nat_eq (u n) n) in
     rw one (omega (arith, others, few))
 
-same_or_fewer : (t u : ℕ → ℕ) (n : ℕ) → ((i : ℕ) → i < n → t i ≡ i → u i ≡ i) → misplaced u n ≤ misplaced t n
+same_or_fewer : (t u : ℕ → ℕ) (n : ℕ) → ((i : ℕ) → i < n → t i ≡ i → u i ≡ i) →
+    misplaced u n ≤ misplaced t n
 unfolding misplaced
 same_or_fewer t u zero keeps = let none : 0 ≤ 0 = omega arith in none
 same_or_fewer t u (suc n) keeps =
@@ -186,7 +188,8 @@ one_less t u n keeps others =
     ]
 
 -- where one row more is in the line of its number
-pub fewer : (t u : ℕ → ℕ) (n z : ℕ) → ((i : ℕ) → i < n → t i ≡ i → u i ≡ i) → z < n → t z ≢ z → u z ≡ z →
+pub fewer : (t u : ℕ → ℕ) (n z : ℕ) → ((i : ℕ) → i < n → t i ≡ i → u i ≡ i) → z < n →
+    t z ≢ z → u z ≡ z →
     misplaced u n < misplaced t n
 unfolding misplaced
 fewer t u zero z keeps l p e = absurd (omega arith)

@@ -1,5 +1,6 @@
 -- Laws of what a picture shows of places whose rows are in lines.
-use Rattle.std.proofs.Common.{ℕ, List, ◌≡◌, ◌+◌, ◌-◌, ◌*◌, ◌<◌, ◌≤◌, ◌∙◌, ap, sym, arith, length, slice_index_or}
+use Rattle.std.proofs.Common.{ℕ, List, ◌≡◌, ◌+◌, ◌-◌, ◌*◌, ◌<◌, ◌≤◌, ◌∙◌, ap, sym}
+use Rattle.std.proofs.Common.{arith, length, slice_index_or}
 use Rattle.std.proofs.Common.{nat_le, nat_lt, ◌&&◌, if◌then◌else◌, take, drop, replicate}
 use Rattle.std.proofs.lemmas.List.{get_or_default, get_or-take, get_or-drop, get_or-replicate, length-take-le}
 use Rattle.std.proofs.lemmas.List.{length-drop}

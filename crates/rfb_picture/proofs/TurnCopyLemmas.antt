@@ -1,5 +1,6 @@
 -- A copy of rows all across is a copy of few of them, once their lines went round.
-use Rattle.std.proofs.Common.{ℕ, List, ◌≡◌, ◌+◌, ◌-◌, ◌*◌, ◌<◌, ◌≤◌, ◌∙◌, ap, sym, refl, arith}
+use Rattle.std.proofs.Common.{ℕ, List, ◌≡◌, ◌+◌, ◌-◌, ◌*◌, ◌<◌, ◌≤◌, ◌∙◌, ap, sym}
+use Rattle.std.proofs.Common.{refl, arith}
 use Rattle.std.proofs.Common.{slice_index_or}
 use Rattle.std.proofs.Common.{false, if◌then◌else◌, inl, inr, ◌⊎◌}
 use Rattle.std.proofs.lemmas.Bool.Decides.{nat_tests}
@@ -50,7 +51,8 @@ target_not_rest rows y p q =
     ]
 
 -- the source of a row that is left is written, from that row
-pub rest_source : (rows : Rows) (y : ℕ) → rows.to ≤ rows.from + rows.count → rows.from ≤ rows.to + rows.count →
+pub rest_source : (rows : Rows) (y : ℕ) → rows.to ≤ rows.from + rows.count →
+    rows.from ≤ rows.to + rows.count →
     (rest_of rows).to ≤ y → y < (rest_of rows).to + (rest_of rows).count →
     line_from rows ((rest_of rows).from + (y - (rest_of rows).to)) ≡ y
 rest_source rows y down_near up_near p q =

@@ -1,5 +1,6 @@
 -- Laws of lines that go round.
-use Rattle.std.proofs.Common.{ℕ, List, ◌≡◌, ◌+◌, ◌-◌, ◌<◌, ◌≤◌, ◌∙◌, ap, sym, arith, length}
+use Rattle.std.proofs.Common.{ℕ, List, ◌≡◌, ◌+◌, ◌-◌, ◌<◌, ◌≤◌, ◌∙◌, ap, sym, arith}
+use Rattle.std.proofs.Common.{length}
 use Rattle.std.proofs.Common.{slice_index_or}
 use Rattle.std.proofs.Common.{take, drop, ◌++◌, nat_le, true, false, if◌then◌else◌, inl, inr, ◌⊎◌}
 use Rattle.std.proofs.Common.{length-append, length-drop}

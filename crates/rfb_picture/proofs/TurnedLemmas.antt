@@ -1,5 +1,6 @@
 -- Laws of lines that went round: each is still one row's.
-use Rattle.std.proofs.Common.{ℕ, List, ◌≡◌, ◌+◌, ◌-◌, ◌<◌, ◌≤◌, ◌∙◌, ap, sym, refl, arith}
+use Rattle.std.proofs.Common.{ℕ, List, ◌≡◌, ◌+◌, ◌-◌, ◌<◌, ◌≤◌, ◌∙◌, ap, sym, refl}
+use Rattle.std.proofs.Common.{arith}
 use Rattle.std.proofs.Common.{nat_le, true, false, inl, inr, ◌⊎◌}
 use Rattle.std.proofs.lemmas.Bool.Decides.{nat_tests}
 use Rattle.rfb_picture.specs.declared.picture.lines.Rows.{Rows}
@@ -69,7 +70,8 @@ others_back rows y (inl (p, q)) = of_others (back rows) y (inl q) (inl (before_r
 others_back rows y (inr (p, q)) = of_others (back rows) y (inr q) (inr (after_rest (back rows) y q p))
 
 -- the line that a row gets is one of them
-pub line_within : (h : ℕ) (rows : Rows) (y : ℕ) → rows.to + rows.count ≤ h → rows.from + rows.count ≤ h → y < h →
+pub line_within : (h : ℕ) (rows : Rows) (y : ℕ) → rows.to + rows.count ≤ h → rows.from + rows.count ≤ h →
+    y < h →
     Where rows y → line_from rows y < h
 line_within h rows y to_fits from_fits l (inl (p, q)) = rw (of_target rows y p q) (omega (arith, p, q, from_fits))
 line_within h rows y to_fits from_fits l (inr (inl (other, p, q))) =
@@ -86,7 +88,8 @@ line_within h rows y to_fits from_fits l (inr (inl (other, p, q))) =
 line_within h rows y to_fits from_fits l (inr (inr (other, outside))) = rw (of_others rows y other outside) l
 
 -- going back a row comes to where it was
-pub there_and_back : (rows : Rows) (y : ℕ) → rows.to ≤ rows.from + rows.count → rows.from ≤ rows.to + rows.count →
+pub there_and_back : (rows : Rows) (y : ℕ) → rows.to ≤ rows.from + rows.count →
+    rows.from ≤ rows.to + rows.count →
     Where rows y → line_from (back rows) (line_from rows y) ≡ y
 there_and_back rows y down_near up_near (inl (p, q)) =
     ap (line_from (back rows)) (of_target rows y p q)
@@ -133,7 +136,8 @@ there_and_back rows y down_near up_near (inr (inr (other, outside))) =
     ∙ others_back rows y (beyond rows y down_near up_near other outside)
 
 -- each row has a line of its own after the lines went round
-pub lines_turned : (h : ℕ) (rows : Rows) (old new : List ℕ) → rows.to + rows.count ≤ h → rows.from + rows.count ≤ h →
+pub lines_turned : (h : ℕ) (rows : Rows) (old new : List ℕ) → rows.to + rows.count ≤ h →
+    rows.from + rows.count ≤ h →
     rows.to ≤ rows.from + rows.count → rows.from ≤ rows.to + rows.count →
     AreLines h old → Turned rows old new → AreLines h new
 lines_turned h rows old new to_fits from_fits down_near up_near are turned = record {

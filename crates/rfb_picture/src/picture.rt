@@ -1,9 +1,9 @@
 //! A picture of places, each with a value.
 
-ghost use Rattle.std.specs.Prelude.{◌≡◌, ℕ, ◌+◌, ◌*◌, ◌<◌, ◌≤◌, ◌↔◌, length, slice_index_or, IfOk};
+ghost use Rattle.std.specs.Prelude.{◌≡◌, ℕ, ◌+◌, ◌*◌, ◌<◌, ◌≤◌, ◌↔◌, length, slice_index_or, false, IfOk};
 ghost use Rattle.std.specs.Prelude.{IsTrue};
 ghost use Rattle.std.specs.Borrow.{sem};
-ghost use Rattle.rfb_picture.specs.inside.Lines.{IsKept};
+ghost use Rattle.rfb_picture.specs.inside.Lines.{AreInOrder, IsKept};
 ghost use Rattle.rfb_picture.specs.inside.Runs.{RowsFilled, RunFilled, RowsPut, RunPut};
 
 mod copying;
@@ -13,7 +13,7 @@ mod tests;
 
 use crate::rect::Rect;
 use copying::copy_rows;
-use lines::{Rows, lines_of, place_of, put_in_order, turn};
+use lines::{Rows, line_of, lines_of, place_of, put_in_order, turn};
 use std::alloc::{AllocError, Global};
 use std::marker::Model;
 
@@ -114,7 +114,7 @@ impl<T: Copy> Picture<T> {
         requires row { y < self.now.height }
         ensures { (d : T) → result ≡ at_or self.now x y d }
     {
-        self.places[place_of(&self.lines, self.width, x, y)]
+        self.places[place_of(self.is_turned, &self.lines, self.width, x, y)]
     }
 
     /// Lends the values at `w` places of row `y`, from column `x` on.
@@ -125,7 +125,7 @@ impl<T: Copy> Picture<T> {
         ensures value { result.now ≡ row_of self.now x y w }
         ensures len { length result.now ≡ w }
     {
-        let start = place_of(&self.lines, self.width, x, y);
+        let start = place_of(self.is_turned, &self.lines, self.width, x, y);
         &self.places[start..start + usize::from(w)]
     }
 
@@ -159,7 +159,14 @@ impl<T: Copy> Picture<T> {
         ensures height { self.new.height ≡ self.old.height }
     {
         let width = usize::from(self.width);
-        fill_rows(&mut self.places, &self.lines, width, rect, value);
+        fill_rows(
+            &mut self.places,
+            self.is_turned,
+            &self.lines,
+            width,
+            rect,
+            value,
+        );
     }
 
     /// Writes `row` at (`x`, `y`) and on to the right. `row` stays the caller's.
@@ -170,7 +177,7 @@ impl<T: Copy> Picture<T> {
         ensures width { self.new.width ≡ self.old.width }
         ensures height { self.new.height ≡ self.old.height }
     {
-        let start = place_of(&self.lines, self.width, x, y);
+        let start = place_of(self.is_turned, &self.lines, self.width, x, y);
         put_places(&mut self.places, start, row);
     }
 
@@ -184,7 +191,14 @@ impl<T: Copy> Picture<T> {
         ensures height { self.new.height ≡ self.old.height }
     {
         let width = usize::from(self.width);
-        put_rows(&mut self.places, &self.lines, width, rect, rows);
+        put_rows(
+            &mut self.places,
+            self.is_turned,
+            &self.lines,
+            width,
+            rect,
+            rows,
+        );
     }
 
     /// Gives each place of `dst` what its place of the rectangle of that size at (`sx`, `sy`) had,
@@ -241,14 +255,23 @@ impl<T: Copy> Picture<T> {
 }
 
 // Gives `value` to each place of the rectangle, in lines of `width` places.
-fn fill_rows<T: Copy>(places: &mut [T], lines: &[u16], width: usize, rect: Rect, value: T)
+fn fill_rows<T: Copy>(
+    places: &mut [T],
+    is_turned: bool,
+    lines: &[u16],
+    width: usize,
+    rect: Rect,
+    value: T,
+)
+    requires order { is_turned ≡ false → AreInOrder (length lines.now) lines.now }
     requires columns { rect.x + rect.w ≤ width }
     requires rows { rect.y + rect.h ≤ length lines.now }
     requires kept { IsKept width (length lines.now) lines.now places.old }
     ensures { RowsFilled lines.now width rect value places.old places.new }
 {
     for row in 0..usize::from(rect.h) {
-        let start = usize::from(lines[usize::from(rect.y) + row]) * width + usize::from(rect.x);
+        let line = line_of(is_turned, lines, usize::from(rect.y) + row);
+        let start = line * width + usize::from(rect.x);
         fill_places(places, start, usize::from(rect.w), value);
     }
 }
@@ -273,7 +296,15 @@ fn fill_row<T: Copy>(row: &mut [T], value: T)
 }
 
 // Writes `rows`, one after the other, over the rectangle's, in lines of `width` places.
-fn put_rows<T: Copy>(places: &mut [T], lines: &[u16], width: usize, rect: Rect, rows: &[T])
+fn put_rows<T: Copy>(
+    places: &mut [T],
+    is_turned: bool,
+    lines: &[u16],
+    width: usize,
+    rect: Rect,
+    rows: &[T],
+)
+    requires order { is_turned ≡ false → AreInOrder (length lines.now) lines.now }
     requires columns { rect.x + rect.w ≤ width }
     requires rows { rect.y + rect.h ≤ length lines.now }
     requires kept { IsKept width (length lines.now) lines.now places.old }
@@ -282,7 +313,8 @@ fn put_rows<T: Copy>(places: &mut [T], lines: &[u16], width: usize, rect: Rect, 
 {
     let count = usize::from(rect.w);
     for row in 0..usize::from(rect.h) {
-        let start = usize::from(lines[usize::from(rect.y) + row]) * width + usize::from(rect.x);
+        let line = line_of(is_turned, lines, usize::from(rect.y) + row);
+        let start = line * width + usize::from(rect.x);
         let first = row * count;
         put_places(places, start, &rows[first..first + count]);
     }

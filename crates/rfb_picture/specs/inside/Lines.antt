@@ -1,6 +1,7 @@
 -- How a `Picture` keeps its rows: each in a line of its own, and which line is which row's. So rows
 -- that move take no place with them. No public clause reads these words.
-use Rattle.std.specs.Prelude.{ℕ, Bool, false, List, ◌≡◌, ◌+◌, ◌*◌, ◌<◌, length, slice_index_or, nat_eq, if◌then◌else◌}
+use Rattle.std.specs.Prelude.{ℕ, Bool, false, List, ◌≡◌, ◌+◌, ◌*◌, ◌<◌, length, slice_index_or}
+use Rattle.std.specs.Prelude.{nat_eq, if◌then◌else◌}
 use Rattle.rfb_picture.specs.Grid.{Grid, grid, IsGrid, changed}
 
 -- where place x of row y stands among the places, in lines of that width

@@ -1,6 +1,7 @@
 -- Rows that are copied over others by fewer rows than they are: their lines go round, and few places
 -- are left to be copied. No public clause reads these words.
-use Rattle.std.specs.Prelude.{ℕ, List, ◌≡◌, ◌+◌, ◌-◌, ◌<◌, ◌&&◌, Bool, nat_le, nat_lt, length, slice_index_or}
+use Rattle.std.specs.Prelude.{ℕ, List, ◌≡◌, ◌+◌, ◌-◌, ◌<◌, ◌&&◌, Bool, nat_le, nat_lt, length}
+use Rattle.std.specs.Prelude.{slice_index_or}
 use Rattle.std.specs.Prelude.{if◌then◌else◌}
 use Rattle.rfb_picture.specs.declared.picture.lines.Rows.{Rows}
 

@@ -17,13 +17,27 @@ pub(super) fn lines_of(alloc: Global, height: u16) -> Result<Vec<u16>, AllocErro
     Ok(lines)
 }
 
+// Which line a row is in: where none has moved that of its number, which needs no look.
+#[inline]
+pub(super) fn line_of(is_turned: bool, lines: &[u16], row: usize) -> usize
+    requires row { row < length lines.now }
+    requires order { is_turned ≡ false → AreInOrder (length lines.now) lines.now }
+    ensures { result ≡ slice_index_or lines.now row 0 }
+{
+    if is_turned {
+        return usize::from(lines[row]);
+    }
+    row
+}
+
 // Where a place stands among the places, in lines of that width.
 #[inline]
-pub(super) fn place_of(lines: &[u16], width: u16, x: u16, y: u16) -> usize
-    requires { y < length lines.now }
+pub(super) fn place_of(is_turned: bool, lines: &[u16], width: u16, x: u16, y: u16) -> usize
+    requires row { y < length lines.now }
+    requires order { is_turned ≡ false → AreInOrder (length lines.now) lines.now }
     ensures { result ≡ place_in lines.now width x y }
 {
-    usize::from(lines[usize::from(y)]) * usize::from(width) + usize::from(x)
+    line_of(is_turned, lines, usize::from(y)) * usize::from(width) + usize::from(x)
 }
 
 // Moves the places so that each row is in the line of its number, unless each is.

@@ -1,5 +1,6 @@
 -- The rectangle's rows so far have their values, and the other places are as they were.
-use Rattle.std.proofs.Common.{◌≡◌, ℕ, ◌+◌, ◌-◌, ◌*◌, ◌<◌, length, slice_index_or, if◌then◌else◌}
+use Rattle.std.proofs.Common.{◌≡◌, ℕ, ◌+◌, ◌-◌, ◌*◌, ◌<◌, length, slice_index_or}
+use Rattle.std.proofs.Common.{if◌then◌else◌}
 use Rattle.rfb_picture.specs.Rect.{contains}
 use Rattle.rfb_picture.specs.inside.Lines.{place_in}
 use Rattle.rfb_picture.proofs.picture.put_rows.Given as goal

@@ -1,4 +1,5 @@
-use Rattle.std.proofs.Common.{◌≡◌, ◌<◌, ◌+◌, ◌-◌, ◌*◌, length, slice_index_or, if◌then◌else◌, arith, ap, ◌∙◌}
+use Rattle.std.proofs.Common.{◌≡◌, ◌<◌, ◌+◌, ◌-◌, ◌*◌, length, slice_index_or}
+use Rattle.std.proofs.Common.{if◌then◌else◌, arith, ap, ◌∙◌}
 use Rattle.std.proofs.lemmas.List.{with_items_is}
 use Rattle.rfb_picture.specs.Rect.{contains}
 use Rattle.rfb_picture.proofs.RowsLemmas.{rows_read}
