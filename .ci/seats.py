@@ -14,7 +14,7 @@ import tempfile
 import threading
 import time
 
-from messages import VERSION, cut_text, key, pixel_format, pointer, request
+from messages import VERSION, cut_text, key, pixel_format, pointer, request, set_encodings
 from peers import connected
 from sharing import Share, Viewer, run_rows, viewers, wait_for
 
@@ -436,6 +436,46 @@ def no_viewer_sees_a_part_of_a_scene(scenes=20, lines=200):
     share.quits()
 
 
+def in_step_or_not_each_viewer_has_each_scene(width=150, height=90, scenes=60):
+    """Five viewers ask for the same at the same time; one has another format, one lists no CopyRect,
+    and one asks for every fourth scene alone."""
+    share = Share("--hold", "20")
+    share.say(f"screen {width} {height}\n")
+    eight = viewers(share, 8)
+    eight[1].send(bytes(4) + pixel_format(shifts=(0, 8, 16)))
+    for viewer in eight:
+        viewer.send(set_encodings(0) if viewer is eight[2] else set_encodings(1, 0))
+    screen = bytearray(width * height * 4)
+    for viewer in eight:
+        viewer.ask(0)
+        viewer.update()
+    copied = 0
+    for scene in range(scenes):
+        asking = eight[:3] + eight[4:]
+        for viewer in asking:
+            viewer.ask()
+        # Rows move up, and the last ones and a place in the middle get a colour.
+        by, red, green, blue = scene % 7 + 1, os.urandom(1)[0], scene, 255 - scene
+        share.say("hold\nscroll 0 0 %d %d 0 -%d\n" % (width, height, by))
+        share.say("fill 0 %d %d %d %02x%02x%02x\n" % (height - by, width, by, red, green, blue))
+        share.say("fill %d 40 1 1 %02x%02x%02x\nshow\n" % (scene, blue, red, green))
+        screen[:] = screen[by * width * 4:] + bytes([blue, green, red, 0]) * (by * width)
+        start = (40 * width + scene) * 4
+        screen[start:start + 4] = bytes([green, red, blue, 0])
+        for viewer in asking + [eight[3]][:scene % 4 == 3]:
+            if viewer is eight[3]:
+                viewer.ask()
+            copied += viewer.update().count(1)
+            shown = viewer.shown
+            if viewer is eight[1]:
+                shown = bytearray(len(screen))
+                for to, of in enumerate([2, 1, 0, 3]):
+                    shown[to::4] = viewer.shown[of::4]
+            assert shown == screen, (scene, eight.index(viewer))
+    share.quits()
+    return f"{scenes} scenes, {copied} copies"
+
+
 def a_scene_that_is_not_shown_is_shown_by_time():
     for words, least, most in ((), 0.8, 2), (("--hold", "2"), 1.8, 3):
         share = Share(*words)
@@ -503,6 +543,7 @@ ROWS = [a_seat_is_told_of_from_its_first_byte_to_its_last,
         a_flood_of_keys_that_nobody_hears_holds_no_viewer_up,
         what_one_does_wrong_is_nothing_to_three_others, a_stuck_viewer_has_each_byte_in_the_end,
         many_connections_come_one_after_another, no_viewer_sees_a_part_of_a_scene,
+        in_step_or_not_each_viewer_has_each_scene,
         a_scene_that_is_not_shown_is_shown_by_time,
         an_owners_file_is_longer_than_what_is_read_at_once]
 

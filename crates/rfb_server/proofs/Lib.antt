@@ -51,3 +51,7 @@ mod NeededLemmas
 mod SingleLemmas
 pub mod ClaimedCountLemmas
 pub mod ClaimedRowLemmas
+pub mod AlikeLemmas
+pub mod ComparedLemmas
+pub mod TwinLemmas
+pub mod TakenOverLemmas

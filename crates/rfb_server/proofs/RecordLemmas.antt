@@ -1,5 +1,6 @@
 -- A record by its pixels and its set of known places.
-use Rattle.std.proofs.Common.{◌≡◌, ℕ, ◌<◌, ◌≤◌, ◌+◌, ◌-◌, ◌*◌, ◌||◌, Bool, true, false, Option, Some, None}
+use Rattle.std.proofs.Common.{◌≡◌, ℕ, ◌<◌, ◌≤◌, ◌+◌, ◌-◌, ◌*◌, ◌||◌, Bool, true}
+use Rattle.std.proofs.Common.{false, Option, Some, None}
 use Rattle.std.proofs.Common.{if◌then◌else◌, List, length, ap, sym, ◌∙◌, refl, arith, zero-add}
 use Rattle.std.proofs.lemmas.Bool.Decides.{nat_tests}
 use Rattle.std.specs.Prelude.{slice_index_or}
@@ -49,7 +50,8 @@ pixels_shown pixels known = λ x y pixel p q e.
     some_is (is_in known x y) (at_or pixels x y 0) pixel
     (sym (at-record_of pixels known x y None (rw width-record_of at p) (rw height-record_of at q)) ∙ e)
 
-known_only : (known : Bool) (value pixel : ℕ) → (if known then Some value else None) ≡ Some pixel → known ≡ true
+known_only : (known : Bool) (value pixel : ℕ) → (if known then Some value else None) ≡ Some pixel →
+    known ≡ true
 known_only true value pixel e = refl
 known_only false value pixel e = absurd cc
 
@@ -95,31 +97,32 @@ record-forgotten pixels known e f =
     (record-none pixels pixels.width pixels.height refl refl)
 
 -- what stands at a place of a grid does not depend on the value for places that it has not
-at_any : (g : Grid ℕ) (x y d e : ℕ) → IsGrid g → x < g.width → y < g.height → at_or g x y d ≡ at_or g x y e
+at_any : (g : Grid ℕ) (x y d e : ℕ) → IsGrid g → x < g.width → y < g.height →
+    at_or g x y d ≡ at_or g x y e
 at_any g x y d e whole p q =
     let below = place_below g.width g.height x y p q in
     get_or_default g.places (y * g.width + x) d e (rw whole below)
 
--- ---- a block put over a rectangle, row by row
+-- ---- pixels put over a rectangle, row by row
 
--- `rows` rows of the block were put over those of the rectangle
-pub record IsPut (rect : Rect) (rows : ℕ) (block first now : Grid ℕ) : Type 0 where
+-- `rows` rows of the rectangle have these pixels, and the other places are as they were
+pub record IsPut (rect : Rect) (rows : ℕ) (pixel : ℕ → ℕ → ℕ) (first now : Grid ℕ) : Type 0 where
   pub whole : IsGrid now
   pub width : now.width ≡ first.width
   pub height : now.height ≡ first.height
   pub each : (x y : ℕ) → x < first.width → y < first.height →
-      at_or now x y 0 ≡ (if contains (record rect { h = rows }) x y
-      then at_or block (x - rect.x) (y - rect.y) 0 else at_or first x y 0)
+      at_or now x y 0 ≡ (if contains (record rect { h = rows }) x y then pixel x y else at_or first x y 0)
 
-none_in_no_rows : (rect : Rect) (x y : ℕ) → contains (record rect { h = 0 }) x y ≡ false
+pub none_in_no_rows : (rect : Rect) (x y : ℕ) → contains (record rect { h = 0 }) x y ≡ false
 none_in_no_rows rect x y = grind (arith, nat_tests)
 
-pub put_start : (rect : Rect) (block first : Grid ℕ) → IsGrid first → IsPut rect 0 block first first
-put_start rect block first whole =
+pub put_start : (rect : Rect) (pixel : ℕ → ℕ → ℕ) (first : Grid ℕ) → IsGrid first →
+    IsPut rect 0 pixel first first
+put_start rect pixel first whole =
     record { whole = whole; width = refl; height = refl; each = λ x y p q. rw (none_in_no_rows rect x y) refl }
 
 -- what a place of the next row is
-in_next_row : (rect : Rect) (n x y : ℕ) →
+pub in_next_row : (rect : Rect) (n x y : ℕ) →
     contains (record { x = rect.x; y = rect.y + n; w = rect.w; h = 1 }) x y ≡ true →
     (rect.x ≤ x) × (x - rect.x < rect.w) × (y ≡ rect.y + n)
 in_next_row rect n x y e =
@@ -134,12 +137,16 @@ or_false : (b : Bool) → (b || false) ≡ b
 or_false true = refl
 or_false false = refl
 
+-- these are the pixels of row `n` of the rectangle
+abbrev pub IsRowOf : Rect → (ℕ → ℕ → ℕ) → ℕ → List ℕ → Type 0
+IsRowOf rect pixel n row = (x d : ℕ) → rect.x ≤ x → x - rect.x < rect.w →
+    slice_index_or row (x - rect.x) d ≡ pixel x (rect.y + n)
+
 -- one row more
-pub put_more : (rect : Rect) (n : ℕ) (block first now : Grid ℕ) (row : List ℕ) →
-    IsGrid block → block.width ≡ rect.w → n < block.height → length row ≡ rect.w →
-    row ≡ row_of block 0 n block.width →
-    IsPut rect n block first now → IsPut rect (n + 1) block first (with_row rect.x (rect.y + n) row now)
-put_more rect n block first now row sound wide below long is put =
+pub put_more : (rect : Rect) (n : ℕ) (pixel : ℕ → ℕ → ℕ) (first now : Grid ℕ) (row : List ℕ) →
+    length row ≡ rect.w → IsRowOf rect pixel n row →
+    IsPut rect n pixel first now → IsPut rect (n + 1) pixel first (with_row rect.x (rect.y + n) row now)
+put_more rect n pixel first now row long is put =
     record {
       whole = whole-changed _ now put.whole;
       width = width-changed _ now ∙ put.width;
@@ -154,27 +161,49 @@ put_more rect n block first now row sound wide below long is put =
   where
     by_row : (x y : ℕ) (here : Bool) →
         contains (record { x = rect.x; y = rect.y + n; w = length row; h = 1 }) x y ≡ here →
-        at_or now x y 0 ≡ (if contains (record rect { h = n }) x y then at_or block (x - rect.x) (y - rect.y) 0
-        else at_or first x y 0) →
+        at_or now x y 0 ≡ (if contains (record rect { h = n }) x y then pixel x y else at_or first x y 0) →
         (if here then slice_index_or row (x - rect.x) (at_or now x y 0) else at_or now x y 0)
-        ≡ (if contains (record rect { h = n + 1 }) x y
-        then at_or block (x - rect.x) (y - rect.y) 0 else at_or first x y 0)
+        ≡ (if contains (record rect { h = n + 1 }) x y then pixel x y else at_or first x y 0)
     by_row x y true e before =
-        let there : contains (record { x = rect.x; y = rect.y + n; w = rect.w; h = 1 }) x y ≡ true = rw (← long) e in
+        let there : contains (record { x = rect.x; y = rect.y + n; w = rect.w; h = 1 }) x y ≡ true =
+        rw (← long) e in
         let place = in_next_row rect n x y there in
         let inside : contains (record rect { h = n + 1 }) x y ≡ true =
         rw (contains_more rect n x y, there) (or_true (contains (record rect { h = n }) x y)) in
-        let row_is : y - rect.y ≡ n = omega (arith, place.2) in
-        let shown : x - rect.x < block.width = rw wide place.1 in
-        rw (inside, row_is, is)
-        (slice_index_or-row_of block 0 n block.width (x - rect.x) (at_or now x y 0) shown
-        ∙ (ap (λ (k : ℕ). at_or block k n (at_or now x y 0)) (zero-add (x - rect.x))
-        ∙ at_any block (x - rect.x) n _ 0 sound shown below))
+        let value = is x (at_or now x y 0) place.0 place.1 in
+        rw inside (value ∙ ap (λ (k : ℕ). pixel x k) (sym place.2))
     by_row x y false e before =
-        let there : contains (record { x = rect.x; y = rect.y + n; w = rect.w; h = 1 }) x y ≡ false = rw (← long) e in
+        let there : contains (record { x = rect.x; y = rect.y + n; w = rect.w; h = 1 }) x y ≡ false =
+        rw (← long) e in
         let same : contains (record rect { h = n + 1 }) x y ≡ contains (record rect { h = n }) x y =
         contains_more rect n x y ∙ (rw there (or_false (contains (record rect { h = n }) x y))) in
         rw same before
+
+-- the pixels of a block that is put there
+abbrev pub of_block : Rect → Grid ℕ → ℕ → ℕ → ℕ
+of_block rect block x y = at_or block (x - rect.x) (y - rect.y) 0
+
+pub block_row : (rect : Rect) (n : ℕ) (block : Grid ℕ) (row : List ℕ) → IsGrid block →
+    block.width ≡ rect.w → n < block.height → row ≡ row_of block 0 n block.width →
+    IsRowOf rect (of_block rect block) n row
+block_row rect n block row sound wide below is = λ x d left right.
+    let shown : x - rect.x < block.width = rw wide right in
+    let same : rect.y + n - rect.y ≡ n = omega arith in
+    rw (is, same) (slice_index_or-row_of block 0 n block.width (x - rect.x) d shown
+    ∙ (ap (λ (k : ℕ). at_or block k n d) (zero-add (x - rect.x))
+    ∙ at_any block (x - rect.x) n d 0 sound shown below))
+
+-- a row of another picture, of the same columns
+pub other_row : (rect : Rect) (n : ℕ) (other : Grid ℕ) (row : List ℕ) → IsGrid other →
+    rect.x + rect.w ≤ other.width → rect.y + n < other.height →
+    row ≡ row_of other rect.x (rect.y + n) rect.w →
+    IsRowOf rect (λ x y. at_or other x y 0) n row
+other_row rect n other row sound wide below is = λ x d left right.
+    let column : rect.x + (x - rect.x) ≡ x = omega (arith, left) in
+    let within : x < other.width = omega (arith, left, right, wide) in
+    rw is (slice_index_or-row_of other rect.x (rect.y + n) rect.w (x - rect.x) d right
+    ∙ (ap (λ (k : ℕ). at_or other k (rect.y + n) d) column
+    ∙ at_any other x (rect.y + n) d 0 sound within below))
 
 -- the record whose pixels and set of known places have taken a block
 pub recorded_of : (pixels now block : Grid ℕ) (known : Grid Bool) (rect : Rect) →
@@ -294,7 +323,8 @@ filled_already g rect whole all =
     (sym (width-changed _ g)) (sym (height-changed _ g))
     (λ x y d p q. sym (at-filled rect true g x y d whole p q ∙ by_place x y d p q (contains rect x y) refl))
   where
-    by_place : (x y : ℕ) (d : Bool) → x < g.width → y < g.height → (inside : Bool) → contains rect x y ≡ inside →
+    by_place : (x y : ℕ) (d : Bool) → x < g.width → y < g.height → (inside : Bool) →
+        contains rect x y ≡ inside →
         (if inside then true else at_or g x y d) ≡ at_or g x y d
     by_place x y d p q true e =
         let below : y * g.width + x < length g.places = rw whole (place_below g.width g.height x y p q) in

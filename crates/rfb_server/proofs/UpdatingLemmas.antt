@@ -1,5 +1,6 @@
 -- What composing leaves of what a session stands for, and a server.
-use Rattle.std.proofs.Common.{◌≡◌, ◌≢◌, ℕ, Bool, true, false, List, [], ◌++◌, Option, None, Result, Ok, Err, IfOk, OnOk}
+use Rattle.std.proofs.Common.{◌≡◌, ◌≢◌, ℕ, Bool, true, false, List, [], ◌++◌, Option, None, Result}
+use Rattle.std.proofs.Common.{Ok, Err, IfOk, OnOk}
 use Rattle.std.proofs.Common.{OnErr, refl, sym, ap, subst, ◌∙◌, append-nil}
 use Rattle.rfb_pixel.specs.declared.colour.Colour.{Colour}
 use Rattle.rfb_pixel.specs.Format.{PixelFormat}
@@ -27,7 +28,8 @@ use Rattle.rfb_server.specs.UpdateCall.{SendsUpdate, OwesUpdate, OwesNone, NoneD
 use Rattle.rfb_server.proofs.ServerLaws.{session_over, same_notes}
 
 -- a session that is ready stands between messages, or in one
-pub point_ready : (serving : Serving) (hello : ServerHello) (progress : Progress) (point : ClientAt) (prefix : List ℕ) →
+pub point_ready : (serving : Serving) (hello : ServerHello) (progress : Progress) (point : ClientAt)
+    (prefix : List ℕ) →
     is_ready progress ≡ true → ProgressStandsFor serving hello progress point prefix → point ≡ Second tt
 point_ready serving hello Handshake point prefix e stands = absurd cc
 point_ready serving hello (Head bytes) (First point) prefix e stands = absurd stands
@@ -39,7 +41,8 @@ point_ready serving hello (CutText text_length left kept) (Second between) prefi
 point_ready serving hello (Failed fault) point prefix e stands = absurd cc
 
 -- and the other way round
-pub ready_point : (serving : Serving) (hello : ServerHello) (progress : Progress) (point : ClientAt) (prefix : List ℕ) →
+pub ready_point : (serving : Serving) (hello : ServerHello) (progress : Progress) (point : ClientAt)
+    (prefix : List ℕ) →
     point ≡ Second tt → ProgressStandsFor serving hello progress point prefix → is_ready progress ≡ true
 ready_point serving hello Handshake (First point) prefix e stands = absurd cc
 ready_point serving hello Handshake (Second between) prefix e stands = absurd stands
@@ -56,20 +59,23 @@ failed_unready (Encodings left number list) some = absurd (some refl)
 failed_unready (CutText text_length left kept) some = absurd (some refl)
 failed_unready (Failed fault) some = refl
 
-abbrev state : ClientAt → Grid Colour → Grid (Option ℕ) → Places → PixelFormat → List Encoding → ServerState
+abbrev pub state : ClientAt → Grid Colour → Grid (Option ℕ) → Places → PixelFormat → List Encoding →
+    ServerState
 state point screen known area form encodings =
     record { point = point; screen = screen; known = known; area = area; form = form; encodings = encodings }
 
-same_state : (point at : ClientAt) (screen picture : Grid Colour) (known record_now : Grid (Option ℕ))
+pub same_state : (point at : ClientAt) (screen picture : Grid Colour) (known record_now : Grid (Option ℕ))
     (area places : Places) (form format : PixelFormat) (encodings list : List Encoding) →
-    point ≡ at → screen ≡ picture → known ≡ record_now → area ≡ places → form ≡ format → encodings ≡ list →
+    point ≡ at → screen ≡ picture → known ≡ record_now → area ≡ places → form ≡ format →
+    encodings ≡ list →
     state point screen known area form encodings ≡ state at picture record_now places format list
 same_state point at screen picture known record_now area places form format encodings list a b c d e f =
     rw (a, b, c, d, e, f) refl
 
 -- the state that a ready session stands for
 pub state_is : (serving : Serving) (screen : Grid Colour) (session : Session) (s : ServerState) (prefix : List ℕ) →
-    is_ready session.progress ≡ true → SessionStandsFor serving screen session s prefix → s ≡ state_of screen session
+    is_ready session.progress ≡ true → SessionStandsFor serving screen session s prefix →
+    s ≡ state_of screen session
 state_is serving screen session s prefix ready stands =
     same_state s.point (Second tt) s.screen screen s.known session.known s.area session.area s.form session.format
     s.encodings session.encodings
@@ -215,10 +221,12 @@ then_kept (Ok value) screen old mid new drawn kept = record {
 then_kept (Err error) screen old mid new drawn kept = tt
 
 -- whatever it answers, bytes were appended, if only none
-pub appends : {E : Type 0} (screen : Grid Colour) (old new : Session) (before after : List ℕ) (result : Result Bool E) →
+pub appends : {E : Type 0} (screen : Grid Colour) (old new : Session) (before after : List ℕ)
+    (result : Result Bool E) →
     IfOk result (λ did. did ≡ true → HasComposed screen old new before after) →
     IfOk result (λ did. did ≡ false → StaysIdle screen old new before after) →
     OnErr result (after ≡ before) → (bytes : List ℕ) × (after ≡ before ++ bytes)
 appends screen old new before after (Ok true) composed idle kept = ((composed refl).bytes, (composed refl).appended)
-appends screen old new before after (Ok false) composed idle kept = ([], (idle refl).appended ∙ sym (append-nil before))
+appends screen old new before after (Ok false) composed idle kept =
+    ([], (idle refl).appended ∙ sym (append-nil before))
 appends screen old new before after (Err error) composed idle kept = ([], kept ∙ sym (append-nil before))

@@ -1,5 +1,6 @@
 -- Which hints become copies, hint by hint.
-use Rattle.std.proofs.Common.{◌≡◌, ℕ, zero, suc, ◌+◌, Bool, true, false, List, [], ◌∷◌, ◌++◌, length, take, slice_get}
+use Rattle.std.proofs.Common.{◌≡◌, ℕ, zero, suc, ◌+◌, Bool, true, false, List, [], ◌∷◌, ◌++◌}
+use Rattle.std.proofs.Common.{length, take, slice_get}
 use Rattle.std.proofs.Common.{Some, inl, inr, if◌then◌else◌, refl, sym, ap, subst, arith}
 use Rattle.std.proofs.lemmas.List.{take_all}
 use Rattle.rfb_wire.specs.declared.encoding.Encoding.TheVariants.{CopyRect}
@@ -10,7 +11,8 @@ use Rattle.rfb_server.specs.Composition.{Move, moved, all_moved}
 use Rattle.rfb_server.specs.UsedHints.{move_of, IsOfUse, AreUsed, usable}
 
 -- one item more from the front
-take_next : {X : Type 0} (xs : List X) (n : ℕ) (x : X) → slice_get xs n ≡ Some x → take (n + 1) xs ≡ take n xs ++ x ∷ []
+pub take_next : {X : Type 0} (xs : List X) (n : ℕ) (x : X) → slice_get xs n ≡ Some x →
+    take (n + 1) xs ≡ take n xs ++ x ∷ []
 take_next [] n x e = absurd cc
 take_next (y ∷ ys) zero x e = cc
 take_next (y ∷ ys) (suc n) x e =
@@ -32,7 +34,8 @@ used_more s (first ∷ hints) moves hint (inl (later, is, of_use, rest)) good =
       used_more (moved (move_of first) s) hints later hint rest
           (subst (λ (list : List Move). IsOfUse (all_moved list s) (move_of hint)) is good),
     )
-used_more s (first ∷ hints) moves hint (inr (no_use, rest)) good = inr (no_use, used_more s hints moves hint rest good)
+used_more s (first ∷ hints) moves hint (inr (no_use, rest)) good =
+    inr (no_use, used_more s hints moves hint rest good)
 
 -- the next hint is of no use
 left_more : (s : ServerState) (hints : List Hint) (moves : List Move) (hint : Hint) → AreUsed s hints moves →

@@ -19,5 +19,6 @@ pub mod Counted
 pub mod Hints
 pub mod Room
 pub mod UpdateCall
+pub mod Twins
 pub mod UsedHints
 pub mod inside

@@ -7,6 +7,7 @@ pub mod Rectangle
 pub mod Needs
 pub mod Sends
 pub mod Composed
+pub mod Twins
 pub mod Slice
 pub mod Copies
 pub mod Gains

@@ -1,6 +1,7 @@
 //! The encodings that a viewer listed.
 
 ghost use Rattle.std.specs.Prelude.{◌≡◌, [], Some, true, false};
+ghost use Rattle.std.specs.Bool.{OnTrue};
 ghost use Rattle.rfb_server.specs.Encodings.{is_same};
 
 use rfb_wire::Encoding;
@@ -61,6 +62,23 @@ impl EncodingList {
             }
         }
         false
+    }
+
+    /// Whether both list the same encodings, in one order.
+    pub(crate) fn is_as(&self, other: &EncodingList) -> bool
+        ensures { OnTrue result (self.now ≡ other.now) }
+    {
+        let list = self.as_slice();
+        let others = other.as_slice();
+        if list.len() != others.len() {
+            return false;
+        }
+        for i in 0..list.len() {
+            if !same(list[i], others[i]) {
+                return false;
+            }
+        }
+        true
     }
 
     /// The encoding that pixels are to be sent in: the first listed one that brings pixels, and Raw

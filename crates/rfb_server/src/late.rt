@@ -2,6 +2,7 @@
 
 ghost use Rattle.std.specs.Prelude.{◌≡◌, ◌≢◌, ◌≤◌, ◌+◌, ◌++◌, ◌↔◌, ℕ, List, [], length, vec_len};
 ghost use Rattle.std.specs.Prelude.{Ok, None, IfOk, OnErr, IsTrue, true, false};
+ghost use Rattle.std.specs.Bool.{OnTrue};
 ghost use Rattle.std.specs.Vec.{vec_capacity};
 
 pub(crate) mod entrance;
@@ -47,6 +48,8 @@ impl LateSession {
     ghost use Rattle.rfb_server.specs.Model.{KeepsSession, notes_in, session_fault};
     ghost use Rattle.rfb_server.specs.KnownScreen.{Follows};
     ghost use Rattle.rfb_server.specs.Hints.{hints_in};
+    ghost use Rattle.rfb_server.specs.declared.session.Session.{Session};
+    ghost use Rattle.rfb_server.specs.Twins.{AreTwins, HasSentTwin};
     ghost use Rattle.rfb_server.specs.UpdateCall.{SendsUpdate, OwesUpdate, OwesNone, HasAsked};
     ghost use Rattle.rfb_server.specs.Intake.{IsUnfed, TakesNotice};
     ghost use Rattle.rfb_server.specs.Room.{GrowsWithin, update_room};
@@ -117,6 +120,37 @@ impl LateSession {
         match &mut self.stage {
             Stage::Entering(_) => Ok(false),
             Stage::Within(session) => session.compose(screen, out),
+        }
+    }
+
+    /// Whether an update for `other` is one for this session too, as `Session::is_twin_of` tells:
+    /// never before both handshakes are done.
+    pub fn is_twin_of(&self, other: &LateSession) -> bool
+        ensures { OnTrue result ((screen : Grid Colour) → Follows screen self.now
+            → Follows screen other.now → AreTwins other.now self.now) }
+    {
+        match (&self.stage, &other.stage) {
+            (Stage::Within(session), Stage::Within(other)) => session.is_twin_of(other),
+            _ => false,
+        }
+    }
+
+    /// Takes over the update that a twin of it was sent, as `Session::take_over` does.
+    pub fn take_over(&mut self, screen: &Picture<Colour>, sent: &LateSession)
+        requires follows { Follows screen.now self.old }
+        requires sent { HasSentTwin screen.now self.old sent.now }
+        ensures follows { Follows screen.now self.new }
+        ensures sends { (was : Session) (before after : List ℕ) → AreTwins was self.old
+            → SendsUpdate screen.now was sent.now before after
+            → SendsUpdate screen.now self.old self.new before after }
+        ensures spent { hints_in self.new ≡ [] }
+    {
+        match &mut self.stage {
+            Stage::Within(session) => match &sent.stage {
+                Stage::Within(sent) => session.take_over(screen, sent),
+                Stage::Entering(_) => unreachable!(),
+            },
+            Stage::Entering(_) => unreachable!(),
         }
     }
 

@@ -10,6 +10,7 @@ mod claiming;
 mod entering;
 mod input;
 pub(crate) mod places;
+mod twins;
 mod update;
 
 use crate::claim::Claim;

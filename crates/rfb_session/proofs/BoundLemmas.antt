@@ -3,7 +3,7 @@ use Rattle.std.proofs.Common.{◌≡◌, ◌≤◌, ℕ, false, length, drop, le
 use Rattle.rfb_session.specs.declared.share.Share.{Share}
 use Rattle.rfb_session.specs.declared.share.seat.ShareSeat.{ShareSeat}
 use Rattle.rfb_session.specs.declared.share.waiting.Waiting.{Waiting}
-use Rattle.rfb_session.specs.declared.share.waiting.Waiting.TheVariants.{Answers, Update}
+use Rattle.rfb_session.specs.declared.share.waiting.Waiting.TheVariants.{Answers, Update, Shared}
 use Rattle.rfb_session.specs.Share.{seat_in, waits_at, waiting_for, is_update_at, update_for}
 use Rattle.rfb_session.specs.ShareRoom.{kept_in, answers_in}
 use Rattle.rfb_session.specs.ShareSeats.{holds_update}
@@ -13,6 +13,7 @@ few_kept : (waiting : Waiting) (written : ℕ) → answers_in waiting ≤ 297 �
     length (drop written (kept_in waiting)) ≤ 297
 few_kept (Answers answers) written few none = omega (arith, few, length-drop written answers.items)
 few_kept (Update bytes) written few none = cc
+few_kept (Shared bytes) written few none = cc
 
 few_in : (o : Option ShareSeat) → update_for o ≡ false → length (waiting_for o) ≤ 297
 few_in None none = omega arith

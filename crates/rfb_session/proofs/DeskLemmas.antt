@@ -3,7 +3,7 @@ use Rattle.std.proofs.Common.{◌≡◌, ◌<◌, ◌+◌, ◌-◌, ◌++◌, �
 use Rattle.std.proofs.Common.{not, nat_eq, ◌&&◌, ◌||◌, List, []}
 use Rattle.std.proofs.Common.{zero, suc}
 use Rattle.std.proofs.Common.{refl, sym, ap, subst, append_assoc, arith, inl, inr, length, cond, Option, None}
-use Rattle.std.proofs.lemmas.Bool.{false≢true}
+use Rattle.std.proofs.lemmas.Bool.{false≢true, both_ways}
 use Rattle.std.proofs.lemmas.List.{length-append}
 use Rattle.std.proofs.lemmas.Bool.Decides.{eqb_tells, leb_tells}
 use Rattle.rfb_pixel.specs.declared.colour.Colour.{Colour}
@@ -33,13 +33,15 @@ use Rattle.rfb_session.specs.console.Viewers.{told_after}
 
 -- one seat more
 pub serves_one : (screen : Grid Colour) (tries wants more : Bool) (a b : Option ShareSeat) →
-    (tries ≡ false → RestsIn screen a) → (wants ≡ true → more ≡ true) → TriesOne screen tries wants a b →
+    (tries ≡ false → RestsIn screen a) → (wants ≡ true → more ≡ true) →
+    TriesOne screen tries wants a b →
     Serves screen more a b
 serves_one screen false wants more a b rests told same = Rested (rests refl) same
 serves_one screen true false more a b rests told tried = Tried tried.0 tried.1
 serves_one screen true true more a b rests told wanted = Wanted (told refl) wanted
 
-pub serves_more : (screen : Grid Colour) (wants more : Bool) (a b : Option ShareSeat) → (wants ≡ true → more ≡ true) →
+pub serves_more : (screen : Grid Colour) (wants more : Bool) (a b : Option ShareSeat) →
+    (wants ≡ true → more ≡ true) →
     Serves screen wants a b → Serves screen more a b
 serves_more screen wants more a b told (Rested rests same) = Rested rests same
 serves_more screen wants more a b told (Tried found composes) = Tried found composes
@@ -53,10 +55,11 @@ pub or_second : (a b : Bool) → b ≡ true → (a || b) ≡ true
 or_second true b is = refl
 or_second false b is = is
 
-pub composes_next : (n : ℕ) (old mid new : Desk) (tries wants more : Bool) →
+pub composes_next : (n : ℕ) (old mid new : Desk) (tries wants more : Bool) (none given : ℕ) →
+    ((k : ℕ) → has_bit none k ≡ false) →
     (tries ≡ false → RestsIn (screen_of old.share) (seat_in old.share n)) → ComposesUpTo n old wants mid →
-    ComposesOne mid n tries more new → ComposesUpTo (n + 1) old (wants || more) new
-composes_next n old mid new tries wants more rests before one = record {
+    ComposesOne mid n tries more none given new → ComposesUpTo (n + 1) old (wants || more) new
+composes_next n old mid new tries wants more none given clear rests before one = record {
   seats = λ k within. elim (eqb_tells k n) [
     | inl same ↦
         subst (λ (m : ℕ). Serves (screen_of old.share) (wants || more) (seat_in old.share m) (seat_in new.share m))
@@ -65,11 +68,11 @@ composes_next n old mid new tries wants more rests before one = record {
         rests (or_second wants more) (rw (sym before.screen.screen, sym (before.later n (omega arith))) one.seat))
     | inr other ↦
         subst (λ (s : Option ShareSeat). Serves (screen_of old.share) (wants || more) (seat_in old.share k) s)
-        (sym (one.seats k other.0))
+        (sym (one.seats k other.0 (no_gift k)))
         (serves_more (screen_of old.share) wants (wants || more) _ _ (or_first wants more)
         (before.seats k (omega (arith, within, other.1))))
   ];
-  later = λ k from. one.seats k (differs k n (omega (arith, from)))
+  later = λ k from. one.seats k (differs k n (omega (arith, from))) (no_gift k)
       ∙ before.later k (omega (arith, from));
   screen = record {
     screen = one.screen.screen ∙ before.screen.screen;
@@ -88,6 +91,13 @@ composes_next n old mid new tries wants more rests before one = record {
   };
 }
   where
+    no_gift : (k : ℕ) → has_bit given k ≡ false
+    no_gift k = by (has_bit given k) refl
+      where
+        by : (b : Bool) → has_bit given k ≡ b → has_bit given k ≡ false
+        by true e = absurd (both_ways (has_bit none k) (clear k) (one.within k e))
+        by false e = e
+
     differs : (k n : ℕ) → n < k → nat_eq k n ≡ false
     differs k n less = elim (eqb_tells k n) [
       | inl same ↦ absurd (omega (arith, less, same.1))
@@ -151,7 +161,8 @@ not_itself heeds old new k bytes heard hears = elim (eqb_tells k k) [
   | inr other ↦ absurd (other.1 refl)
 ]
 
-leave_lines_same : (f g : ℕ → Bool) → ((k : ℕ) → f k ≡ g k) → (n : ℕ) → leave_lines f n ≡ leave_lines g n
+leave_lines_same : (f g : ℕ → Bool) → ((k : ℕ) → f k ≡ g k) → (n : ℕ) →
+    leave_lines f n ≡ leave_lines g n
 leave_lines_same f g same zero = refl
 leave_lines_same f g same (suc n) =
     ap (λ (l : List ℕ). l ++ cond (f n) (leave_line n) []) (leave_lines_same f g same n)

@@ -1,5 +1,8 @@
 -- The seats of a desk are served going round, up to one for which a large update is composed.
-use Rattle.std.proofs.Common.{◌≡◌, ◌<◌, ◌≤◌, ◌+◌, ◌∙◌, ◌||◌, ℕ, suc, Bool, false, List, [], Option, Some, None}
+use Rattle.std.proofs.Common.{◌≡◌, ◌<◌, ◌≤◌, ◌+◌, ◌∙◌, ◌||◌, ◌&&◌, ◌⊎◌, ℕ}
+use Rattle.std.proofs.Common.{suc, Bool, true, false, not, List, []}
+use Rattle.std.proofs.Common.{Option, Some, None, refl}
+use Rattle.std.proofs.lemmas.Bool.{both_ways}
 use Rattle.std.proofs.Common.{sym, ap, subst, arith, inl, inr, length, nat_eq}
 use Rattle.std.proofs.lemmas.Bool.Decides.{eqb_tells, leb_tells}
 use Rattle.rfb_session.specs.declared.console.desk.Desk.{Desk}
@@ -9,7 +12,14 @@ use Rattle.rfb_session.specs.Share.{seat_in, screen_of, waiting_for}
 use Rattle.rfb_session.specs.ShareSteps.{KeepsScreen}
 use Rattle.rfb_session.specs.ShareWork.{RestsIn}
 use Rattle.rfb_session.specs.console.Turns.{Serves, ServesUnless, ComposesOne, RoundUpTo, ComposesRound, IsLarge}
-use Rattle.rfb_session.specs.console.Turns.{KeepsBeside}
+use Rattle.rfb_session.specs.console.Turns.{KeepsBeside, TriesOne, Tried, Rested}
+use Rattle.rfb_pixel.specs.declared.colour.Colour.{Colour}
+use Rattle.rfb_picture.specs.Grid.{Grid}
+use Rattle.rfb_picture.specs.Places.{has_bit}
+use Rattle.rfb_session.specs.ShareSlots.{ComposesIn}
+use Rattle.rfb_session.specs.console.Turns.{IsGivenSmall}
+use Rattle.rfb_session.specs.ShareTwins.{IsGiven}
+use Rattle.rfb_session.specs.declared.share.event.Composing.TheVariants.{Composed}
 use Rattle.rfb_session.proofs.DeskLemmas.{serves_one, serves_more, or_first, or_second}
 use Rattle.rfb_session.proofs.RoundLemmas.{after_below, before_below, before_after, before_one}
 
@@ -19,68 +29,265 @@ not_large old new same large =
     let none : waiting_for new ≡ [] = ap (λ (o : Option ShareSeat). waiting_for o) same ∙ large.written in
     omega (arith, large.large, ap (λ (l : List ℕ). length l) none)
 
+-- nor where one was given that is none
+gift_small : (screen : Grid Colour) (was one old new : Option ShareSeat) → waiting_for was ≡ [] →
+    IsGiven screen one old new → (IsLarge was one → ⊥) → IsLarge old new → ⊥
+gift_small screen was one old new written given small large = small (record {
+  written = written;
+  large = rw (sym given.same) large.large;
+})
+
+first_of : (a b : Bool) → (a && b) ≡ true → a ≡ true
+first_of true b e = refl
+first_of false b e = absurd cc
+
+second_of : (a b : Bool) → (a && b) ≡ true → b ≡ true
+second_of true b e = e
+second_of false b e = absurd cc
+
+not_true : (b : Bool) → not b ≡ true → b ≡ false
+not_true true e = absurd cc
+not_true false e = refl
+
+first_false : (a b : Bool) → a ≡ false → (a && b) ≡ false
+first_false a b e = rw e refl
+
+second_false : (a b : Bool) → b ≡ false → (a && b) ≡ false
+second_false true b e = e
+second_false false b e = refl
+
 differs : (k n : ℕ) → (k ≡ n → ⊥) → nat_eq k n ≡ false
 differs k n other = elim (eqb_tells k n) [
   | inl same ↦ absurd (other same.1)
   | inr not_same ↦ not_same.0
 ]
 
+-- before the first seat
+pub round_start : (old : Desk) (due : ℕ) → RoundUpTo 0 old due due false old
+round_start old due = record {
+  seats = λ k low none. absurd (omega (arith, none));
+  small = λ k low none. absurd (omega (arith, none));
+  gone = λ k low none. absurd (omega (arith, none));
+  some = λ k low e. e;
+  given_to = λ k low from is gone. absurd (both_ways (has_bit due k) gone is);
+  later = λ k low from why. refl;
+  screen = record { screen = refl; canvas = refl; viewer = refl; made = refl };
+  beside = record {
+    guests = λ k. refl;
+    lines = refl;
+    rules = record { rules = refl; hold = refl; first = refl };
+  };
+}
+
 -- one seat more
-module _ (step p : ℕ) (old mid new : Desk) (tries wants more : Bool) (within : step < 8)
+module _ (step p due left others less given : ℕ) (old mid new : Desk) (wants more : Bool) (within : step < 8)
     (is : p ≡ seat_after old.first step)
-    (rests : tries ≡ false → RestsIn (screen_of old.share) (seat_in old.share p))
-    (before : RoundUpTo step old wants mid) (one : ComposesOne mid p tries more new) where
+    (rests : (k : ℕ) → has_bit due k ≡ false → RestsIn (screen_of old.share) (seat_in old.share k))
+    (before : RoundUpTo step old due left wants mid)
+    (one : ComposesOne mid p (has_bit left p) more others given new)
+    (others_are : (k : ℕ) → k < 8 → has_bit others k ≡ (has_bit left k && not (nat_eq k p)))
+    (less_are : (k : ℕ) → k < 8 → has_bit less k ≡ (has_bit others k && not (has_bit given k))) where
   here : p < 8
   here = subst (λ (n : ℕ). n < 8) (sym is) (after_below old.first step old.first_of_eight within)
 
   place : seats_before old.first p ≡ step
   place = ap (λ (n : ℕ). seats_before old.first n) is ∙ before_after old.first step old.first_of_eight within
 
-  as_it_was : seat_in mid.share p ≡ seat_in old.share p
-  as_it_was = before.later p here (omega (arith, place))
-
   not_here : (k : ℕ) → k < 8 → seats_before old.first k < step → k ≡ p → ⊥
-  not_here k low less same =
+  not_here k low less_than same =
       let fewer : seats_before old.first p < step =
-      subst (λ (n : ℕ). seats_before old.first n < step) same less in
+      subst (λ (n : ℕ). seats_before old.first n < step) same less_than in
       omega (arith, fewer, place)
 
-  sooner : (k : ℕ) → k < 8 → seats_before old.first k < step + 1 → (k ≡ p → ⊥) → seats_before old.first k < step
-  sooner k low less other = elim (leb_tells step (seats_before old.first k)) [
+  sooner : (k : ℕ) → k < 8 → seats_before old.first k < step + 1 → (k ≡ p → ⊥) →
+      seats_before old.first k < step
+  sooner k low less_than other = elim (leb_tells step (seats_before old.first k)) [
     | inl far ↦
-        absurd (other (before_one old.first k p old.first_of_eight low here (omega (arith, less, far.1, place))))
+        absurd (other (before_one old.first k p old.first_of_eight low here (omega (arith, less_than, far.1, place))))
     | inr near ↦ omega (arith, near.1)
   ]
 
   not_later : (k : ℕ) → step + 1 ≤ seats_before old.first k → k ≡ p → ⊥
-  not_later k more same =
+  not_later k more_than same =
       let farther : step + 1 ≤ seats_before old.first p =
-      subst (λ (n : ℕ). step + 1 ≤ seats_before old.first n) same more in
+      subst (λ (n : ℕ). step + 1 ≤ seats_before old.first n) same more_than in
       omega (arith, farther, place)
+
+  -- whoever is given an update was left
+  was_left : (k : ℕ) → k < 8 → has_bit given k ≡ true → has_bit left k ≡ true
+  was_left k low e = first_of (has_bit left k) (not (nat_eq k p)) (sym (others_are k low) ∙ one.within k e)
+
+  not_given : (k : ℕ) → k < 8 → has_bit left k ≡ false → has_bit given k ≡ false
+  not_given k low gone = by (has_bit given k) refl
+    where
+      by : (b : Bool) → has_bit given k ≡ b → has_bit given k ≡ false
+      by true e = absurd (both_ways (has_bit left k) gone (was_left k low e))
+      by false e = e
+
+  -- the seat itself
+  mine : (b : Bool) → has_bit left p ≡ b → (d : Bool) → has_bit due p ≡ d →
+      Serves (screen_of old.share) (wants || more) (seat_in old.share p) (seat_in new.share p)
+  mine true e d f =
+      let same = before.later p here (omega (arith, place)) (inr e) in
+      serves_one (screen_of old.share) (has_bit left p) more (wants || more) (seat_in old.share p) (seat_in new.share p)
+      (λ clear. absurd (both_ways (has_bit left p) clear e)) (or_second wants more)
+      (rw (sym before.screen.screen, sym same) one.seat)
+  mine false e true f =
+      let given_before = before.given_to p here (omega (arith, place)) f e in
+      let still : seat_in new.share p ≡ seat_in mid.share p =
+      subst (λ (b : Bool). TriesOne (screen_of mid.share) b more (seat_in mid.share p)
+      (seat_in new.share p)) e one.seat in
+      Tried Composed (subst
+      (λ (s : Option ShareSeat). ComposesIn (screen_of old.share) Composed (seat_in old.share p) s)
+      (sym still) given_before.sent)
+  mine false e false f =
+      let same = before.later p here (omega (arith, place)) (inl f) in
+      let still : seat_in new.share p ≡ seat_in mid.share p =
+      subst (λ (b : Bool). TriesOne (screen_of mid.share) b more (seat_in mid.share p)
+      (seat_in new.share p)) e one.seat in
+      Rested (rests p f) (still ∙ same)
 
   served : (k : ℕ) → k < 8 → seats_before old.first k < step + 1 →
       Serves (screen_of old.share) (wants || more) (seat_in old.share k) (seat_in new.share k)
-  served k low less = elim (eqb_tells k p) [
+  served k low less_than = elim (eqb_tells k p) [
     | inl same ↦
         subst (λ (m : ℕ). Serves (screen_of old.share) (wants || more) (seat_in old.share m) (seat_in new.share m))
-        (sym same.1)
-        (serves_one (screen_of old.share) tries more (wants || more) (seat_in old.share p) (seat_in new.share p)
-        rests (or_second wants more) (rw (sym before.screen.screen, sym as_it_was) one.seat))
+        (sym same.1) (mine (has_bit left p) refl (has_bit due p) refl)
     | inr other ↦
+        let early = sooner k low less_than other.1 in
         subst (λ (s : Option ShareSeat). Serves (screen_of old.share) (wants || more) (seat_in old.share k) s)
-        (sym (one.seats k other.0))
-        (serves_more (screen_of old.share) wants (wants || more) _ _ (or_first wants more)
-        (before.seats k low (sooner k low less other.1)))
+        (sym (one.seats k other.0 (not_given k low (before.gone k low early))))
+        (serves_more (screen_of old.share) wants (wants || more) _ _ (or_first wants more) (before.seats k low early))
   ]
 
-  stays : (k : ℕ) → k < 8 → step + 1 ≤ seats_before old.first k → seat_in new.share k ≡ seat_in old.share k
-  stays k low more_than =
-      one.seats k (differs k p (not_later k more_than)) ∙ before.later k low (omega (arith, more_than))
+  gone_so : (k : ℕ) → k < 8 → seats_before old.first k < step + 1 → has_bit less k ≡ false
+  gone_so k low less_than = less_are k low
+      ∙ first_false (has_bit others k) (not (has_bit given k)) (others_are k low ∙ elim (eqb_tells k p) [
+        | inl same ↦ second_false (has_bit left k) (not (nat_eq k p)) (ap not same.0)
+        | inr other ↦ first_false (has_bit left k) (not (nat_eq k p))
+            (before.gone k low (sooner k low less_than other.1))
+      ])
 
-  small : (k : ℕ) → k < 8 → seats_before old.first k < step → IsLarge (seat_in old.share k) (seat_in new.share k) → ⊥
-  small k low less large =
-      before.small k low less (subst (λ (s : Option ShareSeat). IsLarge (seat_in old.share k) s)
-      (one.seats k (differs k p (not_here k low less))) large)
+  some_so : (k : ℕ) → k < 8 → has_bit less k ≡ true → has_bit due k ≡ true
+  some_so k low e =
+      let in_others = first_of (has_bit others k) (not (has_bit given k)) (sym (less_are k low) ∙ e) in
+      before.some k low (first_of (has_bit left k) (not (nat_eq k p)) (sym (others_are k low) ∙ in_others))
+
+  not_left : (k : ℕ) → k < 8 → has_bit due k ≡ false → has_bit left k ≡ false
+  not_left k low clear = by (has_bit left k) refl
+    where
+      by : (b : Bool) → has_bit left k ≡ b → has_bit left k ≡ false
+      by true e = absurd (both_ways (has_bit due k) clear (before.some k low e))
+      by false e = e
+
+  -- a seat that comes later is as it was, or was given an update
+  later_so : (k : ℕ) → k < 8 → step + 1 ≤ seats_before old.first k →
+      (has_bit due k ≡ false) ⊎ (has_bit less k ≡ true) → seat_in new.share k ≡ seat_in old.share k
+  later_so k low more_than why = elim why [
+    | inl clear ↦
+        let gone = not_left k low clear in
+        one.seats k (differs k p (not_later k more_than)) (not_given k low gone)
+        ∙ before.later k low (omega (arith, more_than)) (inl clear)
+    | inr still ↦
+        let both = sym (less_are k low) ∙ still in
+        let in_others = first_of (has_bit others k) (not (has_bit given k)) both in
+        let kept = first_of (has_bit left k) (not (nat_eq k p)) (sym (others_are k low) ∙ in_others) in
+        one.seats k (differs k p (not_later k more_than))
+        (not_true (has_bit given k) (second_of (has_bit others k) (not (has_bit given k)) both))
+        ∙ before.later k low (omega (arith, more_than)) (inr kept)
+  ]
+
+  -- what is composed for the seat now is given to another
+  abbrev IsGivenNow : (k : ℕ) → Type 0
+  IsGivenNow k = (waiting_for (seat_in mid.share p) ≡ [])
+      × IsGiven (screen_of old.share) (seat_in new.share p) (seat_in old.share k) (seat_in new.share k)
+
+  given_so : (k : ℕ) → k < 8 → step + 1 ≤ seats_before old.first k → has_bit due k ≡ true →
+      has_bit less k ≡ false →
+      IsGivenSmall (screen_of old.share) (seat_in old.share k) (seat_in new.share k) ⊎ IsGivenNow k
+  given_so k low more_than is_due gone = by (has_bit left k) refl (has_bit given k) refl
+    where
+      by : (b : Bool) → has_bit left k ≡ b → (g : Bool) → has_bit given k ≡ g →
+          IsGivenSmall (screen_of old.share) (seat_in old.share k) (seat_in new.share k) ⊎ IsGivenNow k
+      by false e g f = inl
+          (subst (λ (s : Option ShareSeat). IsGivenSmall (screen_of old.share) (seat_in old.share k) s)
+          (sym (one.seats k (differs k p (not_later k more_than)) (not_given k low e)))
+          (before.given_to k low (omega (arith, more_than)) is_due e))
+      by true e true f = inr (
+        one.written k f,
+        rw (sym before.screen.screen, sym (before.later k low (omega (arith, more_than)) (inr e))) (one.given_to k f),
+      )
+      by true e false f = absurd (both_ways (has_bit less k) gone (less_are k low
+          ∙ (rw (others_are k low, e, differs k p (not_later k more_than), f) refl)))
+
+  small : (k : ℕ) → k < 8 → seats_before old.first k < step →
+      IsLarge (seat_in old.share k) (seat_in new.share k) → ⊥
+  small k low less_than large =
+      before.small k low less_than (subst (λ (s : Option ShareSeat). IsLarge (seat_in old.share k) s)
+      (one.seats k (differs k p (not_here k low less_than)) (not_given k low (before.gone k low less_than))) large)
+
+  -- a large one is what is composed for the seat now
+  later_large : (k : ℕ) → k < 8 → step + 1 ≤ seats_before old.first k →
+      IsLarge (seat_in old.share k) (seat_in new.share k) →
+      waiting_for (seat_in new.share k) ≡ waiting_for (seat_in new.share p)
+  later_large k low more_than large = by (has_bit due k) refl (has_bit less k) refl
+    where
+      by : (d : Bool) → has_bit due k ≡ d → (b : Bool) → has_bit less k ≡ b →
+          waiting_for (seat_in new.share k) ≡ waiting_for (seat_in new.share p)
+      by false e b f = absurd (not_large _ _ (later_so k low more_than (inl e)) large)
+      by true e true f = absurd (not_large _ _ (later_so k low more_than (inr f)) large)
+      by true e false f = elim (given_so k low more_than e f) [
+        | inl early ↦ absurd (early.small large)
+        | inr now ↦ now.1.same
+      ]
+
+  later_serves : (k : ℕ) → k < 8 → step + 1 ≤ seats_before old.first k →
+      (seat_in new.share k ≡ seat_in old.share k)
+      ⊎ ComposesIn (screen_of old.share) Composed (seat_in old.share k) (seat_in new.share k)
+  later_serves k low more_than = by (has_bit due k) refl (has_bit less k) refl
+    where
+      by : (d : Bool) → has_bit due k ≡ d → (b : Bool) → has_bit less k ≡ b →
+          (seat_in new.share k ≡ seat_in old.share k)
+          ⊎ ComposesIn (screen_of old.share) Composed (seat_in old.share k) (seat_in new.share k)
+      by false e b f = inl (later_so k low more_than (inl e))
+      by true e true f = inl (later_so k low more_than (inr f))
+      by true e false f = inr (elim (given_so k low more_than e f) [
+        | inl early ↦ early.sent
+        | inr now ↦ now.1.sent
+      ])
+
+  -- where the seat was given one before, nothing is composed for it now
+  mid_or_given : (seat_in mid.share p ≡ seat_in old.share p)
+      ⊎ (IsGivenSmall (screen_of old.share) (seat_in old.share p) (seat_in mid.share p)
+      × (seat_in new.share p ≡ seat_in mid.share p))
+  mid_or_given = by (has_bit left p) refl (has_bit due p) refl
+    where
+      by : (b : Bool) → has_bit left p ≡ b → (d : Bool) → has_bit due p ≡ d →
+          (seat_in mid.share p ≡ seat_in old.share p)
+          ⊎ (IsGivenSmall (screen_of old.share) (seat_in old.share p) (seat_in mid.share p)
+          × (seat_in new.share p ≡ seat_in mid.share p))
+      by true e d f = inl (before.later p here (omega (arith, place)) (inr e))
+      by false e false f = inl (before.later p here (omega (arith, place)) (inl f))
+      by false e true f = inr (
+        before.given_to p here (omega (arith, place)) f e,
+        subst (λ (b : Bool). TriesOne (screen_of mid.share) b more (seat_in mid.share p)
+            (seat_in new.share p)) e one.seat,
+      )
+
+  mine_small : (IsLarge (seat_in mid.share p) (seat_in new.share p) → ⊥) →
+      IsLarge (seat_in old.share p) (seat_in new.share p) → ⊥
+  mine_small is_small large = elim mid_or_given [
+    | inl same ↦ is_small (subst (λ (s : Option ShareSeat). IsLarge s (seat_in new.share p)) (sym same) large)
+    | inr given ↦ given.0.small
+        (subst (λ (s : Option ShareSeat). IsLarge (seat_in old.share p) s) given.1 large)
+  ]
+
+  mine_large : IsLarge (seat_in mid.share p) (seat_in new.share p) →
+      IsLarge (seat_in old.share p) (seat_in new.share p)
+  mine_large is_large = elim mid_or_given [
+    | inl same ↦ subst (λ (s : Option ShareSeat). IsLarge s (seat_in new.share p)) same is_large
+    | inr given ↦ absurd (not_large _ _ given.1 is_large)
+  ]
 
   screens : KeepsScreen old.share new.share
   screens = record {
@@ -102,16 +309,24 @@ module _ (step p : ℕ) (old mid new : Desk) (tries wants more : Bool) (within :
   }
 
   pub round_next : (IsLarge (seat_in mid.share p) (seat_in new.share p) → ⊥) →
-      RoundUpTo (step + 1) old (wants || more) new
+      RoundUpTo (step + 1) old due less (wants || more) new
   round_next is_small = record {
     seats = served;
-    small = λ k low less large. elim (eqb_tells k p) [
+    small = λ k low less_than large. elim (eqb_tells k p) [
       | inl same ↦
-          is_small (subst (λ (s : Option ShareSeat). IsLarge s (seat_in new.share p)) (sym as_it_was)
-          (subst (λ (m : ℕ). IsLarge (seat_in old.share m) (seat_in new.share m)) same.1 large))
-      | inr other ↦ small k low (sooner k low less other.1) large
+          mine_small is_small (subst (λ (m : ℕ). IsLarge (seat_in old.share m) (seat_in new.share m)) same.1 large)
+      | inr other ↦ small k low (sooner k low less_than other.1) large
     ];
-    later = stays;
+    gone = gone_so;
+    some = some_so;
+    given_to = λ k low more_than is_due gone. elim (given_so k low more_than is_due gone) [
+      | inl early ↦ early
+      | inr now ↦ record {
+        sent = now.1.sent;
+        small = gift_small _ _ _ _ _ now.0 now.1 is_small;
+      }
+    ];
+    later = later_so;
     screen = screens;
     beside = besides;
   }
@@ -120,21 +335,18 @@ module _ (step p : ℕ) (old mid new : Desk) (tries wants more : Bool) (within :
       ComposesRound old (wants || more) (Some p) new
   round_ends is_large = record {
     seats = λ k low. elim (leb_tells (suc (seats_before old.first p)) (seats_before old.first k)) [
-      | inl left ↦
+      | inl far ↦
           subst (λ (b : Bool). ServesUnless b (screen_of old.share) (wants || more) (seat_in old.share k)
-          (seat_in new.share k)) (sym left.0) (stays k low (omega (arith, left.1, place)))
+          (seat_in new.share k)) (sym far.0) (later_serves k low (omega (arith, far.1, place)))
       | inr reached ↦
           subst (λ (b : Bool). ServesUnless b (screen_of old.share) (wants || more) (seat_in old.share k)
           (seat_in new.share k)) (sym reached.0) (served k low (omega (arith, reached.1, place)))
     ];
-    ends = (
-      here,
-      subst (λ (s : Option ShareSeat). IsLarge s (seat_in new.share p)) as_it_was is_large,
-    );
+    ends = (here, mine_large is_large);
     only = λ k low large. elim (eqb_tells k p) [
-      | inl same ↦ ap (λ (n : ℕ). Some n) (sym same.1)
+      | inl same ↦ ap (λ (n : ℕ). waiting_for (seat_in new.share n)) same.1
       | inr other ↦ elim (leb_tells (step + 1) (seats_before old.first k)) [
-        | inl far ↦ absurd (not_large _ _ (stays k low far.1) large)
+        | inl far ↦ later_large k low far.1 large
         | inr near ↦ absurd (small k low (sooner k low (omega (arith, near.1)) other.1) large)
       ]
     ];
@@ -143,9 +355,9 @@ module _ (step p : ℕ) (old mid new : Desk) (tries wants more : Bool) (within :
   }
 
 -- no update was a large one
-pub round_done : (old : Desk) (wants : Bool) (new : Desk) → RoundUpTo 8 old wants new →
+pub round_done : (old : Desk) (due left : ℕ) (wants : Bool) (new : Desk) → RoundUpTo 8 old due left wants new →
     ComposesRound old wants None new
-round_done old wants new all = record {
+round_done old due left wants new all = record {
   seats = λ k low. all.seats k low (before_below old.first k old.first_of_eight low);
   ends = tt;
   only = λ k low large.

@@ -1,7 +1,8 @@
 -- A turn of a desk, seat by seat.
-use Rattle.std.proofs.Common.{◌≡◌, ◌<◌, ◌++◌, ◌∙◌, ◌||◌, ◌&&◌, ℕ, zero, suc, Bool, true, false, not, List, [], Option}
+use Rattle.std.proofs.Common.{◌≡◌, ◌<◌, ◌++◌, ◌∙◌, ◌||◌, ◌&&◌, ℕ, zero, suc, Bool, true}
+use Rattle.std.proofs.Common.{false, not, List, [], Option}
 use Rattle.std.proofs.Common.{Some, None}
-use Rattle.std.proofs.Common.{refl, sym, ap, subst, arith, cond}
+use Rattle.std.proofs.Common.{refl, sym, ap, subst, arith, cond, inl}
 use Rattle.rfb_picture.specs.Places.{has_bit}
 use Rattle.rfb_session.specs.declared.console.desk.Desk.{Desk}
 use Rattle.rfb_session.specs.declared.console.desk.Hold.{Hold}
@@ -22,7 +23,8 @@ use Rattle.rfb_session.specs.console.Turns.{Wakes, ServesUnless, EndsLarge, Only
 use Rattle.rfb_session.proofs.DeskRoundLemmas.{not_large}
 use Rattle.rfb_session.specs.console.Turns.{TurnsAs, seat_kept, guest_then, is_late, tells_late, seat_left}
 
-leave_lines_below : (f g : ℕ → Bool) (n : ℕ) → ((k : ℕ) → k < n → f k ≡ g k) → leave_lines f n ≡ leave_lines g n
+leave_lines_below : (f g : ℕ → Bool) (n : ℕ) → ((k : ℕ) → k < n → f k ≡ g k) →
+    leave_lines f n ≡ leave_lines g n
 leave_lines_below f g zero same = refl
 leave_lines_below f g (suc n) same =
     ap (λ (l : List ℕ). l ++ cond (f n) (leave_line n) [])
@@ -108,7 +110,8 @@ module _ (old released begins stays shows : Desk) (now slow stuck late : ℕ) (h
   first_shown = stills.first ∙ goes.rules.first ∙ stamps.rules.first ∙ releases.rules.first
 
   -- and then they are, or they are held back
-  pub turns_so : (composed rounds new : Desk) (wants : Bool) (last : Option ℕ) → (held ≡ true → composed ≡ shows) →
+  pub turns_so : (composed rounds new : Desk) (wants : Bool) (last : Option ℕ) →
+      (held ≡ true → composed ≡ shows) →
       (held ≡ true → last ≡ None) → (held ≡ false → ComposesRound shows wants last composed) →
       GoesRound composed last rounds → new.share ≡ rounds.share → KeepsBeside rounds new →
       Wakes new now wants last new.next → TurnsAs old now slow stuck new
@@ -171,7 +174,7 @@ module _ (old released begins stays shows : Desk) (now slow stuck late : ℕ) (h
           (subst (λ (d : Desk). KeepsScreen shows.share d.share) (sym same)
           (record { screen = refl; canvas = refl; viewer = refl; made = refl }))
           (λ k within. subst (λ (h : Bool). ServesUnless (h || is_left old.first last k) (screen_of old.share) wants
-          (seat_left old now k) (seat_in composed.share k)) (sym is) (stays k within))
+          (seat_left old now k) (seat_in composed.share k)) (sym is) (inl (stays k within)))
           (subst (λ (o : Option ℕ). EndsLarge o (seat_left old now) (seat_in composed.share)) (sym (none is)) tt)
           (λ k within large. absurd (not_large _ _ (stays k within) large))
       by false is =

@@ -1,16 +1,19 @@
 -- What comes of the seats that a turn leaves: they come first in the next one.
 use Rattle.std.proofs.Common.{◌≡◌, ◌⊎◌, ◌<◌, ◌+◌, ◌||◌, ℕ, Bool, true, false, []}
-use Rattle.std.proofs.Common.{Option, Some, None, refl, ap, subst, arith, inl, inr}
+use Rattle.std.proofs.Common.{Option, Some, None, refl, ap, sym, ◌∙◌, subst, arith, inl, inr}
 use Rattle.std.proofs.lemmas.Bool.{false≢true}
 use Rattle.rfb_server.specs.Model.{session_fault}
 use Rattle.rfb_server.specs.UpdateCall.{OwesUpdate}
 use Rattle.rfb_session.specs.declared.console.desk.Desk.{Desk}
 use Rattle.rfb_session.specs.declared.share.seat.ShareSeat.{ShareSeat}
 use Rattle.rfb_session.specs.Rounds.{seats_before, first_after, is_left}
-use Rattle.rfb_session.specs.Share.{seat_in, screen_of}
+use Rattle.rfb_session.specs.Share.{seat_in, screen_of, waits_at}
+use Rattle.rfb_session.specs.ShareSlots.{ComposesIn}
 use Rattle.rfb_session.specs.ShareSeats.{Sends, session_at, waiting_in}
 use Rattle.rfb_session.specs.console.Turns.{TurnsAs, EndsLarge, IsLarge, ServesUnless, WakesAfter, seat_left}
-use Rattle.rfb_session.specs.console.Turns.{IsLeftOut, IsLeftFor, NotYet, Again}
+use Rattle.rfb_session.specs.console.Turns.{IsLeftOut, IsLeftFor, NotYet, Again, HasOfLast}
+use Rattle.rfb_session.specs.declared.share.event.Composing.TheVariants.{Composed}
+use Rattle.rfb_session.proofs.ShareLawLemmas.{composes_at}
 use Rattle.rfb_session.proofs.RoundLemmas.{before_below, left_comes, served_comes, next_before, next_after}
 use Rattle.rfb_session.proofs.WakeLemmas.{due_sent}
 
@@ -59,7 +62,8 @@ module _ (old : Desk) (now slow stuck : ℕ) (new : Desk) (turns : TurnsAs old n
     other = last;
     another = (
       ends.0,
-      λ (is : last ≡ k). omega (arith, left_comes old.first last k left, ap (λ (n : ℕ). seats_before old.first n) is),
+      λ (is : last ≡ k).
+          omega (arith, left_comes old.first last k left, ap (λ (n : ℕ). seats_before old.first n) is),
     );
     large = ends.1;
     same = same;
@@ -71,11 +75,13 @@ module _ (old : Desk) (now slow stuck : ℕ) (new : Desk) (turns : TurnsAs old n
   or_true true b is = refl
   or_true false b is = is
 
-  left_out : is_left old.first turns.last k ≡ true → IsLeftOut old now k new
-  left_out left =
-      left_by turns.last turns.ends turns.first turns.next.left left
-      (subst (λ (h : Bool). ServesUnless h (screen_of old.share) turns.wants (seat_left old now k)
-      (seat_in new.share k)) (or_true turns.held (is_left old.first turns.last k) left) (turns.seats k within))
+  -- it is as it was, or was given what was composed for another
+  left_or_given : is_left old.first turns.last k ≡ true →
+      (seat_in new.share k ≡ seat_left old now k)
+      ⊎ ComposesIn (screen_of old.share) Composed (seat_left old now k) (seat_in new.share k)
+  left_or_given left =
+      subst (λ (h : Bool). ServesUnless h (screen_of old.share) turns.wants (seat_left old now k)
+      (seat_in new.share k)) (or_true turns.held (is_left old.first turns.last k) left) (turns.seats k within)
 
   pub due_sent_or_left : (seat : ShareSeat) → turns.held ≡ false → turns.wants ≡ false →
       seat_left old now k ≡ Some seat → session_fault (session_at seat) ≡ None → waiting_in seat ≡ [] →
@@ -87,7 +93,11 @@ module _ (old : Desk) (now slow stuck : ℕ) (new : Desk) (turns : TurnsAs old n
       by : (left : Bool) → is_left old.first turns.last k ≡ left →
           ((sent : ShareSeat) × (seat_in new.share k ≡ Some sent) × Sends (screen_of old.share) seat sent)
           ⊎ IsLeftOut old now k new
-      by true is = inr (left_out is)
+      by true is = elim (left_or_given is) [
+        | inl same ↦ inr (left_by turns.last turns.ends turns.first turns.next.left is same)
+        | inr given ↦ inl (composes_at (screen_of old.share) Composed (seat_left old now k) (seat_in new.share k) seat
+            given there)
+      ]
       by false is =
           inl (due_sent old now slow stuck new turns k seat shown enough is within there going written due)
 
@@ -102,10 +112,14 @@ left_few k within times desk (Again less before old new now slow stuck turns lef
       left_sooner old now slow stuck new turns k within is,
     )
 
-pub one_large : (old : Desk) (now slow stuck : ℕ) (new : Desk) → TurnsAs old now slow stuck new → (j k : ℕ) → j < 8 →
+pub one_large : (old : Desk) (now slow stuck : ℕ) (new : Desk) → TurnsAs old now slow stuck new → (j k : ℕ) →
+    j < 8 →
     k < 8 → IsLarge (seat_left old now j) (seat_in new.share j) →
-    IsLarge (seat_left old now k) (seat_in new.share k) → j ≡ k
+    IsLarge (seat_left old now k) (seat_in new.share k) → waits_at new.share j ≡ waits_at new.share k
 one_large old now slow stuck new turns j k low within first second =
-    let one = turns.only j low first in
-    let two = turns.only k within second in
-    cc (one, two)
+    by turns.last (turns.only j low first) (turns.only k within second)
+  where
+    by : (o : Option ℕ) → HasOfLast o (seat_in new.share) j → HasOfLast o (seat_in new.share) k →
+        waits_at new.share j ≡ waits_at new.share k
+    by None one two = absurd one
+    by (Some last) one two = one ∙ sym two

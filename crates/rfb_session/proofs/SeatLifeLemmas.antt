@@ -1,5 +1,6 @@
 -- The life of one seat of a share, from one call to the next.
-use Rattle.std.proofs.Common.{◌≡◌, ◌⊎◌, ◌++◌, ◌∙◌, ℕ, Bool, true, false, List, [], cond, Option, Some, None, refl, sym}
+use Rattle.std.proofs.Common.{◌≡◌, ◌⊎◌, ◌++◌, ◌∙◌, ℕ, Bool, true, false, List, [], cond, Option}
+use Rattle.std.proofs.Common.{Some, None, refl, sym}
 use Rattle.std.proofs.Common.{ap, subst, inl, inr, take, nat_eq, not, append-nil, append_assoc}
 use Rattle.std.proofs.Math.Seq.{take-length}
 use Rattle.std.proofs.lemmas.Bool.Decides.{eqb_tells}
@@ -39,7 +40,8 @@ pub record GoesOn (serving : Serving) (k : ℕ) (x y : List ℕ) (a b : Share) :
       LivesAt serving b k (heard ++ x) (taken ++ y) ⊎ (seat_in b k ≡ None)
   pub gone : seat_in a k ≡ None → seat_in b k ≡ None
 
-empty_stays : (R : ShareSeat → ShareSeat → Type 0) (a b : Option ShareSeat) → OnSlot R a b → a ≡ None → b ≡ None
+empty_stays : (R : ShareSeat → ShareSeat → Type 0) (a b : Option ShareSeat) → OnSlot R a b → a ≡ None →
+    b ≡ None
 empty_stays R None None becomes none = refl
 empty_stays R None (Some b) becomes none = absurd becomes
 empty_stays R (Some a) b becomes none = cc
@@ -89,7 +91,8 @@ module _ (serving : Serving) (k : ℕ) where
   -- ---- updates
 
   served : (screen : Grid Colour) (wants : Bool) (a b : Option ShareSeat) (seat : ShareSeat)
-      (heard taken : List ℕ) → Serves screen wants a b → a ≡ Some seat → Lives serving screen seat heard taken →
+      (heard taken : List ℕ) → Serves screen wants a b → a ≡ Some seat →
+      Lives serving screen seat heard taken →
       (new : ShareSeat) × (b ≡ Some new) × Lives serving screen new heard taken
   served screen wants a b seat heard taken (Rested rests same) is lives = (seat, same ∙ is, lives)
   served screen wants a b seat heard taken (Tried told composes) is lives =
@@ -106,7 +109,8 @@ module _ (serving : Serving) (k : ℕ) where
   none_composed screen NotDue (Some b) composes = absurd composes
   none_composed screen Waiting (Some b) composes = absurd composes
 
-  served_none : (screen : Grid Colour) (wants : Bool) (a b : Option ShareSeat) → Serves screen wants a b → a ≡ None →
+  served_none : (screen : Grid Colour) (wants : Bool) (a b : Option ShareSeat) → Serves screen wants a b →
+      a ≡ None →
       b ≡ None
   served_none screen wants a b (Rested rests same) none = same ∙ none
   served_none screen wants a b (Tried told composes) none =
@@ -132,7 +136,8 @@ module _ (serving : Serving) (k : ℕ) where
   -- one that stays until go_on is served, or kept back
   unless_none : (held wants : Bool) (screen : Grid Colour) (b : Option ShareSeat) →
       ServesUnless held screen wants None b → b ≡ None
-  unless_none true wants screen b same = same
+  unless_none true wants screen b (inl same) = same
+  unless_none true wants screen b (inr given) = none_composed screen Composed b given
   unless_none false wants screen b serves = served_none screen wants None b serves refl
 
   pub turned_on : (held wants late done : Bool) (a b : Share) → KeepsScreen a b →
@@ -142,7 +147,8 @@ module _ (serving : Serving) (k : ℕ) where
       let_go [] [] a b (unless_none held wants (screen_of a) (seat_in b k) serves)
   turned_on held wants false true a b keeps serves =
       let_go [] [] a b (unless_none held wants (screen_of a) (seat_in b k) serves)
-  turned_on true wants false false a b keeps same = stayed a b keeps same
+  turned_on true wants false false a b keeps (inl same) = stayed a b keeps same
+  turned_on true wants false false a b keeps (inr given) = served_on wants a b keeps (Tried Composed given)
   turned_on false wants false false a b keeps serves = served_on wants a b keeps serves
 
   -- ---- bytes of a viewer
@@ -229,7 +235,8 @@ module _ (serving : Serving) (k : ℕ) where
       let goes = (room.one n refl).2 in
       left_by_one n goes.1.taken a.share b.share goes.1.share
 
-  joined_beside : (n : ℕ) (a b : Share) → nat_eq k n ≡ false → JoinsAs a (Some n) b → GoesOn serving k [] [] a b
+  joined_beside : (n : ℕ) (a b : Share) → nat_eq k n ≡ false → JoinsAs a (Some n) b →
+      GoesOn serving k [] [] a b
   joined_beside n a b other (Full all none same) = same_share a b same
   joined_beside n a b other (Joined j is within empty before seat there fresh keeps others) =
       stayed a b keeps (others k (ap (λ (m : ℕ). nat_eq k m) (sym (one is)) ∙ other))
@@ -251,7 +258,8 @@ module _ (serving : Serving) (k : ℕ) where
 
   -- ---- what is drawn
 
-  pub drawn_on : (stroke : Stroke) (done : Bool) (a b : Share) → DrawsOne a stroke b done → GoesOn serving k [] [] a b
+  pub drawn_on : (stroke : Stroke) (done : Bool) (a b : Share) → DrawsOne a stroke b done →
+      GoesOn serving k [] [] a b
   drawn_on stroke true a b (Drawn draws) = record {
     lives = λ heard taken was.
         inl (as_was a b heard taken (drawn_lives serving a b stroke k heard taken draws was));

@@ -1,11 +1,12 @@
 -- Sets of seats, by bits.
-use Rattle.std.proofs.Common.{◌≡◌, ◌≢◌, ◌<◌, ◌^◌, ◌*◌, ◌%◌, ◌/◌, ◌⊎◌, ◌&&◌, ◌||◌, ◌-◌, ◌+◌, ℕ, suc, Bool, true}
+use Rattle.std.proofs.Common.{◌≡◌, ◌≢◌, ◌<◌, ◌^◌, ◌*◌, ◌%◌, ◌/◌, ◌⊎◌, ◌&&◌}
+use Rattle.std.proofs.Common.{◌||◌, ◌-◌, ◌+◌, ℕ, suc, Bool, true}
 use Rattle.std.proofs.Common.{false, not, nat_eq, [], ◌∷◌}
 use Rattle.std.proofs.Common.{inl, inr, refl, ◌∙◌, arith, bit_or, bit_and}
 use Rattle.std.proofs.lemmas.Bool.{cases_eq}
 use Rattle.std.proofs.lemmas.Bool.Decides.{nat_tests}
 use Rattle.std.proofs.lemmas.Nat.Bits.{shr_and_one, bit_at_ones, bit_at_set_same, bit_at_set_other}
-use Rattle.std.proofs.lemmas.Nat.Bits.{bit_at_clear_same, bit_at_clear_other}
+use Rattle.std.proofs.lemmas.Nat.Bits.{bit_at_clear_same, bit_at_clear_other, bit_at_and, bit_at_not, bit_at-lt}
 use Rattle.std.specs.Int.{w8}
 use Rattle.rfb_picture.specs.Places.{has_bit}
 use Rattle.rfb_session.specs.Seats.{seats_from}
@@ -45,6 +46,12 @@ pub without_one : (bits set number seat k : ℕ) → bits ≡ set → number ≡
     ≡ (has_bit set k && not (nat_eq k seat))
 without_one bits set number seat k is same within low =
     without_bit bits number k within low ∙ (λ i. has_bit (is i) k && not (nat_eq k (same i)))
+
+pub without_bits : (bits other k : ℕ) → other < 256 → k < 8 →
+    has_bit (bit_and bits (255 - other)) k ≡ (has_bit bits k && not (has_bit other k))
+without_bits bits other k small low =
+    rw (bit_at_and bits (255 - other) k, bit_at_not w8 other k small low)
+    (grind (arith, nat_tests, bit_at-lt bits k, bit_at-lt other k))
 
 -- ---- its seats, one after another
 

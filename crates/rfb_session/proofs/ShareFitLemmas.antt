@@ -1,5 +1,6 @@
 -- The answers that wait at a seat of a share fit, whatever a call makes of its session.
-use Rattle.std.proofs.Common.{◌≡◌, ℕ, ◌+◌, ◌≤◌, true, false, List, [], ◌∷◌, ◌++◌, length, length-append, length-drop}
+use Rattle.std.proofs.Common.{◌≡◌, ℕ, ◌+◌, ◌≤◌, false, List, [], ◌∷◌, ◌++◌}
+use Rattle.std.proofs.Common.{length, length-append, length-drop}
 use Rattle.std.proofs.Common.{take, drop, Option, None, Some, refl, sym, ap, ◌∙◌, subst, arith}
 use Rattle.std.proofs.Math.Logic.{∥∥₁_elim, ∥∥₁_map}
 use Rattle.std.proofs.lemmas.List.{length-take}
@@ -24,7 +25,7 @@ use Rattle.rfb_server.specs.Told.{ServerTold}
 use Rattle.rfb_server.specs.UpdateCall.{SendsUpdate}
 use Rattle.rfb_server.proofs.ServerLaws.{session_over}
 use Rattle.rfb_session.specs.declared.share.waiting.Waiting.{Waiting}
-use Rattle.rfb_session.specs.declared.share.waiting.Waiting.TheVariants.{Answers, Update}
+use Rattle.rfb_session.specs.declared.share.waiting.Waiting.TheVariants.{Answers, Update, Shared}
 use Rattle.rfb_session.specs.InFlight.{server_reply}
 use Rattle.rfb_session.specs.ShareRoom.{kept_in, answers_in, answers_left, AnswersFit, HasRoomForAnswers, IsCut}
 use Rattle.rfb_session.specs.ShareSeats.{IsFresh, is_update, holds_update}
@@ -82,10 +83,8 @@ few_waiting (Answers answers) kept n written is few none =
     let some = length-take n (drop written kept) in
     let rest = length-drop written kept in
     omega (arith, long, some, rest, few)
-few_waiting (Update update) kept n written is few none = absurd (apart none)
-  where
-    apart : true ≡ false → ⊥
-    apart e = cc
+few_waiting (Update update) kept n written is few none = cc
+few_waiting (Shared update) kept n written is few none = cc
 
 -- ---- bytes of its viewer's
 
@@ -256,13 +255,27 @@ pub cut_few : (old new : Waiting) → IsCut old new → answers_in old ≤ 297 �
 cut_few (Answers a) new is few = subst (λ (w : Waiting). answers_in w ≤ 297) (sym is) few
 cut_few (Update a) (Answers b) is few = absurd is
 cut_few (Update a) (Update b) is few = omega arith
+cut_few (Update a) (Shared b) is few = omega arith
+cut_few (Shared a) new is few = subst (λ (w : Waiting). answers_in w ≤ 297) (sym is) few
+
+pub cut_kind : (old new : Waiting) → IsCut old new → holds_update new ≡ holds_update old
+cut_kind (Answers a) new is = ap (λ (w : Waiting). holds_update w) is
+cut_kind (Update a) (Answers b) is = absurd is
+cut_kind (Update a) (Update b) is = refl
+cut_kind (Update a) (Shared b) is = refl
+cut_kind (Shared a) new is = ap (λ (w : Waiting). holds_update w) is
+
+cut_leaves : (old new : Waiting) → IsCut old new → (point : ClientAt) → AnswersFit old point →
+    AnswersFit new point
+cut_leaves (Answers a) new is point fit = subst (λ (w : Waiting). AnswersFit w point) (sym is) fit
+cut_leaves (Update a) (Answers b) is point fit = absurd is
+cut_leaves (Update a) (Update b) is point fit = fit
+cut_leaves (Update a) (Shared b) is point fit = fit
+cut_leaves (Shared a) new is point fit = subst (λ (w : Waiting). AnswersFit w point) (sym is) fit
 
 pub cut_fits : (session : Session) (old new : Waiting) → IsCut old new →
     ∥ HasRoomForAnswers session old ∥₁ → ∥ HasRoomForAnswers session new ∥₁
-cut_fits session (Answers a) new is roomy =
-    subst (λ (w : Waiting). ∥ HasRoomForAnswers session w ∥₁) (sym is) roomy
-cut_fits session (Update a) (Answers b) is roomy = absurd is
-cut_fits session (Update a) (Update b) is roomy = ∥∥₁_map roomy (λ has going.
+cut_fits session old new is roomy = ∥∥₁_map roomy (λ has going.
     let one = has going in
     record {
       serving = one.serving;
@@ -271,5 +284,5 @@ cut_fits session (Update a) (Update b) is roomy = ∥∥₁_map roomy (λ has go
       prefix = one.prefix;
       stands = one.stands;
       name = one.name;
-      fit = one.fit;
+      fit = cut_leaves old new is one.state.point one.fit;
     })

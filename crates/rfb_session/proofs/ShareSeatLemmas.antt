@@ -19,7 +19,7 @@ use Rattle.rfb_server.specs.Model.{SessionStandsFor, session_fault, session_serv
 use Rattle.rfb_server.specs.Told.{ServerTold}
 use Rattle.rfb_session.specs.declared.share.seat.ShareSeat.{ShareSeat}
 use Rattle.rfb_session.specs.declared.share.waiting.Waiting.{Waiting}
-use Rattle.rfb_session.specs.declared.share.waiting.Waiting.TheVariants.{Answers, Update}
+use Rattle.rfb_session.specs.declared.share.waiting.Waiting.TheVariants.{Answers, Update, Shared}
 use Rattle.rfb_session.specs.InFlight.{server_reply}
 use Rattle.rfb_session.specs.ShareRoom.{kept_in, answers_in, answers_left, AnswersFit, HasRoomForAnswers, memory_of}
 use Rattle.rfb_session.specs.ShareSeats.{Hears, Ends, waiting_in, is_update, holds_update}
@@ -145,6 +145,7 @@ pub update_has_none : (point : ClientAt) (waiting : Waiting) → holds_update wa
     AnswersFit waiting point → answers_left point ≡ 0
 update_has_none point (Answers answers) some fit = absurd (is_not_both false refl some)
 update_has_none point (Update update) some fit = fit
+update_has_none point (Shared update) some fit = fit
 
 pub update_stays : (waiting : Waiting) (event : Option ServerTold) →
     holds_update waiting ≡ true → (before after : ClientAt) → AnswersFit waiting before →
@@ -153,3 +154,4 @@ pub update_stays : (waiting : Waiting) (event : Option ServerTold) →
 update_stays (Answers answers) event some before after fit fewer =
     absurd (is_not_both false refl some)
 update_stays (Update update) event some before after fit fewer = omega (arith, fit, fewer)
+update_stays (Shared update) event some before after fit fewer = omega (arith, fit, fewer)

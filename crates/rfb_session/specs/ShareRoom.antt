@@ -11,28 +11,34 @@ use Rattle.rfb_server.specs.ClientBytes.{ClientAt}
 use Rattle.rfb_server.specs.Server.{Serving, ServerState}
 use Rattle.rfb_server.specs.Model.{SessionStandsFor, session_fault}
 use Rattle.rfb_session.specs.declared.share.waiting.Waiting.{Waiting}
-use Rattle.rfb_session.specs.declared.share.waiting.Waiting.TheVariants.{Answers, Update}
+use Rattle.rfb_session.specs.declared.share.waiting.Waiting.TheVariants.{Answers, Update, Shared}
 
 -- the bytes that are kept, written ones in front
 abbrev pub kept_in : Waiting → List ℕ
 kept_in (Answers answers) = answers.items
 kept_in (Update bytes) = bytes.items
+kept_in (Shared bytes) = bytes.value.items
 
--- how many bytes of memory are taken for them: none for answers, which lie in the seat itself
+-- how many bytes of memory are taken for them: none for answers, which lie in the seat itself. Those of
+-- a shared update are counted at each seat where it waits
 abbrev pub memory_of : Waiting → ℕ
 memory_of (Answers answers) = 0
 memory_of (Update bytes) = vec_capacity bytes
+memory_of (Shared bytes) = vec_capacity bytes.value
 
 -- how many of them are answers
 abbrev pub answers_in : Waiting → ℕ
 answers_in (Answers answers) = length answers.items
 answers_in (Update bytes) = 0
+answers_in (Shared bytes) = 0
 
--- of answers nothing has changed, and of an update an update is left
+-- of answers and of a shared update nothing has changed, and of another one an update is left
 abbrev pub IsCut : Waiting → Waiting → Type 0
 IsCut (Answers old) new = new ≡ Answers old
 IsCut (Update old) (Answers new) = ⊥
 IsCut (Update old) (Update new) = Unit {0}
+IsCut (Update old) (Shared new) = Unit {0}
+IsCut (Shared old) new = new ≡ Shared old
 
 -- how many bytes of answers a client may still be sent: at most 6 for its security type and the
 -- result, and ServerInit with a name of at most 255 bytes; none after the handshake
@@ -47,6 +53,7 @@ answers_left (Second between) = 0
 abbrev pub AnswersFit : Waiting → ClientAt → Type 0
 AnswersFit (Answers answers) point = length answers.items + answers_left point ≤ 297
 AnswersFit (Update bytes) point = answers_left point ≡ 0
+AnswersFit (Shared bytes) point = answers_left point ≡ 0
 
 -- of a state that a session stands for over a screen
 pub record FitsAState (session : Session) (waiting : Waiting) : Type 0 where

@@ -24,7 +24,7 @@ use Rattle.rfb_session.specs.declared.share.event.Composing.TheVariants.{Waiting
 use Rattle.rfb_session.specs.declared.share.event.Composing.TheVariants.{NoSuchSeat}
 use Rattle.rfb_session.specs.declared.share.seat.ShareSeat.{ShareSeat}
 use Rattle.rfb_session.specs.declared.share.waiting.Waiting.{Waiting}
-use Rattle.rfb_session.specs.declared.share.waiting.Waiting.TheVariants.{Answers, Update}
+use Rattle.rfb_session.specs.declared.share.waiting.Waiting.TheVariants.{Answers, Update, Shared}
 use Rattle.rfb_session.specs.InFlight.{server_reply}
 use Rattle.rfb_session.specs.ShareRoom.{kept_in, memory_of}
 
@@ -41,6 +41,7 @@ waiting_in seat = drop seat.written (kept_in seat.waiting)
 abbrev pub holds_update : Waiting → Bool
 holds_update (Answers answers) = false
 holds_update (Update bytes) = true
+holds_update (Shared bytes) = true
 
 abbrev pub is_update : ShareSeat → Bool
 is_update seat = holds_update seat.waiting

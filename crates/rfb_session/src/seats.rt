@@ -71,6 +71,16 @@ impl Seats {
         }
     }
 
+    /// The set without those of another.
+    pub(crate) fn without_all(self, other: Seats) -> Seats
+        ensures { (k : ℕ) → k < 8 →
+            has_bit result k ≡ (has_bit self k && not (has_bit other k)) }
+    {
+        Seats {
+            bits: self.bits & !other.bits,
+        }
+    }
+
     /// The seats that are in one of two sets.
     pub(crate) fn or(self, other: Seats) -> Seats
         ensures { (k : ℕ) → has_bit result k ≡ (has_bit self k || has_bit other k) }

@@ -20,6 +20,7 @@ pub(crate) mod seat;
 mod sending;
 #[cfg(test)]
 mod tests;
+mod twins;
 pub(crate) mod waiting;
 
 use crate::hub::{BLACK, NAME_LIMIT, name_of};

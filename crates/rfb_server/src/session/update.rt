@@ -116,7 +116,7 @@ impl Session {
     }
 
     // Whether the handshake is done, and the session has not failed.
-    fn is_ready(&self) -> bool
+    pub(super) fn is_ready(&self) -> bool
         ensures { result ≡ is_ready self.now.progress }
     {
         match &self.progress {
@@ -190,7 +190,7 @@ impl Session {
     }
 
     // After an update: what was asked is answered, and is marked no more.
-    fn settle(&mut self)
+    pub(super) fn settle(&mut self)
         ensures { IsSettled self.old self.new }
     {
         self.marks.take_away(self.area.asked());

@@ -1,7 +1,7 @@
 //! A server that is taken apart, and the loop of a server for one viewer, as README.md has it.
 
+use super::places::ORANGE;
 use super::scene::{feed, ready};
-use super::shared::ORANGE;
 use crate::{Server, ServerSetup};
 use rfb_picture::Rect;
 use std::alloc::{AllocError, Global};

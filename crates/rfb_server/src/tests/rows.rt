@@ -1,6 +1,6 @@
 //! What lies on a screen of three by two places, and what has not a colour for each of its places.
 
-use super::shared::{BLACK, GREEN, ORANGE, VIOLET};
+use super::places::{BLACK, GREEN, ORANGE, VIOLET};
 use crate::Drawing;
 use rfb_picture::{Picture, Rect};
 use rfb_pixel::{Colour, Format};

@@ -5,56 +5,12 @@ ghost use Rattle.rfb_picture.specs.Grid.{Grid, IsGrid};
 ghost use Rattle.rfb_pixel.specs.declared.colour.Colour.{Colour};
 ghost use Rattle.rfb_server.specs.KnownScreen.{Follows};
 
+use super::places::BLACK;
 use crate::{Drawing, Notice, Session};
 use rfb_hello::Version;
 use rfb_picture::{Picture, Rect};
 use rfb_pixel::Colour;
 use std::alloc::{AllocError, Global};
-
-pub(super) const BLACK: Colour = Colour { r: 0, g: 0, b: 0 };
-
-// At rgb888 10, C8 and 64; at rgb565 2, 49 and 12.
-pub(super) const GREEN: Colour = Colour {
-    r: 4_112,
-    g: 51_400,
-    b: 25_700,
-};
-
-// At rgb888 FF, 80 and 08; at rgb565 31, 32 and 1.
-pub(super) const ORANGE: Colour = Colour {
-    r: 65_535,
-    g: 32_896,
-    b: 2_056,
-};
-
-// At rgb888 32, 11 and F0; at rgb565 6, 4 and 29.
-pub(super) const VIOLET: Colour = Colour {
-    r: 12_850,
-    g: 4_369,
-    b: 61_680,
-};
-
-// A screen of three by two places, and two of its places.
-pub(super) const WHOLE: Rect = Rect {
-    x: 0,
-    y: 0,
-    w: 3,
-    h: 2,
-};
-
-pub(super) const LAST: Rect = Rect {
-    x: 2,
-    y: 1,
-    w: 1,
-    h: 1,
-};
-
-pub(super) const SECOND: Rect = Rect {
-    x: 1,
-    y: 0,
-    w: 1,
-    h: 1,
-};
 
 // A screen that two viewers see.
 #[derive(Drop)]
@@ -90,6 +46,10 @@ pub(super) enum Step<'a> {
     Stands(Who, bool, Option<u32>),
     // Whether the viewer waits for an update.
     Waits(Who, bool),
+    // Whether an update for the first viewer is one for the second too.
+    AreTwins(bool),
+    // One of exactly these bytes is composed for the first, and the second takes it over.
+    SendsBoth(&'a [u8]),
 }
 
 // A session that was fed nothing.
@@ -108,6 +68,32 @@ fn sends(session: &mut Session, screen: &Picture<Colour>, alloc: Global, bytes: 
 {
     let mut out = Vec::new(alloc);
     session.compose(screen, &mut out) == Ok(true) && out.as_slice() == bytes
+}
+
+// Whether it composes exactly these bytes, of which a twin of it knows then.
+fn sends_both(
+    one: &mut Session,
+    twin: &mut Session,
+    screen: &Picture<Colour>,
+    alloc: Global,
+    bytes: &[u8],
+) -> bool
+    requires follows { Follows screen.now one.old }
+    requires follows_too { Follows screen.now twin.old }
+    ensures follows { Follows screen.now one.new }
+    ensures follows_too { Follows screen.now twin.new }
+{
+    if !twin.is_twin_of(one) {
+        return false;
+    }
+    let mut out = Vec::new(alloc);
+    match one.compose(screen, &mut out) {
+        Ok(true) => {
+            twin.take_over(screen, one);
+            out.as_slice() == bytes
+        }
+        _ => false,
+    }
 }
 
 // Whether it asks for the first place.
@@ -181,6 +167,16 @@ impl Shared {
         }
     }
 
+    fn sends_both(&mut self, alloc: Global, bytes: &[u8]) -> bool {
+        sends_both(
+            &mut self.first,
+            &mut self.second,
+            &self.screen,
+            alloc,
+            bytes,
+        )
+    }
+
     fn session(&self, who: Who) -> &Session {
         match who {
             Who::First => &self.first,
@@ -200,6 +196,8 @@ impl Shared {
                 asks(session) == asked && known(session) == has
             }
             Step::Waits(who, waits) => self.session(who).is_asked() == waits,
+            Step::AreTwins(are) => self.second.is_twin_of(&self.first) == are,
+            Step::SendsBoth(bytes) => self.sends_both(alloc, bytes),
         }
     }
 }
@@ -221,6 +219,22 @@ pub(super) fn first_wrong(alloc: Global, steps: &[Step]) -> Option<usize> {
         Ok(shared) => first_wrong_then_drop(shared, alloc, steps),
         Err(_) => Some(steps.len()),
     }
+}
+
+// Whether all steps of a new shared screen are right: those of the front, and then the rest.
+pub(super) fn are_right_after(alloc: Global, front: &[Step], rest: &[Step]) -> bool {
+    match Shared::new(alloc) {
+        Ok(shared) => are_right_then_drop(shared, alloc, front, rest),
+        Err(_) => false,
+    }
+}
+
+fn are_right_then_drop(shared: Shared, alloc: Global, front: &[Step], rest: &[Step]) -> bool {
+    let mut shared = shared;
+    let right = first_wrong_of(&mut shared, alloc, front).is_none()
+        && first_wrong_of(&mut shared, alloc, rest).is_none();
+    drop(shared);
+    right
 }
 
 fn first_wrong_then_drop(shared: Shared, alloc: Global, steps: &[Step]) -> Option<usize> {

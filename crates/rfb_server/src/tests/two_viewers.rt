@@ -1,6 +1,7 @@
 //! Two viewers of one screen: each is sent what it lacks, in its own format and encoding.
 
-use super::shared::{GREEN, LAST, ORANGE, SECOND, Step, VIOLET, WHOLE, Who, first_wrong};
+use super::places::{GREEN, LAST, ORANGE, SECOND, VIOLET, WHOLE};
+use super::shared::{Step, Who, first_wrong};
 
 // SetPixelFormat of rgb565: 16 bits, depth 16, little-endian, true colour, maxima 31, 63 and 31,
 // shifts 11, 5 and 0.

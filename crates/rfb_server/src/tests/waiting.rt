@@ -1,6 +1,7 @@
 //! When a viewer waits for an update, and what becomes of a change that someone else draws.
 
-use super::shared::{BLACK, LAST, SECOND, Step, VIOLET, WHOLE, Who, first_wrong};
+use super::places::{BLACK, LAST, SECOND, VIOLET, WHOLE};
+use super::shared::{Step, Who, first_wrong};
 use crate::Notice;
 use rfb_picture::{Picture, Rect};
 use std::alloc::AllocError;

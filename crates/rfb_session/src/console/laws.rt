@@ -71,7 +71,8 @@ pub fn an_update_that_is_due_is_composed()
 
 /// The seats take turns. Whoever is left out in a turn comes in the next one before each that was
 /// served, whatever happens between them; so of eight turns, one after the other, not each leaves
-/// out the same seat. And for one seat at most a turn composes an update of more than a mebibyte.
+/// out the same seat. And a turn composes one update of more than a mebibyte at most: where such a
+/// one waits at two seats, it is the same to the byte.
 pub fn nobody_is_left_out_for_ever<S: Drop>()
     ensures first { (old new : ADesk) (now slow stuck j k : ℕ) →
         (turns : TurnsAs old now slow stuck new) → j < 8 → k < 8 →
@@ -83,7 +84,8 @@ pub fn nobody_is_left_out_for_ever<S: Drop>()
     ensures times { (desk : ADesk) (k times : ℕ) → k < 8 → IsLeftFor k times desk → times < 8 }
     ensures one { (old new : ADesk) (now slow stuck j k : ℕ) → TurnsAs old now slow stuck new →
         j < 8 → k < 8 → IsLarge (seat_left old now j) (seat_in new.share j) →
-        IsLarge (seat_left old now k) (seat_in new.share k) → j ≡ k }
+        IsLarge (seat_left old now k) (seat_in new.share k) →
+        waits_at new.share j ≡ waits_at new.share k }
 {}
 
 /// Before the time at which the next turn is wanted nobody's time is over, and updates that are

@@ -2,6 +2,7 @@
 
 ghost use Rattle.std.specs.Prelude.{◌≡◌, ◌≢◌, ◌≤◌, ◌<◌, ◌++◌, ℕ, [], length, take, drop};
 ghost use Rattle.std.specs.Prelude.{true, false, None, Some, IfOk, IfErr, OnErr, IsTrue, ◌↔◌};
+ghost use Rattle.std.specs.Bool.{OnTrue, OnFalse};
 ghost use Rattle.rfb_server.specs.Intake.{AreTaken};
 ghost use Rattle.rfb_server.specs.Told.{seen};
 ghost use Rattle.rfb_session.specs.ShareRoom.{kept_in, answers_in, HasRoomForAnswers};
@@ -42,7 +43,8 @@ impl ShareSeat {
     ghost use Rattle.rfb_server.specs.UpdateCall.{HasAsked};
     ghost use Rattle.rfb_session.specs.ShareSeats.{waiting_in, session_at, is_update, IsFresh};
     ghost use Rattle.rfb_session.specs.ShareSeats.{IsSeatOf, Hears, ComposesAt, WantsRoom};
-    ghost use Rattle.rfb_session.specs.ShareSeats.{WritesAt};
+    ghost use Rattle.rfb_session.specs.ShareSeats.{WritesAt, Sends};
+    ghost use Rattle.rfb_session.specs.ShareTwins.{AreSeatTwins, HasComposedTwin, IsShared};
     ghost use Rattle.rfb_session.specs.ShareSlots.{EndsAtSeat};
 
     /// A seat of a session that was fed nothing, with its greeting.
@@ -74,6 +76,7 @@ impl ShareSeat {
         match &mut self.waiting {
             Waiting::Answers(kept) => append(kept, server_reply(&fed.event)),
             Waiting::Update(_) => {}
+            Waiting::Shared(_) => {}
         }
         Ok(fed)
     }
@@ -118,6 +121,47 @@ impl ShareSeat {
         self.waiting = Waiting::Update(update);
         self.written = 0;
         Ok(Composing::Composed)
+    }
+
+    /// Whether an update for another seat is one for this one too, to the byte, where the sessions
+    /// of both follow one screen: nothing waits at either, and the sessions are twins.
+    pub(crate) fn is_twin_of(&self, other: &ShareSeat) -> bool
+        ensures { OnTrue result ((screen : Grid Colour) → Follows screen (session_at other.now)
+            → Follows screen (session_at self.now) → AreSeatTwins other.now self.now) }
+    {
+        if !self.waiting().is_empty() || !other.waiting().is_empty() {
+            return false;
+        }
+        self.session.is_twin_of(&other.session)
+    }
+
+    /// The update that waits may be taken over by others, if there is memory for that.
+    pub(crate) fn share(&mut self)
+        ensures { IsShared self.old self.new }
+    {
+        self.waiting.share(self.alloc);
+    }
+
+    /// Takes over the update that was composed for a twin and is shared: it waits here too, in the
+    /// same memory. Where it is not shared nothing changes, and it tells so.
+    pub(crate) fn take_over(&mut self, screen: &Picture<Colour>, sent: &ShareSeat) -> bool
+        requires follows { Follows screen.now (session_at self.old) }
+        requires twin { HasComposedTwin screen.now self.old sent.now }
+        ensures sends { OnTrue result (Sends screen.now self.old self.new) }
+        ensures same { OnTrue result (waiting_in self.new ≡ waiting_in sent.now) }
+        ensures follows { OnTrue result (Follows screen.now (session_at self.new)) }
+        ensures kept { OnFalse result (self.new ≡ self.old) }
+    {
+        let Waiting::Shared(bytes) = &sent.waiting else {
+            return false;
+        };
+        let Ok(bytes) = bytes.clone() else {
+            return false;
+        };
+        self.session.take_over(screen, &sent.session);
+        self.waiting = Waiting::Shared(bytes);
+        self.written = sent.written;
+        true
     }
 
     /// Whether its viewer waits for an update.

@@ -8,6 +8,7 @@ mod console;
 mod cuts;
 mod mirroring;
 mod seats;
+mod twins;
 mod work;
 
 use super::Share;
@@ -124,6 +125,15 @@ fn greeted(share: &mut Share, flag: &[u8]) -> bool {
         && takes(share, seat, SUCCESS)
         && send(share, seat, flag)
         && takes(share, seat, SERVER_INIT)
+}
+
+// Eight viewers have joined.
+fn all_greeted(share: &mut Share) -> bool {
+    let mut all = true;
+    for _seat in 0..8 {
+        all = greeted(share, SHARED) && all;
+    }
+    all
 }
 
 // Whether a composing is answered so.

@@ -3,6 +3,9 @@
 ghost use Rattle.std.specs.Prelude.{◌≡◌, ◌≤◌, length, drop};
 
 use arrayvec::ArrayVec;
+use std::alloc::Global;
+use std::mem;
+use std::rc::Rc;
 
 /// How many bytes a session sends at most beside updates, ever: ProtocolVersion 12, the security
 /// types 2, SecurityResult 4, and ServerInit 279 with a name of 255 bytes, RFC 6143 sections 7.1
@@ -16,14 +19,34 @@ pub(crate) enum Waiting {
     Answers(ArrayVec<u8, MOST_ANSWERS>),
     /// One update. The handshake is done, so no answer comes.
     Update(Vec<u8>),
+    /// One that waits at several seats; with the last of them its memory goes.
+    Shared(Rc<Vec<u8>>),
 }
 
 impl Waiting {
     ghost use Rattle.rfb_session.specs.ShareRoom.{kept_in, memory_of, IsCut};
 
-    /// The first of those kept are written, so many of them. An update gives their memory back, and
-    /// what was reserved for it, where it is the first time or at least half of it is written. How
-    /// many written ones are still kept is the answer.
+    /// An update is shared from now on, if there is memory for that: of its own it has what its bytes
+    /// need then.
+    pub(crate) fn share(&mut self, alloc: Global)
+        ensures kept { kept_in self.new ≡ kept_in self.old }
+        ensures memory { memory_of self.new ≤ memory_of self.old }
+        ensures kind { IsCut self.old self.new }
+    {
+        let Waiting::Update(bytes) = self else {
+            return;
+        };
+        let mut bytes = mem::replace(bytes, Vec::new(alloc));
+        bytes.shrink_to_fit();
+        *self = match Rc::new(alloc, bytes) {
+            Ok(shared) => Waiting::Shared(shared),
+            Err(failed) => Waiting::Update(failed.value),
+        };
+    }
+
+    /// The first of those kept are written, so many of them. An update that is not shared gives their
+    /// memory back, and what was reserved for it, where it is the first time or at least half of it
+    /// is written. How many written ones are still kept is the answer.
     pub(crate) fn cut(&mut self, written: usize) -> usize
         requires { written ≤ length (kept_in self.old) }
         ensures rest { drop result (kept_in self.new) ≡ drop written (kept_in self.old) }
@@ -51,6 +74,7 @@ impl Waiting {
         match self {
             Waiting::Answers(answers) => answers.as_slice(),
             Waiting::Update(bytes) => bytes.as_slice(),
+            Waiting::Shared(bytes) => bytes.as_slice(),
         }
     }
 }

@@ -261,7 +261,7 @@ impl Session {
     }
 
     // Whether it waits for a message, of which no byte has come.
-    fn is_idle(&self) -> bool
+    pub(crate) fn is_idle(&self) -> bool
         ensures { result ≡ is_idle self.now.progress }
     {
         match &self.progress {

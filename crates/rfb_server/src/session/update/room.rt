@@ -70,7 +70,7 @@ impl Session {
     }
 
     /// The number of the first cell from number `from` on that may have marked and asked places.
-    pub(super) fn next_cell(&self, from: usize) -> Option<usize>
+    pub(crate) fn next_cell(&self, from: usize) -> Option<usize>
         ensures { HasNext self.now from result }
     {
         self.marks.next_open_of_both(self.area.asked(), from)

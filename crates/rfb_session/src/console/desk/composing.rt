@@ -1,7 +1,6 @@
 //! Updates that are composed for the viewers of a console.
 
-ghost use Rattle.std.specs.Prelude.{◌≡◌, ◌<◌, true, false};
-ghost use Rattle.rfb_picture.specs.Places.{has_bit};
+ghost use Rattle.std.specs.Prelude.{◌≡◌, true, false};
 ghost use Rattle.rfb_session.specs.Share.{seat_in};
 ghost use Rattle.rfb_session.specs.console.Turns.{ComposesAll, ComposesOne, ComposesRound, IsLarge};
 
@@ -27,6 +26,15 @@ pub(crate) struct Round {
 struct Served {
     wants: bool,
     is_large: bool,
+    // Who was given the same update.
+    given: Seats,
+}
+
+// What came of trying to.
+#[derive(Clone, Copy, Debug)]
+struct Tried {
+    wants: bool,
+    given: Seats,
 }
 
 impl Desk {
@@ -38,22 +46,27 @@ impl Desk {
         let mut wants = false;
         let due = self.share.to_serve();
         for place in 0..SLOTS {
-            wants |= self.compose_at(place, due);
+            let seat = Seat::at(place);
+            wants |= self.compose_at(seat, due.has(seat), Seats::none()).wants;
         }
         wants
     }
 
     /// The same, but one seat after the other from the first of this turn on, going round, and no
-    /// further than to a large update. So at most one is composed before anything is written.
+    /// further than to a large update. So at most one is composed before anything is written. One
+    /// that is not is given to all that are left and to whom it is the same.
     pub(crate) fn compose_round(&mut self) -> Round
         ensures { ComposesRound self.old result.wants result.last self.new }
     {
         let mut wants = false;
-        let due = self.share.to_serve();
+        let mut left = self.share.to_serve();
         let first = self.first;
         for step in 0..SLOTS {
             let seat = first.after(step);
-            let served = self.serve(seat, due);
+            let tries = left.has(seat);
+            let others = left.without(seat);
+            let served = self.serve(seat, tries, others);
+            left = others.without_all(served.given);
             wants |= served.wants;
             if served.is_large {
                 return Round {
@@ -65,31 +78,41 @@ impl Desk {
         Round { wants, last: None }
     }
 
-    // Composes an update for the viewer of a seat, and tells whether it is a large one.
-    fn serve(&mut self, seat: Seat, due: Seats) -> Served
-        ensures composes { ComposesOne self.old seat (has_bit due seat) result.wants self.new }
+    // Composes an update for the viewer of a seat, if that is to be tried, and tells whether it is a
+    // large one. It may be given to some others.
+    fn serve(&mut self, seat: Seat, tries: bool, others: Seats) -> Served
+        ensures composes { ComposesOne self.old seat tries result.wants others result.given self.new }
         ensures large { result.is_large ≡ true →
             IsLarge (seat_in self.old.share seat) (seat_in self.new.share seat) }
         ensures small { result.is_large ≡ false →
             IsLarge (seat_in self.old.share seat) (seat_in self.new.share seat) → ⊥ }
     {
         let is_free = self.share.to_write(seat).is_empty();
-        let wants = self.compose_at(seat.place(), due);
+        let tried = self.compose_at(seat, tries, others);
         let is_large = is_free && self.share.to_write(seat).len() > LARGE;
-        Served { wants, is_large }
+        Served {
+            wants: tried.wants,
+            is_large,
+            given: tried.given,
+        }
     }
 
-    fn compose_at(&mut self, place: usize, due: Seats) -> bool
-        requires { place < 8 }
-        ensures { ComposesOne self.old place (has_bit due place) result self.new }
+    fn compose_at(&mut self, seat: Seat, tries: bool, others: Seats) -> Tried
+        ensures { ComposesOne self.old seat tries result.wants others result.given self.new }
     {
-        let seat = Seat::at(place);
-        if !due.has(seat) {
-            return false;
+        let given = Seats::none();
+        if !tries {
+            return Tried {
+                wants: false,
+                given,
+            };
         }
-        match self.share.compose(seat) {
-            Ok(_) => false,
-            Err(_) => true,
+        match self.share.compose_shared(seat, others) {
+            Ok((_, given)) => Tried {
+                wants: false,
+                given,
+            },
+            Err(_) => Tried { wants: true, given },
         }
     }
 }

@@ -3,15 +3,6 @@
 use super::*;
 use crate::seats::Seats;
 
-// Eight viewers have joined.
-fn all_greeted(share: &mut Share) -> bool {
-    let mut all = true;
-    for _seat in 0..8 {
-        all = greeted(share, SHARED) && all;
-    }
-    all
-}
-
 // Every viewer but those two asks for what has changed, and takes this update.
 fn others_take(share: &mut Share, update: &[u8]) -> bool {
     let mut all = true;

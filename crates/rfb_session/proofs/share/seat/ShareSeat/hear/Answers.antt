@@ -10,7 +10,7 @@ use Rattle.rfb_session.proofs.ShareFitLemmas.{fits_refused, answer_fits, none_af
 use Rattle.rfb_session.proofs.ShareSeatLemmas.{not_ended, refused_late, seat_kept, heard_answer, heard_after}
 use Rattle.rfb_session.proofs.ShareSeatLemmas.{update_has_none, update_stays}
 use Rattle.rfb_session.proofs.share.seat.ShareSeat.hear.Goals as goal
-use Rattle.rfb_session.proofs.share.seat.ShareSeat.hear.Goals.{in-Answers, in-Update}
+use Rattle.rfb_session.proofs.share.seat.ShareSeat.hear.Goals.{in-Answers, in-Update, in-Shared}
 
 pub invariant_of-self : goal.invariant_of-self
 invariant_of-self c =
@@ -89,6 +89,20 @@ invariant_of-self-in-Update c =
           (ap (λ (w : Waiting). holds_update w) c.in-Update.is)) s.roomy;
     }
 
+pub invariant_of-self-in-Shared : goal.invariant_of-self-in-Shared
+invariant_of-self-in-Shared c =
+    let s = c.args.self.now in
+    let going = not_ended _ _ c.feed.result c.in_ok-fed.fed
+    c.feed.ensures.failed c.in_ok-fed.was in
+    record {
+      within = s.within;
+      few = s.few;
+      roomy = fits_after s.session c.feed.new.self s.waiting s.waiting
+          (take c.in_ok-fed.fed.used c.args.bytes.now) (seen c.in_ok-fed.fed.event) going
+          c.in_ok-fed.ensures.takes.fed (update_stays s.waiting (seen c.in_ok-fed.fed.event)
+          (ap (λ (w : Waiting). holds_update w) c.in-Shared.is)) s.roomy;
+    }
+
 pub returns-clause-heard : goal.returns-clause-heard
 returns-clause-heard c =
     let s = c.args.self.now in
@@ -107,5 +121,11 @@ returns-clause-heard c =
           (heard_after s _ bytes told refl refl (none_after s.session c.feed.new.self s.waiting
           bytes told going c.in_ok-fed.ensures.takes.fed (λ point. update_has_none point s.waiting
           (ap (λ (v : Waiting). holds_update v) w.in-Update.is)) s.roomy) going
+          c.in_ok-fed.ensures.takes.fed c.feed.ensures.made c.feed.ensures.hints)
+      | in-Shared w ↦
+          subst (λ (seat : ShareSeat). Hears bytes told s seat) (sym w.self-is)
+          (heard_after s _ bytes told refl refl (none_after s.session c.feed.new.self s.waiting
+          bytes told going c.in_ok-fed.ensures.takes.fed (λ point. update_has_none point s.waiting
+          (ap (λ (v : Waiting). holds_update v) w.in-Shared.is)) s.roomy) going
           c.in_ok-fed.ensures.takes.fed c.feed.ensures.made c.feed.ensures.hints)
     ]

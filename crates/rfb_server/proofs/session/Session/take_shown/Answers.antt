@@ -1,0 +1,89 @@
+use Rattle.std.proofs.Common.{◌<◌, ◌*◌, ◌∙◌, arith, refl, sym}
+use Rattle.std.specs.Int.{div_ceil}
+use Rattle.rfb_server.specs.Cells.{IsCell}
+use Rattle.rfb_server.proofs.RoomLemmas.{few_cells}
+use Rattle.rfb_server.proofs.SentCells.{kept_same, kept_then}
+use Rattle.rfb_server.proofs.TakenOverLemmas.{shown_known, some_more, taken_more, taken_all, caught_by}
+use Rattle.rfb_server.proofs.ClaimLemmas.{nothing_claimed}
+use Rattle.rfb_server.proofs.UpdateLemmas.{caught_settled}
+use Rattle.rfb_server.proofs.session.Session.take_shown.Goals as goal
+
+pub take_cell-requires-clause-known : goal.take_cell-requires-clause-known
+take_cell-requires-clause-known c =
+    let s = c.args.self.now in
+    let here : IsCell s.known.width s.known.height (div_ceil s.known.width 64) c.in-Some.index c.cell_at.result =
+    rw (c.width-width.ensures.value, c.height-height.ensures) at c.cell_at.ensures.cell in
+    shown_known c.args.screen.now s.format c.args.sent.now.known c.cell_at.result
+    (rw (c.requires.columns) (here.held.0), rw (c.requires.rows) (here.held.1)) c.requires.shown
+
+pub loop-index-preserved : goal.loop-index-preserved
+loop-index-preserved c =
+    let s = c.args.self.now in
+    let l = c.loop-index in
+    let sent = c.args.sent.now.known in
+    let index = c.in-Some.index in
+    let next = c.in-Some.ensures in
+    let here : IsCell s.known.width s.known.height (div_ceil s.known.width 64) index c.cell_at.result =
+    rw (c.width-width.ensures.value, c.height-height.ensures) at c.cell_at.ensures.cell in
+    let cells = few_cells s.known.width s.known.height s.alike.columns s.alike.rows in
+    let below : index < div_ceil s.known.width 64 * div_ceil s.known.height 64 =
+    rw (← l.invariant.wide, ← l.invariant.high) next.is_cell in
+    let taken = c.take_cell.ensures in
+    let last = c.take_cell.new.self in
+    record {
+      kept = kept_then s l.self last l.invariant.kept taken.kept;
+      wide = taken.width ∙ l.invariant.wide;
+      high = taken.height ∙ l.invariant.high;
+      some = some_more sent s.known l.self.known last.known l.invariant.wide l.invariant.high l.invariant.some
+          taken.some;
+      done = taken_more s l.self last sent l.next index c.cell_at.result c.requires.asked l.invariant.kept
+          l.invariant.wide l.invariant.high here next.none taken.some taken.marked l.invariant.done;
+      within = omega (arith, below);
+      few = omega (arith, below, cells);
+    }
+
+pub returns-clause-about : goal.returns-clause-about
+returns-clause-about c =
+    let s = c.args.self.now in
+    let l = c.loop-index in
+    let mid = l.self in
+    let settled = c.settle.ensures in
+    let about = c.requires.about in
+    let shown = taken_all c.args.screen.now s mid c.args.sent.now.known l.next about c.requires.asked l.invariant.kept
+    l.invariant.wide l.invariant.high c.requires.columns c.requires.rows c.requires.shown c.in_default.ensures
+    l.invariant.some l.invariant.done in
+    record {
+      whole = about.whole;
+      alike = record {
+        columns = rw (settled.known) (about.alike.columns ∙ sym l.invariant.wide);
+        rows = rw (settled.known) (about.alike.rows ∙ sym l.invariant.high);
+      };
+      caught_up = rw (settled.known, settled.area, settled.format, settled.marks)
+          (caught_settled c.args.screen.now mid.known mid.area mid.format mid.marks mid.alike
+          (caught_by c.args.screen.now s mid about l.invariant.kept shown)
+          (λ x y p q asked. rw (l.invariant.kept.format) (shown x y p q)));
+      claimed = nothing_claimed c.args.screen.now _ _ _ refl;
+    }
+
+pub returns-clause-taken : goal.returns-clause-taken
+returns-clause-taken c =
+    let s = c.args.self.now in
+    let l = c.loop-index in
+    let mid = l.self in
+    let kept = l.invariant.kept in
+    let settled = c.settle.ensures in
+    let shown = taken_all c.args.screen.now s mid c.args.sent.now.known l.next c.requires.about c.requires.asked kept
+    l.invariant.wide l.invariant.high c.requires.columns c.requires.rows c.requires.shown c.in_default.ensures
+    l.invariant.some l.invariant.done in
+    record {
+      hello = settled.hello ∙ kept.hello;
+      progress = settled.progress ∙ kept.progress;
+      text_limit = settled.text_limit ∙ kept.text_limit;
+      format = settled.format ∙ kept.format;
+      encodings = settled.encodings ∙ kept.encodings;
+      width = rw (settled.known) (l.invariant.wide);
+      height = rw (settled.known) (l.invariant.high);
+      shown = rw (settled.known) shown;
+      area = rw (settled.area, kept.area) refl;
+      hints = settled.hints;
+    }

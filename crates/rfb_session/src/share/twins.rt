@@ -1,0 +1,170 @@
+//! Seats of a share that are twins: what is composed for one of them is given to the others.
+
+ghost use Rattle.std.specs.Prelude.{◌≡◌, ◌<◌, ℕ, length, nat_eq, true, false, Some, IfOk, OnErr};
+ghost use Rattle.std.specs.Bool.{OnTrue, OnFalse};
+ghost use Rattle.std.specs.Option.{ForSome};
+ghost use Rattle.rfb_picture.specs.Places.{has_bit};
+ghost use Rattle.rfb_server.specs.KnownScreen.{Follows};
+ghost use Rattle.rfb_session.specs.ShareSeats.{session_at};
+ghost use Rattle.rfb_session.specs.ShareTwins.{IsTwinIn, IsTwinOf, IsGiven, IsGivenTo, IsHeirOf};
+ghost use Rattle.rfb_session.specs.ShareTwins.{IsToBeGiven};
+
+use crate::seat::Seat;
+use crate::seats::Seats;
+use crate::share::Share;
+use crate::share::event::Composing;
+use crate::share::seat::ShareSeat;
+use crate::slots::{SLOTS, seat_in};
+use crate::told::NoMemory;
+use rfb_picture::Picture;
+use rfb_pixel::Colour;
+
+impl Share {
+    ghost use Rattle.rfb_session.specs.Share.{screen_of};
+    ghost use Rattle.rfb_session.specs.ShareSteps.{KeepsScreen, WantsRoomAs};
+    ghost use Rattle.rfb_session.specs.ShareTwins.{ComposesShared};
+
+    /// Composes an update for the viewer of a seat, as `compose` does, and gives it to all of some
+    /// others for which nothing waits, and whose viewers have and ask for the same: to the byte
+    /// it is the one that would be composed for them. It tells which seats these are. It waits in
+    /// the same memory for all. Where there is none for what they share, a few bytes, it is given
+    /// to none, and an update may be composed later.
+    pub fn compose_shared(
+        &mut self,
+        seat: Seat,
+        others: Seats,
+    ) -> Result<(Composing, Seats), NoMemory>
+        ensures composes { IfOk result (λ told.
+            ComposesShared self.old seat told.0 others told.1 self.new) }
+        ensures wants { OnErr result (WantsRoomAs self.old seat self.new) }
+    {
+        let twins = twins_in(&self.seats, seat.place(), others);
+        match self.compose(seat)? {
+            Composing::Composed => Ok((Composing::Composed, self.give(seat, twins))),
+            told => Ok((told, Seats::none())),
+        }
+    }
+
+    // What waits at a seat is given to its twins.
+    fn give(&mut self, seat: Seat, twins: Seats) -> Seats
+        requires { (k : ℕ) → has_bit twins k ≡ true →
+            IsToBeGiven (screen_of self.old) self.old.seats seat k }
+        ensures given { IsGivenTo (screen_of self.old) seat self.old.seats self.new.seats result }
+        ensures within { (k : ℕ) → has_bit result k ≡ true → has_bit twins k ≡ true }
+        ensures keeps { KeepsScreen self.old self.new }
+    {
+        if twins.is_empty() {
+            return Seats::none();
+        }
+        let given = give_all(&mut self.seats, seat.place(), twins, self.screen.picture());
+        self.stirred = self.stirred.or(given);
+        given
+    }
+}
+
+// The seats of some that are twins of one.
+fn twins_in(slots: &[Option<ShareSeat>; SLOTS], own: usize, others: Seats) -> Seats
+    requires { own < 8 }
+    ensures twins { (k : ℕ) → has_bit result k ≡ true → IsTwinIn slots.now own k }
+    ensures within { (k : ℕ) → has_bit result k ≡ true → has_bit others k ≡ true }
+{
+    let mut twins = Seats::none();
+    let Some(one) = &slots[own] else {
+        return twins;
+    };
+    for place in 0..SLOTS {
+        twins = twins.or(twin_at(&slots[place], place, own, others, one));
+    }
+    twins
+}
+
+// That seat, where it is one of the others and not that of the one, and somebody sits there who is
+// a twin of it.
+fn twin_at(
+    slot: &Option<ShareSeat>,
+    place: usize,
+    own: usize,
+    others: Seats,
+    one: &ShareSeat,
+) -> Seats
+    requires { place < 8 }
+    ensures twin { (k : ℕ) → has_bit result k ≡ true →
+        (k ≡ place) × (nat_eq k own ≡ false) × IsTwinOf one.now slot.now }
+    ensures within { (k : ℕ) → has_bit result k ≡ true → has_bit others k ≡ true }
+{
+    let seat = Seat::at(place);
+    if place == own || !others.has(seat) {
+        return Seats::none();
+    }
+    match slot {
+        Some(other) if other.is_twin_of(one) => Seats::none().with(seat),
+        _ => Seats::none(),
+    }
+}
+
+// The update of one seat is shared, and given to its twins.
+fn give_all(
+    slots: &mut [Option<ShareSeat>; SLOTS],
+    own: usize,
+    twins: Seats,
+    screen: &Picture<Colour>,
+) -> Seats
+    requires own { own < 8 }
+    requires twins { (k : ℕ) → has_bit twins k ≡ true → IsToBeGiven screen.now slots.old own k }
+    ensures size { length slots.new ≡ length slots.old }
+    ensures given { IsGivenTo screen.now own slots.old slots.new result }
+    ensures within { (k : ℕ) → has_bit result k ≡ true → has_bit twins k ≡ true }
+{
+    let mut given = Seats::none();
+    let Some(mut sent) = slots[own].take() else {
+        return given;
+    };
+    sent.share();
+    for place in 0..SLOTS {
+        given = given.or(give_at(&mut slots[place], place, twins, &sent, screen));
+    }
+    seat_in(&mut slots[own], sent);
+    given
+}
+
+// Whoever sits there is given the update of a twin, if it is one of them and the update is shared.
+fn give_at(
+    slot: &mut Option<ShareSeat>,
+    place: usize,
+    twins: Seats,
+    sent: &ShareSeat,
+    screen: &Picture<Colour>,
+) -> Seats
+    requires place { place < 8 }
+    requires twin { has_bit twins place ≡ true → IsHeirOf screen.now sent.now slot.old }
+    ensures only { (k : ℕ) → has_bit result k ≡ true → k ≡ place }
+    ensures within { (k : ℕ) → has_bit result k ≡ true → has_bit twins k ≡ true }
+    ensures given { has_bit result place ≡ true →
+        IsGiven screen.now (Some sent.now) slot.old slot.new }
+    ensures follows { has_bit result place ≡ true →
+        ForSome slot.new (λ seat. Follows screen.now (session_at seat)) }
+    ensures none { has_bit result place ≡ false → slot.new ≡ slot.old }
+{
+    let seat = Seat::at(place);
+    if !twins.has(seat) {
+        return Seats::none();
+    }
+    if give(slot, sent, screen) {
+        return Seats::none().with(seat);
+    }
+    Seats::none()
+}
+
+// The same of one who is.
+fn give(slot: &mut Option<ShareSeat>, sent: &ShareSeat, screen: &Picture<Colour>) -> bool
+    requires { IsHeirOf screen.now sent.now slot.old }
+    ensures given { OnTrue result (IsGiven screen.now (Some sent.now) slot.old slot.new) }
+    ensures follows { OnTrue result
+        (ForSome slot.new (λ seat. Follows screen.now (session_at seat))) }
+    ensures none { OnFalse result (slot.new ≡ slot.old) }
+{
+    match slot {
+        Some(seat) => seat.take_over(screen, sent),
+        None => false,
+    }
+}
