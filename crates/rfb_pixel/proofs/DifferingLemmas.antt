@@ -20,29 +20,29 @@ one_tells : (b : Bool) → nat_eq (cond b 1 0) 1 ≡ b
 one_tells true = refl
 one_tells false = refl
 
+-- sixteen lanes of each
+length-differ : (xs ys : List ℕ) (at : ℕ) → at + 16 ≤ length xs → at + 16 ≤ length ys →
+    length (differ (chunk at 16 xs) (chunk at 16 ys)) ≡ 16
+length-differ xs ys at left right =
+    let long_x = length-chunk at 16 xs left in
+    let long_y = length-chunk at 16 ys right in
+    length-zip2 (λ a b. not (eqb a b)) (chunk at 16 xs) (chunk at 16 ys) (long_x ∙ sym long_y) ∙ long_x
+
 pub sixteen_is : (xs ys : List ℕ) (at : ℕ) → at + 16 ≤ length xs → at + 16 ≤ length ys →
     mask_l (map (top (hbits w32))
     (zip2 (λ a b. cond (not (eqb a b)) (2 ^ bits w32 - 1) 0) (chunk at 16 xs) (chunk at 16 ys))) % 2 ^ 64
     ≡ mask_l (differ (chunk at 16 xs) (chunk at 16 ys))
 sixteen_is xs ys at left right =
-    let long_x = length-chunk at 16 xs left in
-    let long_y = length-chunk at 16 ys right in
     let ms = differ (chunk at 16 xs) (chunk at 16 ys) in
-    let long : length ms ≡ 16 =
-    length-zip2 (λ a b. not (eqb a b)) (chunk at 16 xs) (chunk at 16 ys) (long_x ∙ sym long_y) ∙ long_x in
+    let long = length-differ xs ys at left right in
     ap (λ ms. mask_l ms % 2 ^ 64) (tops_compared w32 (λ a b. not (eqb a b)) (chunk at 16 xs) (chunk at 16 ys))
     ∙ mask_l-mod ms 64 (omega (arith, long))
 
 pub sixteen_bound : (xs ys : List ℕ) (at : ℕ) → at + 16 ≤ length xs → at + 16 ≤ length ys →
     mask_l (differ (chunk at 16 xs) (chunk at 16 ys)) < 2 ^ 16
 sixteen_bound xs ys at left right =
-    let long_x = length-chunk at 16 xs left in
-    let long_y = length-chunk at 16 ys right in
-    let ms = differ (chunk at 16 xs) (chunk at 16 ys) in
-    let long : length ms ≡ 16 =
-    length-zip2 (λ a b. not (eqb a b)) (chunk at 16 xs) (chunk at 16 ys) (long_x ∙ sym long_y) ∙ long_x in
-    let less : mask_l ms < 2 ^ length ms = mask_l-lt ms in
-    rw long at less
+    let less = mask_l-lt (differ (chunk at 16 xs) (chunk at 16 ys)) in
+    rw (length-differ xs ys at left right) at less
 
 pub sixteen_bits : (xs ys : List ℕ) (at i : ℕ) → at + 16 ≤ length xs → at + 16 ≤ length ys → i < 16 →
     nat_eq (bit_at (mask_l (differ (chunk at 16 xs) (chunk at 16 ys))) i) 1

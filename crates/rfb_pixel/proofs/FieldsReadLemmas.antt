@@ -64,8 +64,7 @@ pub green_refused : (bytes : List ℕ) (red : Channel) (e : FormatFault) → Hea
 green_refused bytes red e head r g =
     let red_is = read_field (number_at 4 bytes) (slice_index bytes 10) red r in
     let green = refuses_field (number_at 6 bytes) (slice_index bytes 11) e g in
-    let red_max = red_is.0 in
-    rw (green.1, head.0, head.1, head.2, red_max, green.0) refl
+    rw (green.1, head.0, head.1, head.2, red_is.0, green.0) refl
 
 pub blue_refused : (bytes : List ℕ) (red green : Channel) (e : FormatFault) → HeadPasses bytes →
     Ok red ≡ field_read (number_at 4 bytes) (slice_index bytes 10) →
@@ -75,9 +74,7 @@ blue_refused bytes red green e head r g b =
     let red_is = read_field (number_at 4 bytes) (slice_index bytes 10) red r in
     let green_is = read_field (number_at 6 bytes) (slice_index bytes 11) green g in
     let blue = refuses_field (number_at 8 bytes) (slice_index bytes 12) e b in
-    let red_max = red_is.0 in
-    let green_max = green_is.0 in
-    rw (blue.1, head.0, head.1, head.2, red_max, green_max, blue.0) refl
+    rw (blue.1, head.0, head.1, head.2, red_is.0, green_is.0, blue.0) refl
 
 -- the checks that are left once the maxima are read
 pub after_maxima : (bytes : List ℕ) (red green blue : Channel) → HeadPasses bytes →
@@ -89,7 +86,4 @@ after_maxima bytes red green blue head r g b =
     let red_is = read_field (number_at 4 bytes) (slice_index bytes 10) red r in
     let green_is = read_field (number_at 6 bytes) (slice_index bytes 11) green g in
     let blue_is = read_field (number_at 8 bytes) (slice_index bytes 12) blue b in
-    let red_max = red_is.0 in
-    let green_max = green_is.0 in
-    let blue_max = blue_is.0 in
-    rw (red_is.1, green_is.1, blue_is.1, head.0, head.1, head.2, red_max, green_max, blue_max) refl
+    rw (red_is.1, green_is.1, blue_is.1, head.0, head.1, head.2, red_is.0, green_is.0, blue_is.0) refl

@@ -110,6 +110,13 @@ pixel_of-outside f c ok small i out =
     (field_for-lt f.bits_per_pixel f.blue c.b ok.blue small.2) out.blue in
     bit_at-pixel_of f c i ∙ rw (red, green, blue) refl
 
+-- a field holds the value whose bits, at its shift, the pixel has there
+held_alone : (c : Channel) (pixel held : ℕ) → held < 2 ^ c.width →
+    ((i : ℕ) → IsInField c i → bit_at pixel i ≡ bit_at (held * 2 ^ c.shift) i) → held_in c pixel ≡ held
+held_alone c pixel held small same =
+    held_in-is c pixel held small
+    (λ i low. same (c.shift + i) (omega arith, omega arith) ∙ bit_at-placed c.shift held i)
+
 -- each field of a colour's pixel value holds its component, rounded
 pub pixel_of-fields : (f : PixelFormat) (c : Colour) → IsFormat f → IsColour c →
     FieldsHold f c (pixel_of f c)
@@ -127,30 +134,13 @@ pixel_of-fields f c ok small =
     λ (i : ℕ) (out : IsInField f.blue i → ⊥).
     bit_at-outside f.blue (field_for f.blue c.b) i blue_small out in
     record {
-      red = held_in-is f.red (pixel_of f c) (field_for f.red c.r) red_small (λ i low.
-          let here : IsInField f.red (f.red.shift + i) = (omega arith, omega arith) in
-          let own = bit_at-placed f.red.shift (field_for f.red c.r) i in
-          let green = green_out (f.red.shift + i)
-          (λ there. ok.red_green (f.red.shift + i) here there) in
-          let blue = blue_out (f.red.shift + i)
-          (λ there. ok.red_blue (f.red.shift + i) here there) in
-          bit_at-pixel_of f c (f.red.shift + i) ∙ rw (own, green, blue) (omega arith));
-      green = held_in-is f.green (pixel_of f c) (field_for f.green c.g) green_small (λ i low.
-          let here : IsInField f.green (f.green.shift + i) = (omega arith, omega arith) in
-          let own = bit_at-placed f.green.shift (field_for f.green c.g) i in
-          let red = red_out (f.green.shift + i)
-          (λ there. ok.red_green (f.green.shift + i) there here) in
-          let blue = blue_out (f.green.shift + i)
-          (λ there. ok.green_blue (f.green.shift + i) here there) in
-          bit_at-pixel_of f c (f.green.shift + i) ∙ rw (red, own, blue) (omega arith));
-      blue = held_in-is f.blue (pixel_of f c) (field_for f.blue c.b) blue_small (λ i low.
-          let here : IsInField f.blue (f.blue.shift + i) = (omega arith, omega arith) in
-          let own = bit_at-placed f.blue.shift (field_for f.blue c.b) i in
-          let red = red_out (f.blue.shift + i)
-          (λ there. ok.red_blue (f.blue.shift + i) there here) in
-          let green = green_out (f.blue.shift + i)
-          (λ there. ok.green_blue (f.blue.shift + i) there here) in
-          bit_at-pixel_of f c (f.blue.shift + i) ∙ rw (red, green, own) (omega arith));
+      red = held_alone f.red (pixel_of f c) (field_for f.red c.r) red_small (λ i here. bit_at-pixel_of f c i
+          ∙ rw (green_out i (ok.red_green i here), blue_out i (ok.red_blue i here)) (omega arith));
+      green = held_alone f.green (pixel_of f c) (field_for f.green c.g) green_small (λ i here. bit_at-pixel_of f c i
+          ∙ rw (red_out i (λ there. ok.red_green i there here), blue_out i (ok.green_blue i here)) (omega arith));
+      blue = held_alone f.blue (pixel_of f c) (field_for f.blue c.b) blue_small (λ i here. bit_at-pixel_of f c i
+          ∙ rw (red_out i (λ there. ok.red_blue i there here), green_out i (λ there. ok.green_blue i there here))
+          (omega arith));
     }
 
 -- a field at its shift fits the pixel

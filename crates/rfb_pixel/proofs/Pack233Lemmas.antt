@@ -6,20 +6,10 @@ use Rattle.rfb_pixel.specs.declared.colour.Colour.{Colour}
 use Rattle.rfb_pixel.specs.Channel.{rescaled}
 use Rattle.rfb_pixel.specs.Format.{IsColour, pixel_of, bgr233}
 
--- a component in the upper three, or two, bits of a lane
+-- a component in the upper three bits of a lane
 three : (component : ℕ) → component ≤ 65535 →
     (component * 57345 % 4294967296 / 65536 + 4096) % 65536 / 8192 ≡ rescaled 65535 7 component
 three component fits = omega (arith, fits)
-
-two : (component : ℕ) → component ≤ 65535 →
-    (component * 49153 % 4294967296 / 65536 + 8192) % 65536 / 16384 ≡ rescaled 65535 3 component
-two component fits = omega (arith, fits)
-
-below_three : (component : ℕ) → component ≤ 65535 → rescaled 65535 7 component < 8
-below_three component fits = omega (arith, fits)
-
-below_two : (component : ℕ) → component ≤ 65535 → rescaled 65535 3 component < 4
-below_two component fits = omega (arith, fits)
 
 joined : (r g b : ℕ) → r < 8 → g < 8 → b < 4 →
     ((r + g * 8 % 65536) % 65536 + b * 64 % 65536) % 65536 ≡ bit_or (bit_or (r * 2 ^ 0) (g * 2 ^ 3)) (b * 2 ^ 6)
@@ -39,9 +29,11 @@ lane c =
 -- it is the pixel
 pub packed : (c : Colour) → IsColour c → lane c ≡ pixel_of bgr233 c
 packed c fits =
-    rw (three c.r fits.0, three c.g fits.1, two c.b fits.2)
-    (joined (rescaled 65535 7 c.r) (rescaled 65535 7 c.g) (rescaled 65535 3 c.b) (below_three c.r fits.0)
-    (below_three c.g fits.1) (below_two c.b fits.2))
+    let two : (c.b * 49153 % 4294967296 / 65536 + 8192) % 65536 / 16384 ≡ rescaled 65535 3 c.b =
+    omega (arith, fits.2) in
+    rw (three c.r fits.0, three c.g fits.1, two)
+    (joined (rescaled 65535 7 c.r) (rescaled 65535 7 c.g) (rescaled 65535 3 c.b) (omega (arith, fits.0))
+    (omega (arith, fits.1)) (omega (arith, fits.2)))
 
 -- fields of three, three and two bits come to a byte
 pub below_pixel : (r g b : ℕ) →

@@ -6,20 +6,10 @@ use Rattle.rfb_pixel.specs.declared.colour.Colour.{Colour}
 use Rattle.rfb_pixel.specs.Channel.{rescaled}
 use Rattle.rfb_pixel.specs.Format.{IsColour, pixel_of, rgb565}
 
--- a component in the upper five, or six, bits of a lane
+-- a component in the upper five bits of a lane
 five : (component : ℕ) → component ≤ 65535 →
     (component * 63489 % 4294967296 / 65536 + 1024) % 65536 / 2048 ≡ rescaled 65535 31 component
 five component fits = omega (arith, fits)
-
-six : (component : ℕ) → component ≤ 65535 →
-    (component * 64513 % 4294967296 / 65536 + 512) % 65536 / 1024 ≡ rescaled 65535 63 component
-six component fits = omega (arith, fits)
-
-below_five : (component : ℕ) → component ≤ 65535 → rescaled 65535 31 component < 32
-below_five component fits = omega (arith, fits)
-
-below_six : (component : ℕ) → component ≤ 65535 → rescaled 65535 63 component < 64
-below_six component fits = omega (arith, fits)
 
 joined : (r g b : ℕ) → r < 32 → g < 64 → b < 32 →
     ((r * 2048 % 65536 + g * 32 % 65536) % 65536 + b) % 65536 ≡ bit_or (bit_or (r * 2 ^ 11) (g * 2 ^ 5)) (b * 2 ^ 0)
@@ -39,9 +29,11 @@ lane c =
 -- it is the pixel
 pub packed : (c : Colour) → IsColour c → lane c ≡ pixel_of rgb565 c
 packed c fits =
-    rw (five c.r fits.0, six c.g fits.1, five c.b fits.2)
-    (joined (rescaled 65535 31 c.r) (rescaled 65535 63 c.g) (rescaled 65535 31 c.b) (below_five c.r fits.0)
-    (below_six c.g fits.1) (below_five c.b fits.2))
+    let six : (c.g * 64513 % 4294967296 / 65536 + 512) % 65536 / 1024 ≡ rescaled 65535 63 c.g =
+    omega (arith, fits.1) in
+    rw (five c.r fits.0, six, five c.b fits.2)
+    (joined (rescaled 65535 31 c.r) (rescaled 65535 63 c.g) (rescaled 65535 31 c.b) (omega (arith, fits.0))
+    (omega (arith, fits.1)) (omega (arith, fits.2)))
 
 -- a lane has sixteen bits
 pub below_pixel : (n : ℕ) → n % 65536 < 2 ^ 16

@@ -9,13 +9,12 @@ use crate::colour::Colour;
 use std::simd::{u8x16, u16x8};
 
 mod bgr233;
+mod formats;
 mod rgb565;
 mod rgb888;
 mod widening;
 
-pub use bgr233::{pack_eight_bgr233, unpack_eight_bgr233};
-pub use rgb565::{pack_eight_rgb565, unpack_eight_rgb565};
-pub use rgb888::{pack_eight_rgb888, unpack_eight_rgb888};
+pub use formats::{BGR233, RGB565, RGB888, laned, laned_size, pack_eight, unpack_eight};
 pub use widening::widen_eight;
 
 /// How many pixels are taken at once.

@@ -1,7 +1,8 @@
 -- Eight colours in three vectors, whose components stand one after another.
-use Rattle.std.specs.Prelude.{ℕ, ◌≡◌, ◌<◌, ◌*◌, ◌^◌, drop, List, [], ◌∷◌, slice_index, slice_index_or}
+use Rattle.std.specs.Prelude.{ℕ, ◌≡◌, ◌<◌, ◌*◌, ◌^◌, ◌==◌, if◌then◌else◌, drop, List, []}
+use Rattle.std.specs.Prelude.{◌∷◌, slice_index, slice_index_or}
 use Rattle.rfb_pixel.specs.declared.colour.Colour.{Colour}
-use Rattle.rfb_pixel.specs.Format.{PixelFormat, pixel_of, pixel_number, colour_of, size_of}
+use Rattle.rfb_pixel.specs.Format.{PixelFormat, pixel_of, pixel_number, colour_of, size_of, rgb888, rgb565, bgr233}
 
 abbrev pub of_three : ℕ → ℕ → ℕ → Colour
 of_three red green blue = record { r = red; g = green; b = blue }
@@ -19,11 +20,16 @@ colours_in x y z =
     ∷ of_three (slice_index z 5) (slice_index z 6) (slice_index z 7)
     ∷ []
 
--- the first pixels of a row are those of its colours, and fit four bytes
+-- the formats that have lanes, by number
+abbrev pub laned : ℕ → PixelFormat
+laned number = if number == 0 then rgb888 else (if number == 1 then rgb565 else bgr233)
+
+-- the first pixels of a row are those of its colours, and fit the bytes of a pixel
 abbrev pub ArePacked : PixelFormat → ℕ → List Colour → List ℕ → Type 0
 ArePacked f n colours pixels =
     (k : ℕ) (d : Colour) → k < n →
-    (slice_index pixels k ≡ pixel_of f (slice_index_or colours k d)) × (slice_index pixels k < 2 ^ 32)
+    (slice_index pixels k ≡ pixel_of f (slice_index_or colours k d))
+    × (slice_index pixels k < 2 ^ (8 * size_of f))
 
 -- the first colours of a row are those of its pixels' bytes
 abbrev pub AreUnpacked : PixelFormat → ℕ → List ℕ → List Colour → Type 0

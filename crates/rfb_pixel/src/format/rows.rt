@@ -1,16 +1,13 @@
 //! Rows of pixels: their values of colours, and colours of their bytes.
 
 ghost use Rattle.std.specs.Prelude.{◌≡◌, ◌+◌, ◌*◌, ◌≤◌, length, map};
-ghost use Rattle.rfb_pixel.specs.Format.{bgr233, rgb565, rgb888, size_of, pixel_of};
+ghost use Rattle.rfb_pixel.specs.Format.{rgb888, size_of, pixel_of};
 ghost use Rattle.rfb_pixel.specs.Format.{ArePixels, AreColours};
-ghost use Rattle.rfb_pixel.specs.inside.Lanes.{ArePacked, AreUnpacked};
+ghost use Rattle.rfb_pixel.specs.inside.Lanes.{ArePacked, AreUnpacked, laned};
 
 use crate::colour::Colour;
 use crate::format::Format;
-use crate::lanes::{
-    LANES, pack_eight_bgr233, pack_eight_rgb565, pack_eight_rgb888, unpack_eight_bgr233,
-    unpack_eight_rgb565, unpack_eight_rgb888,
-};
+use crate::lanes::{BGR233, LANES, RGB565, RGB888, laned, laned_size, pack_eight, unpack_eight};
 
 impl Format {
     /// Writes the pixel value of each colour of a row. Each fits the format's size.
@@ -23,9 +20,9 @@ impl Format {
         if *self == Format::rgb888() {
             pack_rgb888(colours, pixels);
         } else if *self == Format::rgb565() {
-            pack_rgb565(colours, pixels);
+            pack_by_eights::<RGB565>(colours, pixels);
         } else if *self == Format::bgr233() {
-            pack_bgr233(colours, pixels);
+            pack_by_eights::<BGR233>(colours, pixels);
         } else {
             pack_other(*self, colours, pixels);
         }
@@ -43,9 +40,9 @@ impl Format {
         if *self == Format::rgb888() {
             unpack_rgb888(bytes, colours);
         } else if *self == Format::rgb565() {
-            unpack_rgb565(bytes, colours);
+            unpack_by_eights::<RGB565>(bytes, colours);
         } else if *self == Format::bgr233() {
-            unpack_bgr233(bytes, colours);
+            unpack_by_eights::<BGR233>(bytes, colours);
         } else {
             unpack_singly(*self, bytes, colours);
         }
@@ -76,8 +73,8 @@ fn pack_rgb888(colours: &[Colour], pixels: &mut [u32])
         return;
     }
     if colours.len() < 2 * LANES {
-        pack_eight_at(colours, 0, pixels);
-        pack_eight_at(colours, colours.len() - LANES, pixels);
+        pack_eight_at::<RGB888>(colours, 0, pixels);
+        pack_eight_at::<RGB888>(colours, colours.len() - LANES, pixels);
         return;
     }
     let last = colours.len() - 2 * LANES;
@@ -98,58 +95,39 @@ fn pack_sixteen_at(colours: &[Colour], at: usize, pixels: &mut [u32])
     ensures packed { ArePacked rgb888 (at + 16) colours.now pixels.new }
     ensures len { length pixels.new ≡ length pixels.old }
 {
-    pack_eight_at(colours, at, pixels);
-    pack_eight_at(colours, at + LANES, pixels);
+    pack_eight_at::<RGB888>(colours, at, pixels);
+    pack_eight_at::<RGB888>(colours, at + LANES, pixels);
 }
 
-// The same of eight.
+// The same of eight, in the format of that number.
 #[inline(always)]
-fn pack_eight_at(colours: &[Colour], at: usize, pixels: &mut [u32])
+fn pack_eight_at<const NUMBER: usize>(colours: &[Colour], at: usize, pixels: &mut [u32])
     requires within { at + 8 ≤ length colours.now }
     requires len { length colours.now ≡ length pixels.old }
-    requires front { ArePacked rgb888 at colours.now pixels.old }
-    ensures packed { ArePacked rgb888 (at + 8) colours.now pixels.new }
+    requires front { ArePacked (laned NUMBER) at colours.now pixels.old }
+    ensures packed { ArePacked (laned NUMBER) (at + 8) colours.now pixels.new }
     ensures len { length pixels.new ≡ length pixels.old }
 {
-    pack_eight_rgb888(&colours[at..at + LANES]).copy_to_slice(&mut pixels[at..]);
+    pack_eight::<NUMBER>(&colours[at..at + LANES]).copy_to_slice(&mut pixels[at..]);
 }
 
-// The same in rgb565.
-fn pack_rgb565(colours: &[Colour], pixels: &mut [u32])
+// The same of a row, by eight colours at once.
+fn pack_by_eights<const NUMBER: usize>(colours: &[Colour], pixels: &mut [u32])
     requires { length colours.now ≡ length pixels.old }
-    ensures value { pixels.new ≡ map (pixel_of rgb565) colours.now }
-    ensures bound { ArePixels rgb565 pixels.new }
+    ensures value { pixels.new ≡ map (pixel_of (laned NUMBER)) colours.now }
+    ensures bound { ArePixels (laned NUMBER) pixels.new }
 {
     if colours.len() < LANES {
-        pack_other(Format::rgb565(), colours, pixels);
+        pack_other(laned::<NUMBER>(), colours, pixels);
         return;
     }
     let last = colours.len() - LANES;
     let mut at = 0;
     while at < last {
-        pack_eight_rgb565(&colours[at..at + LANES]).copy_to_slice(&mut pixels[at..]);
+        pack_eight_at::<NUMBER>(colours, at, pixels);
         at += LANES;
     }
-    pack_eight_rgb565(&colours[last..]).copy_to_slice(&mut pixels[last..]);
-}
-
-// The same in bgr233.
-fn pack_bgr233(colours: &[Colour], pixels: &mut [u32])
-    requires { length colours.now ≡ length pixels.old }
-    ensures value { pixels.new ≡ map (pixel_of bgr233) colours.now }
-    ensures bound { ArePixels bgr233 pixels.new }
-{
-    if colours.len() < LANES {
-        pack_other(Format::bgr233(), colours, pixels);
-        return;
-    }
-    let last = colours.len() - LANES;
-    let mut at = 0;
-    while at < last {
-        pack_eight_bgr233(&colours[at..at + LANES]).copy_to_slice(&mut pixels[at..]);
-        at += LANES;
-    }
-    pack_eight_bgr233(&colours[last..]).copy_to_slice(&mut pixels[last..]);
+    pack_eight_at::<NUMBER>(colours, last, pixels);
 }
 
 // Writes the colour of each pixel, by one loop for every format.
@@ -188,8 +166,8 @@ fn unpack_rgb888(bytes: &[u8], colours: &mut [Colour])
         return;
     }
     if colours.len() < 2 * LANES {
-        unpack_eight_at(bytes, 0, colours);
-        unpack_eight_at(bytes, colours.len() - LANES, colours);
+        unpack_eight_at::<RGB888>(bytes, 0, colours);
+        unpack_eight_at::<RGB888>(bytes, colours.len() - LANES, colours);
         return;
     }
     let last = colours.len() - 2 * LANES;
@@ -210,56 +188,39 @@ fn unpack_sixteen_at(bytes: &[u8], at: usize, colours: &mut [Colour])
     ensures unpacked { AreUnpacked rgb888 (at + 16) bytes.now colours.new }
     ensures len { length colours.new ≡ length colours.old }
 {
-    unpack_eight_at(bytes, at, colours);
-    unpack_eight_at(bytes, at + LANES, colours);
+    unpack_eight_at::<RGB888>(bytes, at, colours);
+    unpack_eight_at::<RGB888>(bytes, at + LANES, colours);
 }
 
-// The same of eight.
+// The same of eight, of the format of that number.
 #[inline(always)]
-fn unpack_eight_at(bytes: &[u8], at: usize, colours: &mut [Colour])
+fn unpack_eight_at<const NUMBER: usize>(bytes: &[u8], at: usize, colours: &mut [Colour])
     requires within { at + 8 ≤ length colours.old }
-    requires bytes { length bytes.now ≡ length colours.old * 4 }
-    requires front { AreUnpacked rgb888 at bytes.now colours.old }
-    ensures unpacked { AreUnpacked rgb888 (at + 8) bytes.now colours.new }
+    requires bytes { length bytes.now ≡ length colours.old * size_of (laned NUMBER) }
+    requires front { AreUnpacked (laned NUMBER) at bytes.now colours.old }
+    ensures unpacked { AreUnpacked (laned NUMBER) (at + 8) bytes.now colours.new }
     ensures len { length colours.new ≡ length colours.old }
 {
-    unpack_eight_rgb888(&bytes[at * 4..at * 4 + 32], &mut colours[at..at + LANES]);
+    let size = laned_size::<NUMBER>();
+    let part = &bytes[at * size..at * size + LANES * size];
+    unpack_eight::<NUMBER>(part, &mut colours[at..at + LANES]);
 }
 
-// The same of rgb565.
+// The same of a row, by eight pixels at once.
 #[inline(never)]
-fn unpack_rgb565(bytes: &[u8], colours: &mut [Colour])
-    requires { length bytes.now ≡ length colours.old * 2 }
-    ensures { AreColours rgb565 bytes.now colours.new }
+fn unpack_by_eights<const NUMBER: usize>(bytes: &[u8], colours: &mut [Colour])
+    requires { length bytes.now ≡ length colours.old * size_of (laned NUMBER) }
+    ensures { AreColours (laned NUMBER) bytes.now colours.new }
 {
     if colours.len() < LANES {
-        unpack_singly(Format::rgb565(), bytes, colours);
+        unpack_singly(laned::<NUMBER>(), bytes, colours);
         return;
     }
     let last = colours.len() - LANES;
     let mut at = 0;
     while at < last {
-        unpack_eight_rgb565(&bytes[at * 2..at * 2 + 16], &mut colours[at..at + LANES]);
+        unpack_eight_at::<NUMBER>(bytes, at, colours);
         at += LANES;
     }
-    unpack_eight_rgb565(&bytes[last * 2..], &mut colours[last..]);
-}
-
-// The same of bgr233.
-#[inline(never)]
-fn unpack_bgr233(bytes: &[u8], colours: &mut [Colour])
-    requires { length bytes.now ≡ length colours.old }
-    ensures { AreColours bgr233 bytes.now colours.new }
-{
-    if colours.len() < LANES {
-        unpack_singly(Format::bgr233(), bytes, colours);
-        return;
-    }
-    let last = colours.len() - LANES;
-    let mut at = 0;
-    while at < last {
-        unpack_eight_bgr233(&bytes[at..at + LANES], &mut colours[at..at + LANES]);
-        at += LANES;
-    }
-    unpack_eight_bgr233(&bytes[last..], &mut colours[last..]);
+    unpack_eight_at::<NUMBER>(bytes, last, colours);
 }

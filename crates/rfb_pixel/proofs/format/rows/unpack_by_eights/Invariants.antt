@@ -1,0 +1,14 @@
+use Rattle.std.proofs.Common.{◌≡◌, ◌+◌, ◌-◌, ◌≤◌, length}
+use Rattle.rfb_pixel.specs.inside.Lanes.{AreUnpacked, laned}
+use Rattle.rfb_pixel.proofs.format.rows.unpack_by_eights.Given as goal
+
+abbrev pub invariant-loop-at : goal.invariant-loop-at
+invariant-loop-at g l = record {
+  last : l.last + 8 ≡ length l.colours;
+  within : l.at ≤ length l.colours;
+  len : length l.colours ≡ length l.fn.colours;
+  unpacked : AreUnpacked (laned g.row.NUMBER) l.at l.bytes l.colours;
+}
+
+abbrev pub decreases-loop-at : goal.decreases-loop-at
+decreases-loop-at g l = l.last - l.at
