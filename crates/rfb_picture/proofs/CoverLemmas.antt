@@ -1,5 +1,5 @@
 -- All places of a zone, by cells, and the bits of a row.
-use Rattle.std.proofs.Common.{ℕ, Bool, true, false, ◌≡◌, ◌+◌, ◌-◌, ◌*◌, ◌/◌, ◌%◌, ◌<◌, ◌≤◌, ◌&&◌, min, refl, sym, ◌∙◌}
+use Rattle.std.proofs.Common.{ℕ, Bool, true, false, ◌≡◌, ◌+◌, ◌-◌, ◌*◌, ◌/◌, ◌%◌, ◌<◌, ◌≤◌, ◌&&◌, ◌||◌, min, refl, sym, ◌∙◌}
 use Rattle.std.proofs.Common.{arith, nat_le, nat_lt, inl, inr}
 use Rattle.std.proofs.lemmas.Bool.{or_cases}
 use Rattle.std.proofs.lemmas.Bool.Decides.{nat_tests}
@@ -9,7 +9,7 @@ use Rattle.rfb_picture.specs.declared.place_set.layers.Layers.{Layers}
 use Rattle.rfb_picture.specs.Rect.{contains}
 use Rattle.rfb_picture.specs.Grid.{Holds}
 use Rattle.rfb_picture.specs.Box.{is_in}
-use Rattle.rfb_picture.specs.Places.{has_bit, AllMarked}
+use Rattle.rfb_picture.specs.Places.{has_bit, AllMarked, HasRowBits}
 use Rattle.rfb_picture.specs.inside.Cells.{in_column}
 use Rattle.rfb_picture.specs.inside.PlaceSet.{in_set, layered}
 use Rattle.rfb_picture.proofs.GridLemmas.{contains_true, contains_row}
@@ -91,7 +91,7 @@ and_same true b c same = same refl
 and_same false b c same = refl
 
 -- a place of a cell's row tells by its cell
-pub bits-layered : (l : Layers) (x y i : ℕ) (b : Bool) →
+bits-layered : (l : Layers) (x y i : ℕ) (b : Bool) →
     x % 64 ≡ 0 →
     i < 64 →
     y < l.places.height →
@@ -104,6 +104,12 @@ bits-layered l x y i b start low q same =
     let p : x + i < l.places.width = grind (arith, nat_tests) in
     at-layered l (x + i) y false p q ∙ same p)
 
--- the cell of such a place
-pub cell_of_row : (x i : ℕ) → x % 64 ≡ 0 → i < 64 → (x + i) / 64 ≡ x / 64
-cell_of_row x i start low = omega arith
+-- so the bits of a cell's row tell by the cell
+pub row_bits-layered : (l : Layers) (x y bits : ℕ) (full used : Bool) → x % 64 ≡ 0 → y < l.places.height →
+    is_in l.full (x / 64) (y / 64) ≡ full → is_in l.used (x / 64) (y / 64) ≡ used →
+    ((i : ℕ) → i < 64 →
+    has_bit bits i ≡ (nat_lt (x + i) l.places.width && (full || (used && is_in l.places (x + i) y)))) →
+    HasRowBits (layered l) x y bits
+row_bits-layered l x y bits full used start q f u each = λ i low.
+    let cell : (x + i) / 64 ≡ x / 64 = omega (arith, start, low) in
+    each i low ∙ sym (bits-layered l x y i _ start low q (λ p. rw (cell, f, u) refl))

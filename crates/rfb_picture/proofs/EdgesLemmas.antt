@@ -73,23 +73,37 @@ edges_of_column q start top bottom g is =
       );
     }
 
+-- where the marked places of two zones are the same, so are their edges
+edges_same : (p q : ℕ → ℕ → Bool) (zone all : Rect) (e : Edges) →
+    ((x y : ℕ) → contains zone x y ≡ true → p x y ≡ true →
+    (contains all x y ≡ true) × (q x y ≡ true)) →
+    ((x y : ℕ) → contains all x y ≡ true → q x y ≡ true →
+    (contains zone x y ≡ true) × (p x y ≡ true)) →
+    IsEdges p zone e → IsEdges q all e
+edges_same p q zone all e there back was =
+    let (y0, in0, m0) = was.at_left in
+    let (y1, in1, m1) = was.at_right in
+    let (x0, in2, m2) = was.at_top in
+    let (x1, in3, m3) = was.at_bottom in
+    let left = there e.left y0 in0 m0 in
+    let right = there e.right y1 in1 m1 in
+    let top = there x0 e.top in2 m2 in
+    let bottom = there x1 e.bottom in3 m3 in
+    record {
+      holds = λ x y c m. let here = back x y c m in was.holds x y here.0 here.1;
+      at_left = (y0, left.0, left.1);
+      at_right = (y1, right.0, right.1);
+      at_top = (x0, top.0, top.1);
+      at_bottom = (x1, bottom.0, bottom.1);
+    }
+
 -- marks that are the same in the zone have the same edges
 pub same_edges : (p q : ℕ → ℕ → Bool) (zone : Rect) (found : Option Edges) →
     ((x y : ℕ) → contains zone x y ≡ true → p x y ≡ q x y) → HasEdges p zone found →
     HasEdges q zone found
 same_edges p q zone None same was = λ x y c. sym (same x y c) ∙ was x y c
 same_edges p q zone (Some e) same was =
-    let (y0, in0, m0) = was.at_left in
-    let (y1, in1, m1) = was.at_right in
-    let (x0, in2, m2) = was.at_top in
-    let (x1, in3, m3) = was.at_bottom in
-    record {
-      holds = λ x y c m. was.holds x y c (same x y c ∙ m);
-      at_left = (y0, in0, sym (same e.left y0 in0) ∙ m0);
-      at_right = (y1, in1, sym (same e.right y1 in1) ∙ m1);
-      at_top = (x0, in2, sym (same x0 e.top in2) ∙ m2);
-      at_bottom = (x1, in3, sym (same x1 e.bottom in3) ∙ m3);
-    }
+    edges_same p q zone zone e (λ x y c m. (c, sym (same x y c) ∙ m)) (λ x y c m. (c, same x y c ∙ m)) was
 
 -- ---- two parts
 
@@ -112,23 +126,13 @@ joined_second p first second all None parts clear was =
       | inr other ↦ was x y other
     ]
 joined_second p first second all (Some e) parts clear was =
-    let within : (x y : ℕ) → contains second x y ≡ true → contains all x y ≡ true =
-    λ x y c. parts x y ∙ or_right (contains first x y) (contains second x y) c in
-    let (y0, in0, m0) = was.at_left in
-    let (y1, in1, m1) = was.at_right in
-    let (x0, in2, m2) = was.at_top in
-    let (x1, in3, m3) = was.at_bottom in
-    record {
-      holds = λ x y c m.
-          elim (or_cases (contains first x y) (contains second x y) (sym (parts x y) ∙ c)) [
-            | inl one ↦ absurd (both_ways (p x y) (clear x y one) m)
-            | inr other ↦ was.holds x y other m
-          ];
-      at_left = (y0, within e.left y0 in0, m0);
-      at_right = (y1, within e.right y1 in1, m1);
-      at_top = (x0, within x0 e.top in2, m2);
-      at_bottom = (x1, within x1 e.bottom in3, m3);
-    }
+    edges_same p p second all e
+    (λ x y c m. (parts x y ∙ or_right (contains first x y) (contains second x y) c, m))
+    (λ x y c m.
+    elim (or_cases (contains first x y) (contains second x y) (sym (parts x y) ∙ c)) [
+      | inl one ↦ absurd (both_ways (p x y) (clear x y one) m)
+      | inr other ↦ (other, m)
+    ]) was
 
 -- the second has no mark
 pub joined_first : (p : ℕ → ℕ → Bool) (first second all : Rect) (found : Option Edges) →

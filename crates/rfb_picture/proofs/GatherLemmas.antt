@@ -1,16 +1,18 @@
 -- Bits of words one above the other, put together: which columns have one,
 -- and the first and last row.
 use Rattle.std.proofs.Common.{ℕ, suc, Bool, true, false, ◌≡◌, ◌+◌, ◌-◌, ◌*◌, ◌/◌, ◌^◌, ◌<◌, ◌≤◌, refl, arith, bit_and}
-use Rattle.std.proofs.Common.{List, slice_index_or, inl, inr}
+use Rattle.std.proofs.Common.{List, slice_index_or, inl, inr, bit_or}
 use Rattle.std.specs.Int.{w64, trailing_zeros, leading_zeros}
 use Rattle.std.proofs.Math.Nat.{one-mul, pow-suc}
 use Rattle.std.proofs.lemmas.Bool.{cases_lt, cases_eq, both_ways, and_parts, and_from, false_from_ne_true}
+use Rattle.std.proofs.lemmas.Bool.{or_cases, or_left, or_right}
 use Rattle.std.proofs.lemmas.Nat.{leading_top, le-div, div_below, pow_pos}
 use Rattle.std.proofs.lemmas.Nat.Bits.{bit_at-trailing_zeros, bit_at_above, bit_at-zero}
 use Rattle.rfb_picture.specs.Places.{has_bit}
 use Rattle.rfb_picture.specs.inside.Plane.{has_at, has_masked}
 use Rattle.rfb_picture.specs.inside.Edges.{NoMarks, HasMark, IsFirstRow, IsLastRow, HasAllBits, IsGathered}
-use Rattle.rfb_picture.proofs.WordLemmas.{has_bit-and}
+use Rattle.rfb_picture.specs.inside.Edges.{HasNoOtherBits}
+use Rattle.rfb_picture.proofs.WordLemmas.{has_bit-and, has_bit-or}
 
 -- ---- one word
 
@@ -109,6 +111,58 @@ none_in_rows words across column mask from to bits each none = λ y i p l m.
     (and_from (has_bit bits i) (has_bit mask i) (each y i p l set) masked) in
     let gone : has_bit (bit_and bits mask) i ≡ false = rw (none, bit_at-zero i) refl in
     both_ways (has_bit (bit_and bits mask) i) gone there)
+
+-- a word that has the bits of one row, and no other
+bits_of_row : (words : List ℕ) (across k row next at : ℕ) → next ≡ row + 1 → at ≡ row * across + k →
+    HasAllBits words across k row next (slice_index_or words at 0)
+    × HasNoOtherBits words across k row next (slice_index_or words at 0)
+bits_of_row words across k row next at after place = (
+  λ y i p l h. let same : y ≡ row = omega (arith, after) in rw place (rw same at h),
+  λ i h. (row, omega arith, omega (arith, after), rw place at h),
+)
+
+-- words that have those of some rows and of the rows after them have together those of all
+pub bits_join : (words : List ℕ) (across k from middle to a b : ℕ) → from ≤ middle → middle ≤ to →
+    HasAllBits words across k from middle a → HasNoOtherBits words across k from middle a →
+    HasAllBits words across k middle to b → HasNoOtherBits words across k middle to b →
+    HasAllBits words across k from to (bit_or a b) × HasNoOtherBits words across k from to (bit_or a b)
+bits_join words across k from middle to a b low high each_a some_a each_b some_b = (
+  λ y i p l h.
+      rw has_bit-or
+      (elim (cases_lt y middle) [
+        | inl above ↦ or_left (has_bit a i) (has_bit b i) (each_a y i p above h)
+        | inr under ↦ or_right (has_bit a i) (has_bit b i) (each_b y i under l h)
+      ]),
+  λ i h.
+      elim (or_cases (has_bit a i) (has_bit b i) (rw has_bit-or at h)) [
+        | inl old ↦ let (y, p, l, m) = some_a i old in (y, p, omega (arith, l, high), m)
+        | inr new ↦ let (y, p, l, m) = some_b i new in (y, omega (arith, p, low), l, m)
+      ],
+)
+
+-- one row more
+pub bits_more : (words : List ℕ) (across k from row bits : ℕ) → from ≤ row →
+    HasAllBits words across k from row bits → HasNoOtherBits words across k from row bits →
+    HasAllBits words across k from (row + 1) (bit_or bits (slice_index_or words (row * across + k) 0))
+    × HasNoOtherBits words across k from (row + 1) (bit_or bits (slice_index_or words (row * across + k) 0))
+bits_more words across k from row bits low each some =
+    let one = bits_of_row words across k row (row + 1) (row * across + k) refl refl in
+    bits_join words across k from row (row + 1) bits _ low (omega arith) each some one.0 one.1
+
+-- four rows
+pub bits_of_four : (words : List ℕ) (across k row at four : ℕ) → at ≡ row * across + k →
+    four ≡ bit_or (bit_or (bit_or (slice_index_or words at 0) (slice_index_or words (at + across) 0))
+    (slice_index_or words (at + 2 * across) 0)) (slice_index_or words (at + 3 * across) 0) →
+    HasAllBits words across k row (row + 4) four × HasNoOtherBits words across k row (row + 4) four
+bits_of_four words across k row at four place is =
+    let a = bits_of_row words across k row (row + 1) at refl place in
+    let b = bits_of_row words across k (row + 1) (row + 2) (at + across) (omega arith) (omega (arith, place)) in
+    let c = bits_of_row words across k (row + 2) (row + 3) (at + 2 * across) (omega arith) (omega (arith, place)) in
+    let d = bits_of_row words across k (row + 3) (row + 4) (at + 3 * across) (omega arith) (omega (arith, place)) in
+    let two = bits_join words across k row (row + 1) (row + 2) _ _ (omega arith) (omega arith) a.0 a.1 b.0 b.1 in
+    let three = bits_join words across k row (row + 2) (row + 3) _ _ (omega arith) (omega arith) two.0 two.1 c.0 c.1 in
+    rw is
+    (bits_join words across k row (row + 3) (row + 4) _ _ (omega arith) (omega arith) three.0 three.1 d.0 d.1)
 
 -- rows and the rows after them that have none are rows that have none
 pub no_marks_join : (q : ℕ → ℕ → Bool) (from middle to : ℕ) →

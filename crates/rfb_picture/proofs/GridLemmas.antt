@@ -239,7 +239,8 @@ module _ {X : Type 0} where
   unfolding uniform
   whole-uniform w h c = length-replicate (h * w) c
 
-  same_parts : (g k : Grid X) → g.width ≡ k.width → g.height ≡ k.height → g.places ≡ k.places →
+  -- grids of one size with the same places are one
+  pub same_parts : (g k : Grid X) → g.width ≡ k.width → g.height ≡ k.height → g.places ≡ k.places →
       g ≡ k
   same_parts g k widths heights places =
       let parts : grid g.width g.height g.places ≡ grid k.width k.height k.places =

@@ -11,9 +11,9 @@ use Rattle.rfb_picture.specs.inside.Lines.{AreLines, IsKept, place_in}
 use Rattle.rfb_picture.proofs.GridLemmas.{index_in_row, contains_true, contains_more, either}
 
 -- a part of a row ends before the places do
-pub line_fits : {X : Type 0} (w h : ℕ) (lines : List ℕ) (places : List X) (x y n : ℕ) →
+pub line_fits : {X : Type 0} {w h : ℕ} {lines : List ℕ} {places : List X} (x y n : ℕ) →
     IsKept w h lines places → y < h → x + n ≤ w → place_in lines w x y + n ≤ length places
-line_fits w h lines places x y n kept q p =
+line_fits {w = w} {h = h} {lines = lines} {places = places} x y n kept q p =
     let over : (slice_index_or lines y 0 + 1) * w ≤ h * w =
     mul-le-mul_right w (omega (arith, kept.lines_are.there y q)) in
     let whole : length places ≡ h * w = kept.whole in

@@ -11,18 +11,11 @@ use Rattle.std.proofs.lemmas.Bool.Decides.{nat_tests}
 use Rattle.std.specs.Vec.{with_items_from}
 use Rattle.rfb_picture.specs.Grid.{Grid, grid, IsGrid, at_or, changed, row_of, with_row, with_run}
 use Rattle.rfb_picture.proofs.GridLemmas.{place_below, changed_is, row_written, same_changes, width-changed}
-use Rattle.rfb_picture.proofs.GridLemmas.{height-changed}
+use Rattle.rfb_picture.proofs.GridLemmas.{height-changed, same_parts}
 use Rattle.rfb_picture.specs.inside.Lines.{AreInOrder, IsKept, IsPicture, place_in, shown}
 use Rattle.rfb_picture.proofs.ShownLemmas.{ordered_lines, shown_is}
 
 module _ {X : Type 0} where
-  same_parts : (g k : Grid X) → g.width ≡ k.width → g.height ≡ k.height → g.places ≡ k.places →
-      g ≡ k
-  same_parts g k widths heights places =
-      let parts : grid g.width g.height g.places ≡ grid k.width k.height k.places =
-      rw (widths, heights, places) in
-      parts
-
   -- values written over a list from index n on
   abbrev pub written_over : List X → ℕ → List X → List X
   written_over xs n ws = take n xs ++ (ws ++ drop (length ws) (drop n xs))

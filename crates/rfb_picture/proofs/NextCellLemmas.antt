@@ -8,18 +8,24 @@ use Rattle.rfb_picture.specs.declared.rect.Rect.{Rect}
 use Rattle.rfb_picture.specs.declared.edges.Edges.{Edges}
 use Rattle.rfb_picture.specs.declared.place_set.layers.Layers.{Layers}
 use Rattle.rfb_picture.specs.Rect.{contains}
+use Rattle.rfb_picture.specs.Grid.{Grid}
 use Rattle.rfb_picture.specs.Box.{is_in}
 use Rattle.rfb_picture.specs.inside.Edges.{IsEdges}
 use Rattle.rfb_picture.specs.Places.{NoneInRow}
 use Rattle.rfb_picture.specs.inside.Marks.{IsNext, AreRowsClear}
 use Rattle.rfb_picture.specs.CellOrder.{cells_in, NoneInCells, HasPlaceIn, HasNextCell, HasCandidate}
-use Rattle.rfb_picture.specs.inside.Cells.{in_column, in_row}
+use Rattle.rfb_picture.specs.inside.Cells.{zone_of}
 use Rattle.rfb_picture.specs.inside.PlaceSet.{in_set, layered, IsLayers, NoneOpen, IsNextOpen, HasNextOpen}
 use Rattle.rfb_picture.specs.inside.Plane.{AreUnused, IsPlane, plane}
 use Rattle.rfb_picture.proofs.GridLemmas.{contains_true, contains_row}
 use Rattle.rfb_picture.proofs.PlaneLemmas.{at-plane, column_below, same_across}
 use Rattle.rfb_picture.proofs.TakenWordLemmas.{none_in_word}
 use Rattle.rfb_picture.proofs.PlaceSetLemmas.{at-layered, cell_below}
+
+-- no cell from one number up to another has a place that is in both
+pub record AreApart (a b : Grid Bool) (from at : ℕ) : Type 0 where
+  pub order : from ≤ at
+  pub none : NoneInCells (λ x y. is_in a x y && is_in b x y) a.width a.height from at
 
 -- ---- open cells, row by row
 
@@ -91,11 +97,6 @@ next_open_is l from row start column begins reached low next before =
     }
 
 -- ---- the places of a cell
-
--- the cell at that column and row of cells, as far as it lies in a picture of that size
-abbrev pub zone_of : ℕ → ℕ → ℕ → ℕ → Rect
-zone_of width height column row =
-    in_row (in_column (record { x = 0; y = 0; w = width; h = height }) column) row
 
 pub in_zone : (width height column row x y : ℕ) →
     x < width → y < height → x / 64 ≡ column → y / 64 ≡ row →

@@ -48,14 +48,18 @@ filled-parts g r p whole all =
     (contains p.left x y) (contains p.right x y) (contains r x y) _ (all x y)))
 
 -- a rectangle with no column or no row has no place
-pub no_place : (r : Rect) (x y : ℕ) → ((0 < r.w × r.h ≤ 0) ⊎ (r.w ≤ 0)) → contains r x y ≡ false
+no_place : (r : Rect) (x y : ℕ) → ((0 < r.w × r.h ≤ 0) ⊎ (r.w ≤ 0)) → contains r x y ≡ false
 no_place r x y (inl e) = let low = e.1 in grind (arith, nat_tests)
 no_place r x y (inr e) = grind (arith, nat_tests)
 
--- so it adds none
-pub filled-none : (g : Grid Bool) (r : Rect) →
+filled-none : (g : Grid Bool) (r : Rect) →
     IsGrid g → ((x y : ℕ) → contains r x y ≡ false) → g ≡ filled r true g
 filled-none g r whole none =
     same_grid g (filled r true g) whole (whole-changed _ g whole) (sym (width-changed _ g))
     (sym (height-changed _ g))
     (λ x y d p q. sym (at-filled r true g x y d whole p q ∙ (rw (none x y) refl)))
+
+-- so it adds none
+pub filled-nowhere : (g : Grid Bool) (r : Rect) → IsGrid g → ((0 < r.w × r.h ≤ 0) ⊎ (r.w ≤ 0)) →
+    g ≡ filled r true g
+filled-nowhere g r whole none = filled-none g r whole (λ x y. no_place r x y none)

@@ -37,6 +37,12 @@ pub at-layered : (l : Layers) (x y : ℕ) (d : Bool) →
     x < l.places.width → y < l.places.height → at_or (layered l) x y d ≡ in_set l x y
 at-layered l x y d p q = at-marked l.places.width l.places.height (in_set l) x y d p q
 
+-- what they say by those of its cell
+pub at-cells : (l : Layers) (x y : ℕ) (full used : Bool) → x < l.places.width → y < l.places.height →
+    is_in l.full (x / 64) (y / 64) ≡ full → is_in l.used (x / 64) (y / 64) ≡ used →
+    at_or (layered l) x y false ≡ (full || (used && is_in l.places x y))
+at-cells l x y full used p q f u = at-layered l x y false p q ∙ (rw (f, u) refl)
+
 pub whole-layered : (l : Layers) → IsGrid (layered l)
 whole-layered l = whole-marked l.places.width l.places.height (in_set l)
 
@@ -89,16 +95,10 @@ layered-none l sound full used =
     none ∙ sym (at-uniform l.places.width l.places.height false x y d p q))
 
 -- a new set has no mark
-pub fresh_sizes : (w h i j : ℕ) (l : Layers) →
-    w < 2 ^ 16 →
-    h < 2 ^ 16 →
-    i ≡ cells_in w →
-    j ≡ cells_in h →
-    l.places ≡ uniform w h false →
-    l.full ≡ uniform i j false →
-    l.used ≡ uniform i j false →
-    IsLayers l
-fresh_sizes w h i j l narrow low wide high places full used = record {
+pub fresh_sizes : {w h i j : ℕ} {l : Layers} → w < 2 ^ 16 → h < 2 ^ 16 →
+    i ≡ cells_in w → j ≡ cells_in h →
+    l.places ≡ uniform w h false → l.full ≡ uniform i j false → l.used ≡ uniform i j false → IsLayers l
+fresh_sizes {w = w} {h = h} {i = i} {j = j} narrow low wide high places full used = record {
   narrow = rw (places, width-uniform) narrow;
   low = rw (places, height-uniform) low;
   all_places = rw places (whole-uniform w h false);
@@ -111,17 +111,10 @@ fresh_sizes w h i j l narrow low wide high places full used = record {
 }
 
 -- so it has no place
-pub layered-fresh : (w h i j : ℕ) (l : Layers) →
-    w < 2 ^ 16 →
-    h < 2 ^ 16 →
-    i ≡ cells_in w →
-    j ≡ cells_in h →
-    l.places ≡ uniform w h false →
-    l.full ≡ uniform i j false →
-    l.used ≡ uniform i j false →
+pub layered-fresh : (w h i j : ℕ) {l : Layers} → IsLayers l →
+    l.places ≡ uniform w h false → l.full ≡ uniform i j false → l.used ≡ uniform i j false →
     layered l ≡ uniform w h false
-layered-fresh w h i j l narrow low wide high places full used =
-    let sound = fresh_sizes w h i j l narrow low wide high places full used in
+layered-fresh w h i j {l = l} sound places full used =
     let full_width : l.full.width ≡ i = rw full (width-uniform i j false) in
     let full_height : l.full.height ≡ j = rw full (height-uniform i j false) in
     let used_width : l.used.width ≡ i = rw used (width-uniform i j false) in

@@ -118,6 +118,14 @@ pub same_across : (w h across : ℕ) (words : List ℕ) (j other : ℕ) (more : 
 same_across w h across words j other more a b = let p = a.room in let q = a.least in let r =
     b.room in let s = b.least in omega arith
 
+-- and that of all words from both sizes
+pub same_length : (w h across : ℕ) (words : List ℕ) (v j other : ℕ) (more : List ℕ) →
+    IsPlane w h across words → IsPlane v j other more → w ≡ v → h ≡ j → length words ≡ length more
+same_length w h across words v j other more a b wide high =
+    let same : across ≡ other = same_across w h across words j other more a (rw wide b) in
+    let product : h * across ≡ j * other = rw (high, same) refl in
+    a.size ∙ product ∙ sym b.size
+
 -- ---- with a rectangle's places
 
 or_is_if : (b c : Bool) → (b || c) ≡ (if c then true else b)

@@ -15,16 +15,18 @@ before_within start len (pos n) = grind arith
 before_within start len (negsuc n) = grind arith
 
 module _ {X : Type 0} where
+  -- a grid that a rectangle lies in holds each that ends no further
+  holds_within : (g : Grid X) (r part : Rect) → Holds g r → part.x + part.w ≤ r.x + r.w →
+      part.y + part.h ≤ r.y + r.h → Holds g part
+  holds_within g r part held columns rows =
+      (omega (arith, held.0, columns), omega (arith, held.1, rows))
+
   pub holds_scrolled_to : (g : Grid X) (r : Rect) (dx dy : ℤ) → Holds g r →
       Holds g (scrolled_to dx dy r)
   holds_scrolled_to g r dx dy held =
-      let columns = after_within r.x r.w dx in
-      let rows = after_within r.y r.h dy in
-      (omega (arith, held.0, columns), omega (arith, held.1, rows))
+      holds_within g r (scrolled_to dx dy r) held (after_within r.x r.w dx) (after_within r.y r.h dy)
 
   pub holds_scrolled_from : (g : Grid X) (r : Rect) (dx dy : ℤ) → Holds g r →
       Holds g (scrolled_from dx dy r)
   holds_scrolled_from g r dx dy held =
-      let columns = before_within r.x r.w dx in
-      let rows = before_within r.y r.h dy in
-      (omega (arith, held.0, columns), omega (arith, held.1, rows))
+      holds_within g r (scrolled_from dx dy r) held (before_within r.x r.w dx) (before_within r.y r.h dy)

@@ -1,8 +1,14 @@
 -- Places of a row that are moved along it, some at once.
-use Rattle.std.proofs.Common.{ℕ, ◌≡◌, ◌+◌, ◌-◌, ◌≤◌, ◌∙◌, ◌⊎◌, List, slice_index_or, ap, arith, inl, inr, true, false}
+use Rattle.std.proofs.Common.{ℕ, ◌≡◌, ◌+◌, ◌-◌, ◌≤◌, ◌∙◌, ◌⊎◌, List, length, slice_index_or, ap, arith, inl, inr, true, false}
 use Rattle.std.proofs.lemmas.Bool.{cases_lt}
 use Rattle.std.proofs.lemmas.Bool.Decides.{nat_tests}
 use Rattle.rfb_picture.specs.inside.Runs.{RunCopied, in_run}
+
+-- the first of the places to be moved have what stood at their source at first
+pub record AreMoved {X : Type 0} (from to done count : ℕ) (old now : List X) : Type 0 where
+  pub within : done ≤ count
+  pub moved : RunCopied from to done old now
+  pub len : length now ≡ length old
 
 -- from the left, where the source lies to the right, or ends before the target
 pub left_more : {X : Type 0} (from to n m : ℕ) (old cur new : List X) →

@@ -24,7 +24,7 @@ module _ {X : Type 0} (w h : ℕ) (lines : List ℕ) where
   pub at-shown : (places : List X) (x y : ℕ) (d : X) → IsKept w h lines places → x < w → y < h →
       at_or (shown w h lines places) x y d ≡ slice_index_or places (place_in lines w x y) d
   at-shown places x y d kept p q =
-      let fits = line_fits w h lines places x y 1 kept q (omega arith) in
+      let fits = line_fits x y 1 kept q (omega arith) in
       let f : ℕ → ℕ → X → X = λ x y old. slice_index_or places (place_in lines w x y) old in
       let there : at_or (changed f (grid w h places)) x y d ≡ f x y (at_or (grid w h places) x y d) =
       at-changed f (grid w h places) x y d kept.whole p q in
@@ -55,16 +55,25 @@ module _ {X : Type 0} (w h : ℕ) (lines : List ℕ) where
       let there = at-changed f g x y d (whole-shown places kept) p q in
       each x y d p q ∙ sym (there ∙ ap (f x y) (at-shown places x y d kept p q)))
 
+  -- the same of as many rows as there are lines
+  pub rows_changed : (f : ℕ → ℕ → X → X) (places new : List X) → IsKept w h lines places →
+      length new ≡ length places →
+      ((x y : ℕ) (d : X) → x < w → y < length lines →
+      slice_index_or new (place_in lines w x y) d ≡ f x y (slice_index_or places (place_in lines w x y) d)) →
+      shown w h lines new ≡ changed f (shown w h lines places)
+  rows_changed f places new kept same each =
+      shown_changed f places new kept same (λ x y d p q. each x y d p (rw kept.lines_are.each q))
+
   -- places of which a rectangle has what another had show a copy
   pub copy_shown : (r : Rect) (sx sy : ℕ) (places new : List X) → IsKept w h lines places →
       length new ≡ length places → Holds (shown w h lines places) (record r { x = sx; y = sy }) →
-      ((x y : ℕ) (d : X) → x < w → y < h →
+      ((x y : ℕ) (d : X) → x < w → y < length lines →
       slice_index_or new (place_in lines w x y) d
       ≡ (if contains r x y then slice_index_or places (place_in lines w (sx + (x - r.x)) (sy + (y - r.y))) d
       else slice_index_or places (place_in lines w x y) d)) →
       shown w h lines new ≡ copied r sx sy (shown w h lines places)
   copy_shown r sx sy places new kept same held each =
-      shown_changed
+      rows_changed
       (λ x y old. if contains r x y then at_or (shown w h lines places) (sx + (x - r.x)) (sy +
       (y - r.y)) old else old)
       places new kept same
@@ -74,7 +83,7 @@ module _ {X : Type 0} (w h : ℕ) (lines : List ℕ) where
       let there = contains_true r x y e in
       let column : sx + (x - r.x) < w = omega (arith, held.0) in
       let row : sy + (y - r.y) < h = omega (arith, held.1) in
-      let fits = line_fits w h lines places (sx + (x - r.x)) (sy + (y - r.y)) 1 kept row (omega arith) in
+      let fits = line_fits (sx + (x - r.x)) (sy + (y - r.y)) 1 kept row (omega arith) in
       get_or_default places (place_in lines w (sx + (x - r.x)) (sy + (y - r.y))) d _ (omega (arith, fits))
       ∙ sym (at-shown places (sx + (x - r.x)) (sy + (y - r.y)) _ kept column row)))
 
@@ -97,7 +106,7 @@ module _ {X : Type 0} (w h : ℕ) (lines : List ℕ) where
   pub row_shown : (places : List X) (x y n : ℕ) → IsKept w h lines places → x + n ≤ w → y < h →
       take n (drop (place_in lines w x y) places) ≡ row_of (shown w h lines places) x y n
   row_shown places x y n kept p q =
-      let fits = line_fits w h lines places x y n kept q p in
+      let fits = line_fits x y n kept q p in
       let piece : length (take n (drop (place_in lines w x y) places)) ≡ n =
       length-take-le n (drop (place_in lines w x y) places) (rw length-drop (omega (arith, fits))) in
       same_lists (take n (drop (place_in lines w x y) places)) (row_of (shown w h lines places) x y n)
@@ -128,7 +137,7 @@ uniform_shown w h lines value places order all whole =
     shown_is w h lines places (uniform w h value) kept (whole-uniform w h value) (width-uniform w h value)
     (height-uniform w h value)
     (λ x y d p q.
-    let fits = line_fits w h lines places x y 1 kept q (omega arith) in
+    let fits = line_fits x y 1 kept q (omega arith) in
     ap (λ l. slice_index_or l (place_in lines w x y) d) all
     ∙ get_or-replicate (length places) (place_in lines w x y) value d (omega (arith, fits))
     ∙ sym (at-uniform w h value x y d p q))

@@ -1,7 +1,7 @@
 -- What a set has after places of another were taken away, by cells.
 use Rattle.std.proofs.Common.{ℕ, Bool, true, false, ◌≡◌, ◌+◌, ◌/◌, ◌<◌, ◌≤◌, ◌&&◌, ◌||◌, not, refl, sym, ◌∙◌, arith}
 use Rattle.std.proofs.Common.{nat_eq, nat_lt, inl, inr}
-use Rattle.std.proofs.lemmas.Bool.{cases_Bool, cases_lt}
+use Rattle.std.proofs.lemmas.Bool.{cases_lt, false_from_ne_true}
 use Rattle.std.proofs.lemmas.Bool.Decides.{nat_tests}
 use Rattle.rfb_picture.specs.declared.rect.Rect.{Rect}
 use Rattle.rfb_picture.specs.declared.place_set.layers.Layers.{Layers}
@@ -10,7 +10,7 @@ use Rattle.rfb_picture.specs.Grid.{filled}
 use Rattle.rfb_picture.specs.Box.{is_in}
 use Rattle.rfb_picture.specs.Places.{without}
 use Rattle.rfb_picture.specs.inside.Marks.{without_in, AreRowsClear}
-use Rattle.rfb_picture.specs.inside.Cells.{cell_at, one_cell, in_column, in_row}
+use Rattle.rfb_picture.specs.inside.Cells.{cell_at, one_cell, zone_of}
 use Rattle.rfb_picture.specs.inside.PlaceSet.{in_set, in_part, layered, IsLayers, AreAlike, IsSpread, HasLost}
 use Rattle.rfb_picture.proofs.GridLemmas.{contains_true, contains_row, width-changed, height-changed, whole-changed}
 use Rattle.rfb_picture.proofs.GridLemmas.{at-changed, at-filled}
@@ -118,11 +118,8 @@ in_cell x y column row e f =
 pub not_in_cell : (x y column row : ℕ) → (x / 64 ≡ column → y / 64 ≡ row → ⊥) →
     contains (cell_at column row) x y ≡ false
 not_in_cell x y column row apart =
-    elim (cases_Bool (contains (cell_at column row) x y)) [
-      | inl e ↦ let (x0, x1, y0, y1) =
-          contains_true (cell_at column row) x y e in absurd (apart (omega arith) (omega arith))
-      | inr e ↦ e
-    ]
+    false_from_ne_true (contains (cell_at column row) x y)
+    (λ e. let (x0, x1, y0, y1) = contains_true (cell_at column row) x y e in apart (omega arith) (omega arith))
 
 -- the cell itself among cells
 in_one : (i j column row : ℕ) → i ≡ column → j ≡ row → contains (one_cell column row) i j ≡ true
@@ -132,11 +129,8 @@ in_one i j column row e f =
 not_in_one : (i j column row : ℕ) → (i ≡ column → j ≡ row → ⊥) →
     contains (one_cell column row) i j ≡ false
 not_in_one i j column row apart =
-    elim (cases_Bool (contains (one_cell column row) i j)) [
-      | inl e ↦ let (x0, x1, y0, y1) =
-          contains_true (one_cell column row) i j e in absurd (apart (omega arith) (omega arith))
-      | inr e ↦ e
-    ]
+    false_from_ne_true (contains (one_cell column row) i j)
+    (λ e. let (x0, x1, y0, y1) = contains_true (one_cell column row) i j e in apart (omega arith) (omega arith))
 
 -- a cell of the set is held by its marks, after which it loses those of the other
 pub cell_lost : (column row : ℕ) (other old mid : Layers) →
@@ -262,8 +256,7 @@ spread_full column row l part sound p q full same_part =
 pub cell_part : (width height column row x y : ℕ) →
     x < width →
     y < height →
-    contains (in_row (in_column (record { x = 0; y = 0; w = width; h = height }) column) row) x y
-    ≡ contains (cell_at column row) x y
+    contains (zone_of width height column row) x y ≡ contains (cell_at column row) x y
 cell_part width height column row x y p q = grind (arith, nat_tests)
 
 -- ---- the whole set
@@ -271,18 +264,20 @@ cell_part width height column row x y p q = grind (arith, nat_tests)
 all_lost : (f u p of ou op s : Bool) →
     (f || (u && p)) ≡ (s && not (true && (not of && (ou && op)))) →
     ((f && not of) || ((u && not of) && p)) ≡ (s && not (of || (ou && op)))
-all_lost f u p true ou op s e = no_cell f u p s
+all_lost f u p true ou op s e = rw (and_no f, and_no u, and_no s) refl
   where
-    no_cell : (f u p s : Bool) → ((f && false) || ((u && false) && p)) ≡ (s && false)
-    no_cell true true p true = refl
-    no_cell true true p false = refl
-    no_cell true false p true = refl
-    no_cell true false p false = refl
-    no_cell false true p true = refl
-    no_cell false true p false = refl
-    no_cell false false p true = refl
-    no_cell false false p false = refl
+    and_no : (b : Bool) → (b && false) ≡ false
+    and_no true = refl
+    and_no false = refl
 all_lost f u p false ou op s e = rw (and_true f, and_true u) e
+
+-- the marks of a set without the cells that another has whole
+abbrev less_whole : Layers → Layers → Layers
+less_whole other mid = record {
+  places = mid.places;
+  full = without other.full mid.full;
+  used = without other.full mid.used;
+}
 
 -- without the places of cells that the other set has whole, all its places are gone
 pub layered-without : (other old mid : Layers) →
@@ -290,19 +285,9 @@ pub layered-without : (other old mid : Layers) →
     IsLayers old →
     AreAlike old other →
     HasLost (λ _ _. true) other old mid →
-    layered (record {
-      places = mid.places;
-      full = without other.full mid.full;
-      used = without other.full mid.used;
-    }) ≡ without (layered other) (layered old)
+    layered (less_whole other mid) ≡ without (layered other) (layered old)
 layered-without other old mid sound_other sound alike lost =
-    let new : Layers =
-    record {
-      places = mid.places;
-      full = without other.full mid.full;
-      used = without other.full mid.used;
-    } in
-    layered_is new (without (layered other) (layered old))
+    layered_is (less_whole other mid) (without (layered other) (layered old))
     (whole-changed _ (layered old) (whole-layered old))
     (width-changed _ (layered old) ∙ sym lost.alike.0)
     (height-changed _ (layered old) ∙ sym lost.alike.1)
@@ -330,19 +315,9 @@ layered-without other old mid sound_other sound alike lost =
 
 -- which keeps its sizes
 pub sound-without : (other mid : Layers) →
-    IsLayers mid →
-    IsLayers (record {
-      places = mid.places;
-      full = without other.full mid.full;
-      used = without other.full mid.used;
-    })
+    IsLayers mid → IsLayers (less_whole other mid)
 sound-without other mid sound =
-    same_sizes mid
-    (record {
-      places = mid.places;
-      full = without other.full mid.full;
-      used = without other.full mid.used;
-    }) sound refl refl (width-changed _ mid.full)
+    same_sizes mid (less_whole other mid) sound refl refl (width-changed _ mid.full)
     (height-changed _ mid.full) (width-changed _ mid.used) (height-changed _ mid.used)
     sound.all_places (whole-changed _ mid.full sound.all_full)
     (whole-changed _ mid.used sound.all_used)

@@ -12,7 +12,7 @@ use Rattle.std.proofs.lemmas.List.{get_or-set_same, get_or-set_other}
 use Rattle.rfb_picture.specs.declared.rect.Rect.{Rect}
 use Rattle.rfb_picture.specs.Rect.{contains}
 use Rattle.rfb_picture.specs.Places.{has_bit}
-use Rattle.rfb_picture.specs.inside.Plane.{has_at}
+use Rattle.rfb_picture.specs.inside.Plane.{has_at, ColumnAdded, ColumnCleared}
 
 -- ---- one word
 
@@ -97,78 +97,23 @@ pub unreached : (k column y top row : ℕ) →
     ≡ (nat_eq k column && (nat_le top y && nat_lt y (row + 1)))
 unreached k column y top row other = grind (arith, nat_tests)
 
--- with the word of one row more
-pub one_row_more : (words first : List ℕ) (across column top row mask k y i : ℕ) →
-    column < across →
-    k < across →
+-- of words of which one is set, that one has its bits, and the others have theirs
+word_set : (words : List ℕ) (across column row value k y i : ℕ) → column < across → k < across →
     row * across + column < length words →
-    has_at words across y k i
-    ≡ (has_at first across y k i
-    || ((nat_eq k column && (nat_le top y && nat_lt y row)) && has_bit mask i)) →
-    top ≤ row →
-    has_at (slice_set words (row * across + column)
-    (bit_or (slice_index_or words (row * across + column) 0) mask)) across y k i
-    ≡ (has_at first across y k i
-    || ((nat_eq k column && (nat_le top y && nat_lt y (row + 1))) && has_bit mask i))
-one_row_more words first across column top row mask k y i p q l was from =
+    ((k ≡ column) × (y ≡ row)
+    × (has_at (slice_set words (row * across + column) value) across row column i ≡ has_bit value i))
+    ⊎ ((k ≡ column → y ≡ row → ⊥)
+    × (has_at (slice_set words (row * across + column) value) across y k i ≡ has_at words across y k i))
+word_set words across column row value k y i p q l =
     elim (cases_place k column y row) [
-      | inl same ↦
-          let e = same.0 in
-          let f = same.1 in
-          let index : y * across + k ≡ row * across + column = rw (e, f) refl in
-          let here : has_at
-          (slice_set words (row * across + column)
-          (bit_or (slice_index_or words (row * across + column) 0) mask)) across y k i
-          ≡ (has_at words across y k i || has_bit mask i) =
-          rw (
-            index,
-            get_or-set_same words (row * across + column)
-                (bit_or (slice_index_or words (row * across + column) 0) mask) 0 l,
-            has_bit-or,
+      | inl same ↦ inl (same.0, same.1, rw (get_or-set_same words (row * across + column) value 0 l) refl)
+      | inr other ↦
+          let apart : (y * across + k ≡ row * across + column) → ⊥ =
+          λ e. let place = same_from_place y k row column across q p e in other place.1 place.0 in
+          inr (
+            other,
+            rw (get_or-set_other words (row * across + column) (y * across + k) value 0 apart) refl,
           )
-          refl in
-          reached k column y top row _ _ (has_at first across y k i) (has_bit mask i) e f from was
-          here
-      | inr other ↦
-          let apart : (y * across + k ≡ row * across + column) → ⊥ =
-          λ e. let place = same_from_place y k row column across q p e in other place.1 place.0 in
-          rw (
-            get_or-set_other words (row * across + column) (y * across + k)
-                (bit_or (slice_index_or words (row * across + column) 0) mask) 0 apart,
-            ← unreached k column y top row other,
-          ) was
-    ]
-
--- with the word of one row more cleared
-pub one_row_cleared : (words first : List ℕ) (across column top row k y i : ℕ) →
-    column < across →
-    k < across →
-    row * across + column < length words →
-    has_at words across y k i
-    ≡ (if nat_eq k column && (nat_le top y && nat_lt y row) then false
-    else has_at first across y k i) →
-    top ≤ row →
-    has_at (slice_set words (row * across + column) 0) across y k i
-    ≡ (if nat_eq k column && (nat_le top y && nat_lt y (row + 1)) then false
-    else has_at first across y k i)
-one_row_cleared words first across column top row k y i p q l was from =
-    elim (cases_place k column y row) [
-      | inl same ↦
-          let e = same.0 in
-          let f = same.1 in
-          let index : y * across + k ≡ row * across + column = rw (e, f) refl in
-          let some : (nat_eq k column && (nat_le top y && nat_lt y (row + 1))) ≡ true =
-          grind (arith, nat_tests) in
-          let here : has_at (slice_set words (row * across + column) 0) across y k i ≡ false =
-          rw (index, get_or-set_same words (row * across + column) 0 0 l, bit_at-zero i) refl in
-          rw some here
-      | inr other ↦
-          let apart : (y * across + k ≡ row * across + column) → ⊥ =
-          λ e. let place = same_from_place y k row column across q p e in other place.1 place.0 in
-          rw (
-            get_or-set_other words (row * across + column) (y * across + k) 0 0 apart,
-            ← unreached k column y top row other,
-          ) was
     ]
 
 -- a word of a row is one of the words
@@ -176,6 +121,41 @@ pub word_of_row : (row bottom column across n : ℕ) →
     row < bottom → column < across → bottom * across ≤ n → row * across + column < n
 word_of_row row bottom column across n p q l = let below =
     mul-add-lt row across column bottom p q in omega (arith, mul_comm bottom across)
+
+-- with the word of one row more
+pub one_row_more : (words first : List ℕ) (across column top row bottom mask : ℕ) →
+    column < across → row < bottom → bottom * across ≤ length words → top ≤ row →
+    ColumnAdded across column top row mask first words →
+    ColumnAdded across column top (row + 1) mask first
+    (slice_set words (row * across + column)
+    (bit_or (slice_index_or words (row * across + column) 0) mask))
+one_row_more words first across column top row bottom mask p low room from added k y i q =
+    let l = word_of_row row bottom column across (length words) low p room in
+    let value = bit_or (slice_index_or words (row * across + column) 0) mask in
+    elim (word_set words across column row value k y i p q l) [
+      | inl here ↦
+          let bits : has_at (slice_set words (row * across + column) value) across y k i
+          ≡ (has_at words across y k i || has_bit mask i) =
+          rw (here.0, here.1) (here.2 ∙ has_bit-or _ mask i) in
+          reached k column y top row _ _ (has_at first across y k i) (has_bit mask i) here.0 here.1 from
+          (added k y i q) bits
+      | inr other ↦ rw (other.1, ← unreached k column y top row other.0) (added k y i q)
+    ]
+
+-- with the word of one row more cleared
+pub one_row_cleared : (words first : List ℕ) (across column top row bottom : ℕ) →
+    column < across → row < bottom → bottom * across ≤ length words → top ≤ row →
+    ColumnCleared across column top row first words →
+    ColumnCleared across column top (row + 1) first (slice_set words (row * across + column) 0)
+one_row_cleared words first across column top row bottom p low room from cleared k y i q =
+    let l = word_of_row row bottom column across (length words) low p room in
+    elim (word_set words across column row 0 k y i p q l) [
+      | inl here ↦
+          let some : (nat_eq k column && (nat_le top y && nat_lt y (row + 1))) ≡ true =
+          let e = here.0 in let f = here.1 in grind (arith, nat_tests) in
+          rw (some, here.0, here.1) (here.2 ∙ rw (bit_at-zero i) refl)
+      | inr other ↦ rw (other.1, ← unreached k column y top row other.0) (cleared k y i q)
+    ]
 
 -- with the words of one column more
 pub one_column_more : (rect : Rect) (column k y i : ℕ) (now before first mask : Bool) →

@@ -7,7 +7,7 @@ ghost use Rattle.rfb_picture.specs.inside.Edges.{HasFirstRow, IsLastRow, HasAllB
 ghost use Rattle.rfb_picture.specs.inside.Edges.{HasNoOtherBits, HasGathered};
 
 use crate::rect::Rect;
-use crate::words::columns_between;
+use crate::words::{Strip, columns_between};
 
 // How many rows are looked at together, by `four_rows`.
 const ROWS: usize = 4;
@@ -73,7 +73,12 @@ pub(crate) fn edges_in(words: &[u64], across: usize, zone: Rect) -> Option<Edges
     let bottom = top + usize::from(zone.h);
     let column = from / 64;
     let mask = columns_between(column, from, from + usize::from(zone.w));
-    match gather(words, across, column, top, bottom, mask) {
+    let strip = Strip {
+        across,
+        column,
+        mask,
+    };
+    match gather(words, strip, top, bottom) {
         None => None,
         Some(found) => {
             let start = column * 64;
@@ -105,26 +110,20 @@ pub(crate) fn joined(a: Option<Edges>, b: Option<Edges>) -> Option<Edges>
     }
 }
 
-// What the mask leaves of word `column` of the rows from `top` up to `bottom`, put together; `None`
-// where it leaves no bit.
-fn gather(
-    words: &[u64],
-    across: usize,
-    column: usize,
-    top: usize,
-    bottom: usize,
-    mask: u64,
-) -> Option<Gathered>
-    requires column { column < across }
-    requires rows { bottom * across ≤ length words.now }
-    ensures { HasGathered (has_masked words.now across column mask) top bottom result }
+// What the mask leaves of the strip's words in the rows from `top` up to `bottom`, put together;
+// `None` where it leaves no bit.
+fn gather(words: &[u64], strip: Strip, top: usize, bottom: usize) -> Option<Gathered>
+    requires column { strip.column < strip.across }
+    requires rows { bottom * strip.across ≤ length words.now }
+    ensures { HasGathered (has_masked words.now strip.across strip.column strip.mask)
+        top bottom result }
 {
-    match first_row(words, across, column, top, bottom, mask) {
+    match first_row(words, strip, top, bottom) {
         None => None,
         Some(first) => {
-            let last = last_row(words, across, column, first, bottom, mask);
+            let last = last_row(words, strip, first, bottom);
             Some(Gathered {
-                bits: all_bits(words, across, column, first, last + 1) & mask,
+                bits: all_bits(words, strip.across, strip.column, first, last + 1) & strip.mask,
                 top: first,
                 bottom: last,
             })
@@ -132,57 +131,45 @@ fn gather(
     }
 }
 
-// The first of the rows from `top` up to `bottom` of whose word `column` the mask leaves a bit.
-fn first_row(
-    words: &[u64],
-    across: usize,
-    column: usize,
-    top: usize,
-    bottom: usize,
-    mask: u64,
-) -> Option<usize>
-    requires column { column < across }
-    requires rows { bottom * across ≤ length words.now }
-    ensures { HasFirstRow (has_masked words.now across column mask) top bottom result }
+// The first of the rows from `top` up to `bottom` of whose word the mask leaves a bit.
+fn first_row(words: &[u64], strip: Strip, top: usize, bottom: usize) -> Option<usize>
+    requires column { strip.column < strip.across }
+    requires rows { bottom * strip.across ≤ length words.now }
+    ensures { HasFirstRow (has_masked words.now strip.across strip.column strip.mask)
+        top bottom result }
 {
     let mut from = top;
     let mut left = bottom.saturating_sub(top) / ROWS;
-    while left > 0 && four_rows(words, across, column, from) & mask == 0 {
+    while left > 0 && four_rows(words, strip.across, strip.column, from) & strip.mask == 0 {
         from += ROWS;
         left -= 1;
     }
     for row in from..bottom {
-        if words[row * across + column] & mask != 0 {
+        if words[row * strip.across + strip.column] & strip.mask != 0 {
             return Some(row);
         }
     }
     None
 }
 
-// The last of the rows from `top` up to `bottom` of whose word `column` the mask leaves a bit, as
-// it does of that of the row `top`.
-fn last_row(
-    words: &[u64],
-    across: usize,
-    column: usize,
-    top: usize,
-    bottom: usize,
-    mask: u64,
-) -> usize
-    requires column { column < across }
-    requires rows { bottom * across ≤ length words.now }
+// The last of the rows from `top` up to `bottom` of whose word the mask leaves a bit, as it does of
+// that of the row `top`.
+fn last_row(words: &[u64], strip: Strip, top: usize, bottom: usize) -> usize
+    requires column { strip.column < strip.across }
+    requires rows { bottom * strip.across ≤ length words.now }
     requires order { top < bottom }
-    requires some { HasMark (has_masked words.now across column mask) top }
-    ensures { IsLastRow (has_masked words.now across column mask) top bottom result }
+    requires some { HasMark (has_masked words.now strip.across strip.column strip.mask) top }
+    ensures { IsLastRow (has_masked words.now strip.across strip.column strip.mask)
+        top bottom result }
 {
     let mut end = bottom;
     let mut left = (bottom - top - 1) / ROWS;
-    while left > 0 && four_rows(words, across, column, end - ROWS) & mask == 0 {
+    while left > 0 && four_rows(words, strip.across, strip.column, end - ROWS) & strip.mask == 0 {
         end -= ROWS;
         left -= 1;
     }
     let mut last = end - 1;
-    while last > top && words[last * across + column] & mask == 0 {
+    while last > top && words[last * strip.across + strip.column] & strip.mask == 0 {
         last -= 1;
     }
     last

@@ -8,7 +8,7 @@ use crate::edges::{Edges, edges_in};
 use crate::rect::Rect;
 use crate::words::{
     add_places, clear_column, columns_between, has_places, next_place, next_used, take_column,
-    take_places,
+    take_places, word_at,
 };
 use std::alloc::{AllocError, Global};
 use std::boxed::BoxedSlice;
@@ -100,7 +100,7 @@ impl Plane {
         requires row { y < self.now.height }
         ensures { result ≡ at_or self.now x y false }
     {
-        let word = self.words[usize::from(y) * self.across + usize::from(x) / 64];
+        let word = word_at(&self.words, self.across, x, y);
         word >> (x % 64) & 1 == 1
     }
 
@@ -131,9 +131,9 @@ impl Plane {
         requires row { y < self.now.height }
         ensures { HasRowBits self.now x y result }
     {
-        let column = usize::from(x) / 64;
-        let word = self.words[usize::from(y) * self.across + column];
-        word & columns_between(column, usize::from(x), usize::from(self.width))
+        let from = usize::from(x);
+        let word = word_at(&self.words, self.across, x, y);
+        word & columns_between(from / 64, from, usize::from(self.width))
     }
 
     /// The column of the first marked place of row `y` from column `x` on; `None` where none is.

@@ -1,6 +1,7 @@
 //! Rows of words, each with a bit for 64 places: the lowest for the leftmost.
 
-ghost use Rattle.std.specs.Prelude.{◌≡◌, ◌↔◌, ◌+◌, ◌*◌, ◌^◌, ◌<◌, ◌≤◌, length, IsTrue};
+ghost use Rattle.std.specs.Prelude.{◌≡◌, ◌↔◌, ◌+◌, ◌*◌, ◌/◌, ◌^◌, ◌<◌, ◌≤◌, length, IsTrue};
+ghost use Rattle.std.specs.Prelude.{slice_index_or};
 ghost use Rattle.rfb_picture.specs.inside.Plane.{has_place, HasMasked, PlacesAdded, IsBetween};
 ghost use Rattle.rfb_picture.specs.inside.Plane.{ColumnAdded, ColumnCleared, ColumnLost, RowsLost};
 ghost use Rattle.rfb_picture.specs.inside.Plane.{AreUnused};
@@ -8,6 +9,14 @@ ghost use Rattle.rfb_picture.specs.Places.{AllMarked};
 ghost use Rattle.rfb_picture.specs.inside.Marks.{HasNext};
 
 use crate::rect::Rect;
+
+/// Word `column` of each row, where a row is `across` words, and a mask for its bits.
+#[derive(Clone, Copy, Drop)]
+pub(crate) struct Strip {
+    pub across: usize,
+    pub column: usize,
+    pub mask: u64,
+}
 
 /// Sets the bits of the rectangle's places, where a row is `across` words.
 pub(crate) fn add_places(words: &mut [u64], across: usize, rect: Rect)
@@ -109,28 +118,27 @@ pub(crate) fn has_places(words: &[u64], across: usize, rect: Rect) -> bool
     let bottom = top + usize::from(rect.h);
     for column in from / 64..to.div_ceil(64) {
         let mask = columns_between(column, from, to);
-        if !has_column(words, across, column, top, bottom, mask) {
+        let strip = Strip {
+            across,
+            column,
+            mask,
+        };
+        if !has_strip(words, strip, top, bottom) {
             return false;
         }
     }
     true
 }
 
-// Whether the mask's bits are set in one word of each row from `top` up to `bottom`.
-fn has_column(
-    words: &[u64],
-    across: usize,
-    column: usize,
-    top: usize,
-    bottom: usize,
-    mask: u64,
-) -> bool
-    requires column { column < across }
-    requires rows { bottom * across ≤ length words.now }
-    ensures { IsTrue result ↔ HasMasked words.now across column mask top bottom }
+// Whether the mask's bits are set in the strip's word of each row from `top` up to `bottom`.
+fn has_strip(words: &[u64], strip: Strip, top: usize, bottom: usize) -> bool
+    requires column { strip.column < strip.across }
+    requires rows { bottom * strip.across ≤ length words.now }
+    ensures { IsTrue result
+        ↔ HasMasked words.now strip.across strip.column strip.mask top bottom }
 {
     for row in top..bottom {
-        if words[row * across + column] & mask != mask {
+        if words[row * strip.across + strip.column] & strip.mask != strip.mask {
             return false;
         }
     }
@@ -179,6 +187,15 @@ pub(crate) fn next_used(words: &[u64], other: &[u64], from: usize, to: usize) ->
         }
     }
     to
+}
+
+/// The word that has the bit of the place at column `x` of row `y`.
+#[inline]
+pub(crate) fn word_at(words: &[u64], across: usize, x: u16, y: u16) -> u64
+    requires { y * across + x / 64 < length words.now }
+    ensures { result ≡ slice_index_or words.now (y * across + x / 64) 0 }
+{
+    words[usize::from(y) * across + usize::from(x) / 64]
 }
 
 /// The bits of word `column` for the places from column `from` up to column `to`.

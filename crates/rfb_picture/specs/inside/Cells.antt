@@ -46,6 +46,11 @@ in_row r j =
       h = min (r.y + r.h) (j * 64 + 64) - max r.y (j * 64);
     }
 
+-- the places of a picture of that size in the cell at that column and row of cells
+abbrev pub zone_of : ℕ → ℕ → ℕ → ℕ → Rect
+zone_of width height column row =
+    in_row (in_column (record { x = 0; y = 0; w = width; h = height }) column) row
+
 -- ---- a rectangle by cells
 
 -- place x of a row is one of the count places from the first on

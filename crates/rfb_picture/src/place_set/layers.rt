@@ -1,10 +1,11 @@
 //! The marks that a set is made of.
 
-ghost use Rattle.std.specs.Prelude.{◌≡◌, ◌+◌, ◌-◌, ◌<◌, ◌≤◌};
+ghost use Rattle.std.specs.Prelude.{◌≡◌, ◌+◌, ◌-◌, ◌*◌, ◌<◌, ◌≤◌};
 ghost use Rattle.rfb_picture.specs.Grid.{Holds};
-ghost use Rattle.rfb_picture.specs.inside.Cells.{one_cell};
+ghost use Rattle.rfb_picture.specs.inside.Cells.{one_cell, zone_of};
 ghost use Rattle.rfb_picture.specs.inside.PlaceSet.{IsLayers, IsOpened};
 
+use super::parts::{in_column, in_row};
 use crate::plane::Plane;
 use crate::rect::Rect;
 
@@ -31,6 +32,22 @@ impl Layers {
         for row in cells.y..cells.y + cells.h {
             self.open_row(row, cells.x, cells.x + cells.w);
         }
+    }
+
+    /// The places of the picture in the cell at that column and row of cells.
+    pub(super) fn zone_of(&self, column: u16, row: u16) -> Rect
+        requires sound { IsLayers self.now }
+        requires column { column * 64 < self.now.places.width }
+        requires row { row * 64 < self.now.places.height }
+        ensures { result ≡ zone_of self.now.places.width self.now.places.height column row }
+    {
+        let all = Rect {
+            x: 0,
+            y: 0,
+            w: self.places.width(),
+            h: self.places.height(),
+        };
+        in_row(in_column(all, column), row)
     }
 
     // Opens those of one row from column `from` up to column `to`.

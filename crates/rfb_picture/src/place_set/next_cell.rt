@@ -6,8 +6,6 @@ ghost use Rattle.rfb_picture.specs.CellOrder.{NoneInCells, HasPlaceIn, HasNextCe
 ghost use Rattle.rfb_picture.specs.inside.PlaceSet.{in_set, IsLayers, HasNextOpen};
 
 use super::layers::Layers;
-use super::parts::{in_column, in_row};
-use crate::rect::Rect;
 
 impl Layers {
     /// The number, in reading order, of the first cell from number `from` on that has a place of
@@ -59,15 +57,9 @@ impl Layers {
             self.now.places.width self.now.places.height cell (cell + 1)) }
     {
         let across = usize::from(self.full.width());
-        let all = Rect {
-            x: 0,
-            y: 0,
-            w: self.places.width(),
-            h: self.places.height(),
-        };
         let column = (cell % across) as u16;
         let row = (cell / across) as u16;
-        match self.edges_in_cell(in_row(in_column(all, column), row)) {
+        match self.edges_in_cell(self.zone_of(column, row)) {
             None => false,
             Some(_) => true,
         }

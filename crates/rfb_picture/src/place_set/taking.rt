@@ -5,7 +5,6 @@ ghost use Rattle.rfb_picture.specs.Box.{is_in};
 ghost use Rattle.rfb_picture.specs.inside.PlaceSet.{IsLayers, AreAlike, IsSpread, HasLost};
 
 use super::layers::Layers;
-use super::parts::{in_column, in_row};
 use crate::rect::Rect;
 
 impl Layers {
@@ -68,13 +67,8 @@ impl Layers {
         ensures { IsSpread column row self.old self.new }
     {
         if self.full.has(column, row) {
-            let all = Rect {
-                x: 0,
-                y: 0,
-                w: self.places.width(),
-                h: self.places.height(),
-            };
-            self.places.add(in_row(in_column(all, column), row));
+            let zone = self.zone_of(column, row);
+            self.places.add(zone);
             self.used.add(Rect {
                 x: column,
                 y: row,

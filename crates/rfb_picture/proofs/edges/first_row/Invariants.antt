@@ -8,7 +8,7 @@ abbrev pub invariant-loop-left : goal.invariant-loop-left
 invariant-loop-left l = record {
   order : l.top ≤ l.from;
   left : l.from + l.left * 4 ≤ max l.top l.bottom;
-  none : NoMarks (has_masked l.words l.across l.column l.mask) l.top l.from;
+  none : NoMarks (has_masked l.words l.strip.across l.strip.column l.strip.mask) l.top l.from;
 }
 
 abbrev pub decreases-loop-left : goal.decreases-loop-left
@@ -17,5 +17,5 @@ decreases-loop-left l = l.left
 abbrev pub invariant-loop-row : goal.invariant-loop-row
 invariant-loop-row l = record {
   order : l.top ≤ l.row;
-  none : NoMarks (has_masked l.words l.across l.column l.mask) l.top l.row;
+  none : NoMarks (has_masked l.words l.strip.across l.strip.column l.strip.mask) l.top l.row;
 }

@@ -2,27 +2,21 @@ use Rattle.std.proofs.Common.{arith, bit_and}
 use Rattle.std.specs.Int.Bits.{and_lt}
 use Rattle.std.proofs.lemmas.Bool.{and_parts, and_from}
 use Rattle.rfb_picture.specs.Places.{has_bit}
-use Rattle.rfb_picture.specs.inside.Plane.{has_at, has_masked}
+use Rattle.rfb_picture.specs.inside.Plane.{has_at}
 use Rattle.rfb_picture.proofs.WordLemmas.{has_bit-and}
 use Rattle.rfb_picture.proofs.GatherLemmas.{gathered}
 use Rattle.rfb_picture.proofs.edges.gather.Goals as goal
 
 pub returns-in-Some : goal.returns-in-Some
 returns-in-Some c =
-    let words = c.args.words.now in
-    let across = c.args.across in
-    let column = c.args.column in
-    let mask = c.args.mask in
+    let mask = c.args.strip.mask in
     let bits = c.all_bits.result in
-    gathered (has_masked words across column mask) c.args.top c.args.bottom c.in-Some.first
-    c.last_row-last.result (bit_and bits mask) c.in-Some.ensures c.last_row-last.ensures
-    (and_lt 64 bits mask (omega arith) (omega (arith, c.ranges.mask.fits)))
+    gathered _ c.args.top c.args.bottom c.in-Some.first c.last_row-last.result (bit_and bits mask) c.in-Some.ensures
+    c.last_row-last.ensures (and_lt 64 bits mask (omega arith) (omega arith))
     (λ y i p l h.
-    let (marked, masked) = and_parts (has_at words across y column i) (has_bit mask i) h in
-    rw has_bit-and
-    (and_from (has_bit bits i) (has_bit mask i) (c.all_bits.ensures.each y i p l marked)
-    masked))
+    let (marked, masked) = and_parts (has_at c.args.words.now c.args.strip.across y c.args.strip.column i) (has_bit mask i) h in
+    rw has_bit-and (and_from (has_bit bits i) (has_bit mask i) (c.all_bits.ensures.each y i p l marked) masked))
     (λ i h.
     let (set, masked) = and_parts (has_bit bits i) (has_bit mask i) (rw has_bit-and at h) in
     let (y, p, l, marked) = c.all_bits.ensures.some i set in
-    (y, p, l, and_from (has_at words across y column i) (has_bit mask i) marked masked))
+    (y, p, l, and_from (has_at c.args.words.now c.args.strip.across y c.args.strip.column i) (has_bit mask i) marked masked))

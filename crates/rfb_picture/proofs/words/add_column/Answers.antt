@@ -1,20 +1,11 @@
-use Rattle.std.proofs.Common.{◌≡◌, ◌≤◌, ◌*◌, length, arith}
-use Rattle.rfb_picture.proofs.WordLemmas.{one_row_more, word_of_row}
+use Rattle.std.proofs.Common.{◌≡◌, arith}
+use Rattle.rfb_picture.proofs.WordLemmas.{one_row_more}
 use Rattle.rfb_picture.proofs.words.add_column.Goals as goal
 
 pub loop-row-preserved : goal.loop-row-preserved
 loop-row-preserved c =
-    λ k y i p.
-    let room : c.args.bottom * c.args.across ≤ length c.loop-row.words = omega arith in
-    let within =
-    word_of_row c.loop-row.row c.args.bottom c.args.column c.args.across
-    (length c.loop-row.words) c.loop-row-test.true c.requires.column room in
-    one_row_more c.loop-row.words c.args.words.now c.args.across c.args.column c.args.top
-    c.loop-row.row c.args.mask k y i c.requires.column p within (c.loop-row.invariant k y i p)
-    c.loop-row.auto.row
+    one_row_more c.loop-row.words c.args.words.now c.args.across c.args.column c.args.top c.loop-row.row c.args.bottom
+    c.args.mask c.requires.column c.loop-row-test.true (omega arith) c.loop-row.auto.row c.loop-row.invariant
 
 pub returns : goal.returns
-returns c =
-    λ k y i p.
-    let last : c.args.bottom ≡ c.loop-row.row = omega arith in
-    rw last (c.loop-row.invariant k y i p)
+returns c = let last : c.args.bottom ≡ c.loop-row.row = omega arith in rw last c.loop-row.invariant

@@ -9,7 +9,7 @@ pub returns : goal.returns
 returns g c = λ d.
     let column = rw (← c.self.view_is) at c.requires.column in
     let row = rw (← c.self.view_is) at c.requires.row in
-    let fits = line_fits c.self.inside.width c.self.inside.height c.self.inside.lines.items c.self.inside.places.items
+    let fits = line_fits
     c.args.x c.args.y 1 c.self.invariant.kept row (omega (arith, column)) in
     let is = rw (c.place_of.ensures, c.deref.ensures.value) at (c.index.ensures) in
     rw (← c.self.view_is)
@@ -23,6 +23,6 @@ pub index-requires : goal.index-requires
 index-requires g c =
     let column = rw (← c.self.view_is) at c.requires.column in
     let row = rw (← c.self.view_is) at c.requires.row in
-    let fits = line_fits c.self.inside.width c.self.inside.height c.self.inside.lines.items c.self.inside.places.items
+    let fits = line_fits
     c.args.x c.args.y 1 c.self.invariant.kept row (omega (arith, column)) in
     rw (c.place_of.ensures, c.deref.ensures.value) (omega (arith, fits, c.self.inside.places.ok.0))

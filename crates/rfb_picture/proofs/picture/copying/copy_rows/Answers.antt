@@ -42,20 +42,20 @@ returns g c =
 
 pub overflow_add-from-in-loop-done : goal.overflow_add-from-in-loop-done
 overflow_add-from-in-loop-done g c =
-    let fits = line_fits c.args.width (length c.args.lines.now) c.args.lines.now c.args.places.now c.args.sx
+    let fits = line_fits c.args.sx
     (c.args.sy + c.if-dst-sy.row) c.args.dst.w c.requires.kept (omega arith) c.requires.source_columns in
     rw (c.from-in-loop-done.ensures, c.from.ensures, c.from-in-loop-done-2.ensures) (omega (arith, fits))
 
 pub overflow_add-to : goal.overflow_add-to
 overflow_add-to g c =
-    let fits = line_fits c.args.width (length c.args.lines.now) c.args.lines.now c.args.places.now c.args.dst.x
+    let fits = line_fits c.args.dst.x
     (c.args.dst.y + c.if-dst-sy.row) c.args.dst.w c.requires.kept (omega arith) c.requires.columns in
     rw (c.from-in-loop-done-4.ensures, c.from-in-loop-done-3.ensures, c.from-in-loop-done-5.ensures) (omega
     (arith, fits))
 
 pub copy_places-requires-clause-source : goal.copy_places-requires-clause-source
 copy_places-requires-clause-source g c =
-    let fits = line_fits c.args.width (length c.args.lines.now) c.args.lines.now c.args.places.now c.args.sx
+    let fits = line_fits c.args.sx
     (c.args.sy + c.if-dst-sy.row) c.args.dst.w c.requires.kept (omega arith) c.requires.source_columns in
     rw (
       c.from-in-loop-done.ensures,
@@ -66,7 +66,7 @@ copy_places-requires-clause-source g c =
 
 pub copy_places-requires-clause-target : goal.copy_places-requires-clause-target
 copy_places-requires-clause-target g c =
-    let fits = line_fits c.args.width (length c.args.lines.now) c.args.lines.now c.args.places.now c.args.dst.x
+    let fits = line_fits c.args.dst.x
     (c.args.dst.y + c.if-dst-sy.row) c.args.dst.w c.requires.kept (omega arith) c.requires.columns in
     rw (
       c.from-in-loop-done-4.ensures,

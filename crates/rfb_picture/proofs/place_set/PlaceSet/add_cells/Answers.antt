@@ -1,8 +1,7 @@
 use Rattle.std.proofs.Common.{refl}
 use Rattle.rfb_picture.proofs.GridLemmas.{whole-changed}
 use Rattle.rfb_picture.proofs.PlaceSetLemmas.{layered-full, same_sizes, whole-layered}
-use Rattle.rfb_picture.proofs.PartLemmas.{filled-none, no_place}
-use Rattle.rfb_picture.specs.Grid.{IsGrid}
+use Rattle.rfb_picture.proofs.PartLemmas.{filled-nowhere}
 use Rattle.rfb_picture.proofs.place_set.PlaceSet.add_cells.Goals as goal
 
 pub invariant_of-self : goal.invariant_of-self
@@ -23,7 +22,5 @@ returns-then-inner-gt0-2-clause-value c =
 
 pub returns-else-inner-gt0-clause-value : goal.returns-else-inner-gt0-clause-value
 returns-else-inner-gt0-clause-value c =
-    let whole : IsGrid c.args.self.now =
-    rw (← c.self.view_is) (whole-layered c.self.inside.layers) in
-    filled-none c.args.self.now c.args.inner whole
-    (λ x y. no_place c.args.inner x y c.else-inner-gt0.either)
+    filled-nowhere c.args.self.now c.args.inner (rw (← c.self.view_is) (whole-layered c.self.inside.layers))
+    c.else-inner-gt0.either

@@ -1,8 +1,7 @@
 use Rattle.std.proofs.Common.{refl}
 use Rattle.rfb_picture.proofs.GridLemmas.{whole-changed}
 use Rattle.rfb_picture.proofs.PlaceSetLemmas.{layered-part, same_sizes, whole-layered}
-use Rattle.rfb_picture.proofs.PartLemmas.{filled-none, no_place}
-use Rattle.rfb_picture.specs.Grid.{IsGrid}
+use Rattle.rfb_picture.proofs.PartLemmas.{filled-nowhere}
 use Rattle.rfb_picture.proofs.place_set.PlaceSet.add_part.Goals as goal
 
 pub invariant_of-self : goal.invariant_of-self
@@ -21,7 +20,5 @@ returns-then-part-gt0-2-clause-value c =
 
 pub returns-else-part-gt0-clause-value : goal.returns-else-part-gt0-clause-value
 returns-else-part-gt0-clause-value c =
-    let whole : IsGrid c.args.self.now =
-    rw (← c.self.view_is) (whole-layered c.self.inside.layers) in
-    filled-none c.args.self.now c.args.part whole
-    (λ x y. no_place c.args.part x y c.else-part-gt0.either)
+    filled-nowhere c.args.self.now c.args.part (rw (← c.self.view_is) (whole-layered c.self.inside.layers))
+    c.else-part-gt0.either

@@ -3,22 +3,12 @@ use Rattle.rfb_picture.proofs.place_set.PlaceSet.new.Goals as goal
 
 pub invariant_of-result : goal.invariant_of-result
 invariant_of-result c =
-    fresh_sizes c.args.width c.args.height c.div_ceil-columns.result c.div_ceil-rows.result
-    (record {
-      places = c.in_ok-places.places;
-      full = c.in_ok-full.full;
-      used = c.in_ok-used.used;
-    }) c.ranges.width.fits c.ranges.height.fits
-    c.div_ceil-columns.ensures c.div_ceil-rows.ensures c.in_ok-places.ensures.value
-    c.in_ok-full.ensures.value c.in_ok-used.ensures.value
+    fresh_sizes c.ranges.width.fits c.ranges.height.fits c.div_ceil-columns.ensures c.div_ceil-rows.ensures
+    c.in_ok-places.ensures.value c.in_ok-full.ensures.value c.in_ok-used.ensures.value
 
 pub returns-clause-value : goal.returns-clause-value
 returns-clause-value c =
     layered-fresh c.args.width c.args.height c.div_ceil-columns.result c.div_ceil-rows.result
-    (record {
-      places = c.in_ok-places.places;
-      full = c.in_ok-full.full;
-      used = c.in_ok-used.used;
-    }) c.ranges.width.fits c.ranges.height.fits
-    c.div_ceil-columns.ensures c.div_ceil-rows.ensures c.in_ok-places.ensures.value
-    c.in_ok-full.ensures.value c.in_ok-used.ensures.value
+    (fresh_sizes c.ranges.width.fits c.ranges.height.fits c.div_ceil-columns.ensures c.div_ceil-rows.ensures
+    c.in_ok-places.ensures.value c.in_ok-full.ensures.value c.in_ok-used.ensures.value)
+    c.in_ok-places.ensures.value c.in_ok-full.ensures.value c.in_ok-used.ensures.value

@@ -1,14 +1,10 @@
-use Rattle.std.proofs.Common.{◌≤◌, ◌-◌, ◌*◌, ◌&&◌}
-use Rattle.rfb_picture.specs.Box.{is_in}
-use Rattle.rfb_picture.specs.CellOrder.{cells_in, NoneInCells}
+use Rattle.std.proofs.Common.{◌-◌, ◌*◌}
+use Rattle.rfb_picture.specs.CellOrder.{cells_in}
+use Rattle.rfb_picture.proofs.NextCellLemmas.{AreApart}
 use Rattle.rfb_picture.proofs.place_set.PlaceSet.next_cell_of_both.Given as goal
 
--- the cells so far have no place that is in both
 abbrev pub invariant-loop-cell : goal.invariant-loop-cell
-invariant-loop-cell l = record {
-  order : l.from ≤ l.at;
-  none : NoneInCells (λ x y. is_in l.self x y && is_in l.other x y) l.self.width l.self.height l.from l.at;
-}
+invariant-loop-cell l = AreApart l.self l.other l.from l.at
 
 abbrev pub decreases-loop-cell : goal.decreases-loop-cell
 decreases-loop-cell l = cells_in l.self.width * cells_in l.self.height - l.at

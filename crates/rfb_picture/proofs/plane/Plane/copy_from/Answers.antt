@@ -1,24 +1,15 @@
-use Rattle.std.proofs.Common.{◌≡◌, ◌*◌, refl, arith, length}
+use Rattle.std.proofs.Common.{◌≡◌, arith, length}
 use Rattle.std.proofs.lemmas.Grind.{common_steps}
 use Rattle.std.proofs.lemmas.List.{with_items_is}
-use Rattle.rfb_picture.proofs.PlaneLemmas.{same_across}
+use Rattle.rfb_picture.proofs.PlaneLemmas.{same_across, same_length}
 use Rattle.rfb_picture.proofs.plane.Plane.copy_from.Goals as goal
 
 pub copy_from_slice-requires : goal.copy_from_slice-requires
 copy_from_slice-requires c =
-    let wide : c.self.inside.width ≡ c.other.inside.width =
-    rw (← c.self.view_is, ← c.other.view_is) at c.requires.width in
-    let high : c.self.inside.height ≡ c.other.inside.height =
-    rw (← c.self.view_is, ← c.other.view_is) at c.requires.height in
-    let across =
-    same_across c.self.inside.width c.self.inside.height c.self.inside.across
-    c.self.inside.words.items.items c.other.inside.height c.other.inside.across
-    c.other.inside.words.items.items c.self.invariant.sound (rw wide c.other.invariant.sound) in
-    let size = c.self.invariant.sound.size in
-    let size_too = c.other.invariant.sound.size in
-    let product : c.self.inside.height * c.self.inside.across
-    ≡ c.other.inside.height * c.other.inside.across = rw (high, across) refl in
-    omega arith
+    let same = same_length _ _ _ c.self.inside.words.items.items _ _ _ c.other.inside.words.items.items
+    c.self.invariant.sound c.other.invariant.sound (rw (← c.self.view_is, ← c.other.view_is) at c.requires.width)
+    (rw (← c.self.view_is, ← c.other.view_is) at c.requires.height) in
+    omega (arith, same)
 
 pub returns : goal.returns
 returns c =

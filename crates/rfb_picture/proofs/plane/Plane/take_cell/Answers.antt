@@ -6,10 +6,8 @@ use Rattle.rfb_picture.proofs.plane.Plane.take_cell.Goals as goal
 
 pub returns-clause-value : goal.returns-clause-value
 returns-clause-value c =
-    let wide : c.self.inside.width ≡ c.other.inside.width =
-    rw (← c.self.view_is, ← c.other.view_is) at c.requires.width in
-    let high : c.self.inside.height ≡ c.other.inside.height =
-    rw (← c.self.view_is, ← c.other.view_is) at c.requires.height in
+    let wide = rw (← c.self.view_is, ← c.other.view_is) at c.requires.width in
+    let high = rw (← c.self.view_is, ← c.other.view_is) at c.requires.height in
     let len : length c.take_column.new.words ≡ c.self.inside.words.items.len = omega arith in
     rw (
       with_items_is c.self.inside.words.items c.take_column.new.words len,

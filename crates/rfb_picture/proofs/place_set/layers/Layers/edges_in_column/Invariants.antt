@@ -6,10 +6,4 @@ use Rattle.rfb_picture.proofs.place_set.layers.Layers.edges_in_column.Given as g
 -- the edges of the places in the rows of cells so far
 abbrev pub invariant-loop-row : goal.invariant-loop-row
 invariant-loop-row l =
-    HasEdges (in_set l.self)
-    (record {
-      x = l.zone.x;
-      y = l.zone.y;
-      w = l.zone.w;
-      h = min (l.zone.y + l.zone.h) (l.row * 64) - l.zone.y;
-    }) l.found
+    HasEdges (in_set l.self) (record l.zone { h = min (l.zone.y + l.zone.h) (l.row * 64) - l.zone.y }) l.found

@@ -7,18 +7,7 @@ pub returns-then-has : goal.returns-then-has
 returns-then-has c =
     let l = c.args.self.now in
     let full : is_in l.full c.args.column c.args.row ≡ true = sym c.has.ensures ∙ c.if-has.true in
-    let part = rw (
-      c.width.ensures.value,
-      c.height.ensures,
-    ) at (cell_part c.width.result c.height.result c.args.column c.args.row) in
-    rw (
-      c.add.ensures.value,
-      c.add-then-has.ensures.value,
-      c.remove.ensures.value,
-      c.in_row.ensures,
-      c.in_column.ensures,
-      c.width.ensures.value,
-      c.height.ensures,
-    )
+    let part = cell_part l.places.width l.places.height c.args.column c.args.row in
+    rw (c.add.ensures.value, c.add-then-has.ensures.value, c.remove.ensures.value, c.zone_of-zone.ensures)
     (spread_full c.args.column c.args.row l _ c.requires.sound c.requires.column c.requires.row full
     part)

@@ -1,6 +1,0 @@
-use Rattle.rfb_picture.specs.inside.Plane.{HasMasked}
-use Rattle.rfb_picture.proofs.words.has_column.Given as goal
-
--- the rows so far have the mask's bits
-abbrev pub invariant-loop-row : goal.invariant-loop-row
-invariant-loop-row l = HasMasked l.words l.across l.column l.mask l.fn.top l.row
