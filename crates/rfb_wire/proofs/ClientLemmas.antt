@@ -1,8 +1,7 @@
 -- Heads of client messages: one for bytes of the right size, and no other for the same bytes.
-use Rattle.std.proofs.Common.{◌≡◌, ℕ, List, [], length, slice_index, drop, Some, inl, inr, refl, arith, ◌<◌, ◌++◌, sym}
+use Rattle.std.proofs.Common.{◌≡◌, ℕ, List, [], length, slice_index, drop, Some, refl, arith, ◌<◌, ◌++◌, sym}
 use Rattle.std.proofs.Common.{ap, ◌∙◌, length-append}
 use Rattle.std.proofs.lemmas.List.{append-nil, get_or_append_left, nil_from_length}
-use Rattle.std.proofs.lemmas.Bool.{cases_eq}
 use Rattle.std.proofs.lemmas.Bool.Decides.{nat_tests}
 use Rattle.rfb_wire.specs.declared.client_head.ClientHead.{ClientHead}
 use Rattle.rfb_wire.specs.declared.client_head.ClientHead.TheVariants.{SetPixelFormat, SetEncodings, Request, Key}
@@ -10,92 +9,60 @@ use Rattle.rfb_wire.specs.declared.client_head.ClientHead.TheVariants.{Pointer, 
 use Rattle.rfb_wire.specs.Fields.{u8_at, u16_at, u32_at, flag_at}
 use Rattle.rfb_wire.specs.ClientHead.{SpellsClientHead, client_head_size}
 use Rattle.rfb_wire.specs.ClientStream.{client_head_of}
-use Rattle.rfb_wire.proofs.stream_laws.HeadLemmas.{SizesSpell}
+use Rattle.rfb_wire.proofs.stream_laws.HeadLemmas.{SizesSpell, SpelledAlone, by_type, of_type}
 
 -- bytes of the size that their type asks for are a head
 pub client-sizes : SizesSpell SpellsClientHead client_head_size
 client-sizes bytes h =
-    elim (cases_eq (slice_index bytes 0) 0) [
-      | inl is ↦ (
-        SetPixelFormat (drop 4 bytes),
-        record { size = grind (arith, nat_tests); message_type = is; pixel_format_is = refl },
-      )
-      | inr not_0 ↦ elim (cases_eq (slice_index bytes 0) 2) [
-        | inl is ↦ (
-          SetEncodings (u16_at 2 bytes),
-          record { size = grind (arith, nat_tests); message_type = is; number_is = refl },
-        )
-        | inr not_2 ↦ elim (cases_eq (slice_index bytes 0) 3) [
-          | inl is ↦ (
-            Request (flag_at 1 bytes)
-                (record {
-                  x = u16_at 2 bytes;
-                  y = u16_at 4 bytes;
-                  w = u16_at 6 bytes;
-                  h = u16_at 8 bytes;
-                }),
-            record {
-              size = grind (arith, nat_tests);
-              message_type = is;
-              incremental_is = refl;
-              rect_is = record {
-                x_position = refl;
-                y_position = refl;
-                width = refl;
-                height = refl;
-              };
-            },
-          )
-          | inr not_3 ↦ elim (cases_eq (slice_index bytes 0) 4) [
-            | inl is ↦ (
-              Key (flag_at 1 bytes) (u32_at 4 bytes),
-              record {
-                size = grind (arith, nat_tests);
-                message_type = is;
-                down_flag_is = refl;
-                key_is = refl;
-              },
-            )
-            | inr not_4 ↦ elim (cases_eq (slice_index bytes 0) 5) [
-              | inl is ↦ (
-                Pointer (u8_at 1 bytes) (u16_at 2 bytes) (u16_at 4 bytes),
-                record {
-                  size = grind (arith, nat_tests);
-                  message_type = is;
-                  button_mask_is = refl;
-                  x_position_is = refl;
-                  y_position_is = refl;
-                },
-              )
-              | inr not_5 ↦ elim (cases_eq (slice_index bytes 0) 6) [
-                | inl is ↦ (
-                  CutText (u32_at 4 bytes),
-                  record { size = grind (arith, nat_tests); message_type = is; length_is = refl },
-                )
-                | inr not_6 ↦ absurd (grind (arith, nat_tests))
-              ]
-            ]
-          ]
-        ]
-      ]
-    ]
+    by_type client_head_size bytes h 0 20 refl
+    (λ size is. (SetPixelFormat (drop 4 bytes), record { size = size; message_type = is; pixel_format_is = refl }))
+    (λ not_0. by_type client_head_size bytes h 2 4 refl
+    (λ size is. (SetEncodings (u16_at 2 bytes), record { size = size; message_type = is; number_is = refl }))
+    (λ not_2. by_type client_head_size bytes h 3 10 refl
+    (λ size is. (
+      Request (flag_at 1 bytes)
+          (record { x = u16_at 2 bytes; y = u16_at 4 bytes; w = u16_at 6 bytes; h = u16_at 8 bytes }),
+      record {
+        size = size;
+        message_type = is;
+        incremental_is = refl;
+        rect_is = record { x_position = refl; y_position = refl; width = refl; height = refl };
+      },
+    ))
+    (λ not_3. by_type client_head_size bytes h 4 8 refl
+    (λ size is. (
+      Key (flag_at 1 bytes) (u32_at 4 bytes),
+      record { size = size; message_type = is; down_flag_is = refl; key_is = refl },
+    ))
+    (λ not_4. by_type client_head_size bytes h 5 6 refl
+    (λ size is. (
+      Pointer (u8_at 1 bytes) (u16_at 2 bytes) (u16_at 4 bytes),
+      record {
+        size = size;
+        message_type = is;
+        button_mask_is = refl;
+        x_position_is = refl;
+        y_position_is = refl;
+      },
+    ))
+    (λ not_5. by_type client_head_size bytes h 6 8 refl
+    (λ size is. (CutText (u32_at 4 bytes), record { size = size; message_type = is; length_is = refl }))
+    (λ not_6. absurd (grind (arith, nat_tests))))))))
 
 -- bytes spell no other head than their own, have its size, and are not none
-pub client-spelled : (head : ClientHead) (bytes : List ℕ) → SpellsClientHead head bytes →
-    (head ≡ client_head_of bytes) × (client_head_size (slice_index bytes 0) ≡ Some (length bytes))
-    × (0 < length bytes)
+pub client-spelled : SpelledAlone SpellsClientHead client_head_size client_head_of
 client-spelled (SetPixelFormat format) bytes s =
-    (grind (arith, nat_tests), grind (arith, nat_tests), omega arith)
+    of_type client_head_size bytes s.size s.message_type refl (omega arith) (grind (arith, nat_tests))
 client-spelled (SetEncodings count) bytes s =
-    (grind (arith, nat_tests), grind (arith, nat_tests), omega arith)
+    of_type client_head_size bytes s.size s.message_type refl (omega arith) (grind (arith, nat_tests))
 client-spelled (Request incremental rect) bytes s =
-    (grind (arith, nat_tests), grind (arith, nat_tests), omega arith)
+    of_type client_head_size bytes s.size s.message_type refl (omega arith) (grind (arith, nat_tests))
 client-spelled (Key down key) bytes s =
-    (grind (arith, nat_tests), grind (arith, nat_tests), omega arith)
+    of_type client_head_size bytes s.size s.message_type refl (omega arith) (grind (arith, nat_tests))
 client-spelled (Pointer buttons x y) bytes s =
-    (grind (arith, nat_tests), grind (arith, nat_tests), omega arith)
+    of_type client_head_size bytes s.size s.message_type refl (omega arith) (grind (arith, nat_tests))
 client-spelled (CutText text_length) bytes s =
-    (grind (arith, nat_tests), grind (arith, nat_tests), omega arith)
+    of_type client_head_size bytes s.size s.message_type refl (omega arith) (grind (arith, nat_tests))
 
 -- bytes that go on after a head spell no other, and do not go on
 pub client-apart : (head other : ClientHead) (front rest : List ℕ) → SpellsClientHead head front →

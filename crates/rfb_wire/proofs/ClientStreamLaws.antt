@@ -15,9 +15,9 @@ use Rattle.rfb_wire.specs.declared.client_head.ClientHead.TheVariants.{SetPixelF
 use Rattle.rfb_wire.specs.declared.client_head.ClientHead.TheVariants.{SetEncodings as EncodingsHead, Request, Key}
 use Rattle.rfb_wire.specs.declared.client_head.ClientHead.TheVariants.{Pointer, CutText}
 use Rattle.rfb_wire.specs.Fields.{s32_at}
-use Rattle.rfb_wire.specs.ClientHead.{SpellsClientHead, client_head_size}
-use Rattle.rfb_wire.specs.stream.Reading.{Says, Reads, Same, Listed}
-use Rattle.rfb_wire.specs.stream.Parts.{piece, done, and_then, valued, many, headed}
+use Rattle.rfb_wire.specs.ClientHead.{SpellsClientHead, SpellsSetEncodings, SpellsClientCutText, client_head_size}
+use Rattle.rfb_wire.specs.stream.Reading.{Says, Reads}
+use Rattle.rfb_wire.specs.stream.Parts.{valued}
 use Rattle.rfb_wire.specs.stream.Grammar.{IsSpelled}
 use Rattle.rfb_wire.specs.ClientMessage.{ClientMessage, SetPixelFormat, SetEncodings, FramebufferUpdateRequest}
 use Rattle.rfb_wire.specs.ClientMessage.{KeyEvent, PointerEvent, ClientCutText, ClientFault, BadFormat, UnknownType}
@@ -25,12 +25,12 @@ use Rattle.rfb_wire.specs.ClientMessage.{SpellsNumber, SpellsClientMessage, Faul
 use Rattle.rfb_wire.specs.ClientMessage.{client_message_size}
 use Rattle.rfb_wire.specs.ClientStream.{client_head_of, format_of, format_fault, client_body, client_message}
 use Rattle.rfb_wire.specs.ClientStream.{client_stream}
-use Rattle.rfb_wire.proofs.stream_laws.HeadLemmas.{begins_some}
 use Rattle.rfb_wire.proofs.ClientLemmas.{client-sizes, client-spelled}
-use Rattle.rfb_wire.proofs.stream_laws.PartLaws.{alone, piece_says, done_says, judged_says, then_says, piece_reads}
-use Rattle.rfb_wire.proofs.stream_laws.PartLaws.{done_reads, judged_reads, then_reads, same_reads}
-use Rattle.rfb_wire.proofs.stream_laws.RepeatLaws.{valued_says, many_says, valued_reads, many_reads}
-use Rattle.rfb_wire.proofs.stream_laws.HeadedLaws.{IsHeaded, headed_says, headed_reads}
+use Rattle.rfb_wire.proofs.stream_laws.PartLaws.{alone, piece_says, done_says, judged_says, made_says, ThenItem}
+use Rattle.rfb_wire.proofs.stream_laws.PartLaws.{ThenFault, piece_reads, done_reads, judged_reads, made_reads}
+use Rattle.rfb_wire.proofs.stream_laws.RepeatLaws.{items_say, many_says, value_reads, many_reads}
+use Rattle.rfb_wire.proofs.stream_laws.HeadedLaws.{IsHeaded, headed_by, headed_says, message_reads, list_follows}
+use Rattle.rfb_wire.proofs.stream_laws.HeadedLaws.{list_sized, text_follows, text_sized}
 
 -- ---- heads
 
@@ -38,16 +38,7 @@ client_head_some : (first n : ℕ) → client_head_size first ≡ Some n → 0 <
 client_head_some first n e = grind (arith, nat_tests)
 
 pub client_headed : IsHeaded SpellsClientHead client_head_size client_head_of
-client_headed = record {
-  made = λ bytes e. let head = client-sizes bytes e in let same : head.0 ≡ client_head_of bytes =
-      (client-spelled head.0 bytes head.1).0 in
-      subst (λ (h : ClientHead). SpellsClientHead h bytes) same head.1;
-  only = λ head bytes s. client-spelled head bytes s;
-  some = client_head_some;
-  begins = λ first n e none.
-      begins_some SpellsClientHead client_head_size client-sizes first n
-      (client_head_some first n e) e none;
-}
+client_headed = headed_by client-sizes client-spelled client_head_some
 
 -- ---- formats
 
@@ -121,56 +112,36 @@ fault_none (Some fault) e = cc
 
 -- ---- what stands after a head
 
--- a number of SetEncodings
-abbrev number_says : Says ℤ ClientFault
-number_says = record { item = SpellsNumber; fault = λ _ _. ⊥ }
-
-number_reads : Reads {F = ClientFault} (valued 4 (λ bytes. s32_at 0 bytes)) number_says
+number_reads : Reads {F = ClientFault} (valued 4 (λ bytes. s32_at 0 bytes)) (items_say SpellsNumber)
 number_reads =
-    same_reads (valued 4 (λ bytes. s32_at 0 bytes)) (valued_says 4 (λ bytes. s32_at 0 bytes))
-    number_says same (valued_reads 4 (λ bytes. s32_at 0 bytes))
-  where
-    same : Same (valued_says 4 (λ bytes. s32_at 0 bytes)) number_says
-    same = record {
-      item = λ number bytes h. record { size = h.0; number_is = sym h.1 };
-      fault = λ f bytes h. h;
-      item_back = λ number bytes h. (h.size, sym h.number_is);
-      fault_back = λ f bytes h. h;
-    }
+    value_reads 4 (λ bytes. s32_at 0 bytes) SpellsNumber
+    (λ number bytes size is. record { size = size; number_is = sym is })
+    (λ number bytes h. (h.size, sym h.number_is))
 
 -- what the bytes after a head say
 abbrev after_says : ClientHead → Says ClientMessage ClientFault
 after_says (FormatHead bytes) =
     judged_says (format_fault (first_fault bytes)) (SetPixelFormat (format_of bytes))
 after_says (EncodingsHead count) =
-    then_says (many_says count number_says) (λ numbers. done_says (SetEncodings numbers))
+    made_says (λ numbers. SetEncodings numbers) (many_says count (items_say SpellsNumber))
 after_says (Request incremental rect) = done_says (FramebufferUpdateRequest incremental rect)
 after_says (Key down key) = done_says (KeyEvent down key)
 after_says (Pointer buttons x y) = done_says (PointerEvent buttons x y)
 after_says (CutText text_length) =
-    then_says (piece_says text_length) (λ text. done_says (ClientCutText text))
+    made_says (λ text. ClientCutText text) (piece_says text_length)
 
 after_reads : (head : ClientHead) → Reads (client_body head) (after_says head)
 after_reads (FormatHead bytes) =
     judged_reads (format_fault (first_fault bytes)) (SetPixelFormat (format_of bytes))
 after_reads (EncodingsHead count) =
-    then_reads (many count (valued 4 (λ bytes. s32_at 0 bytes)))
-    (λ numbers. done (SetEncodings numbers)) (many_says count number_says)
-    (λ numbers. done_says (SetEncodings numbers))
-    (many_reads count (valued 4 (λ bytes. s32_at 0 bytes)) number_says number_reads)
-    (λ numbers. done_reads (SetEncodings numbers))
+    made_reads (λ numbers. SetEncodings numbers)
+    (many_reads count (valued 4 (λ bytes. s32_at 0 bytes)) (items_say SpellsNumber) number_reads)
 after_reads (Request incremental rect) = done_reads (FramebufferUpdateRequest incremental rect)
 after_reads (Key down key) = done_reads (KeyEvent down key)
 after_reads (Pointer buttons x y) = done_reads (PointerEvent buttons x y)
-after_reads (CutText text_length) =
-    then_reads (piece text_length) (λ text. done (ClientCutText text)) (piece_says text_length)
-    (λ text. done_says (ClientCutText text)) (piece_reads text_length)
-    (λ text. done_reads (ClientCutText text))
+after_reads (CutText text_length) = made_reads (λ text. ClientCutText text) (piece_reads text_length)
 
 -- ---- whole messages
-
-abbrev parts_say : Says ClientMessage ClientFault
-parts_say = then_says (headed_says SpellsClientHead (λ first. UnknownType first)) after_says
 
 spells_item : (head : ClientHead) (m : ClientMessage) (bytes front back : List ℕ) →
     bytes ≡ front ++ back → SpellsClientHead head front → (after_says head).item m back →
@@ -186,36 +157,15 @@ spells_item (FormatHead pixel_format) m bytes front back e s h =
       spelled = format_spelled pixel_format size good;
       passes = good;
     })
-spells_item (EncodingsHead count) m bytes front back e s (numbers, one, two, split, many, is) =
-    let all : back ≡ one = alone back one two split is.1 in
-    rw is.0 (record {
-      head = front;
-      list = back;
-      whole = e;
-      head_is = record {
-        size = s.size;
-        message_type = s.message_type;
-        number_is = s.number_is ∙ sym many.0;
-      };
-      listed = rw all many.1;
-    })
+spells_item (EncodingsHead count) m bytes front back e s (numbers, is, many) =
+    rw is (list_follows SpellsSetEncodings SpellsNumber count numbers bytes front back e s many)
 spells_item (Request incremental rect) m bytes front back e s h =
     rw (h.0, alone bytes front back e h.1) s
 spells_item (Key down key) m bytes front back e s h = rw (h.0, alone bytes front back e h.1) s
 spells_item (Pointer buttons x y) m bytes front back e s h =
     rw (h.0, alone bytes front back e h.1) s
-spells_item (CutText text_length) m bytes front back e s (text, one, two, split, is_text, is) =
-    let all : back ≡ text = alone back one two split is.1 ∙ is_text.0 in
-    let count : text_length ≡ length text = sym is_text.1 ∙ ap length is_text.0 in
-    rw is.0 (record {
-      head = front;
-      whole = e ∙ ap (λ (ys : List ℕ). front ++ ys) all;
-      head_is = record {
-        size = s.size;
-        message_type = s.message_type;
-        length_is = s.length_is ∙ count;
-      };
-    })
+spells_item (CutText text_length) m bytes front back e s (text, is, is_text) =
+    rw is (text_follows SpellsClientCutText text_length text bytes front back e s is_text)
 
 spells_fault : (head : ClientHead) (f : ClientFault) (bytes front back : List ℕ) →
     bytes ≡ front ++ back → SpellsClientHead head front → (after_says head).fault f back →
@@ -228,16 +178,14 @@ spells_fault (FormatHead pixel_format) f bytes front back e s h =
     told None is e' = cc
     told (Some fault) is e' = let same : BadFormat fault ≡ f =
         cc in rw (sym same, alone bytes front back e h.1) (pixel_format, s, is)
-spells_fault (EncodingsHead count) f bytes front back e s (inl h) = absurd h.6
-spells_fault (EncodingsHead count) f bytes front back e s (inr h) = absurd h.5
+spells_fault (EncodingsHead count) f bytes front back e s h = absurd h.6
 spells_fault (Request incremental rect) f bytes front back e s h = absurd h
 spells_fault (Key down key) f bytes front back e s h = absurd h
 spells_fault (Pointer buttons x y) f bytes front back e s h = absurd h
-spells_fault (CutText text_length) f bytes front back e s (inl h) = absurd h
-spells_fault (CutText text_length) f bytes front back e s (inr h) = absurd h.5
+spells_fault (CutText text_length) f bytes front back e s h = absurd h
 
 item_back : (m : ClientMessage) (bytes : List ℕ) → SpellsClientMessage m bytes →
-    parts_say.item m bytes
+    ThenItem (headed_says SpellsClientHead (λ first. UnknownType first)) after_says m bytes
 item_back (SetPixelFormat format) bytes s =
     let size : length s.pixel_format ≡ 16 =
     ap length (sym s.head.pixel_format_is) ∙ length-drop 4 bytes ∙ omega (arith, s.head.size) in
@@ -251,85 +199,43 @@ item_back (SetPixelFormat format) bytes s =
       s.head,
       (ap format_fault s.passes, ap (λ (f : PixelFormat). SetPixelFormat f) same, refl),
     )
-item_back (SetEncodings numbers) bytes s = (
-  EncodingsHead (length numbers),
-  s.head,
-  s.list,
-  s.whole,
-  s.head_is,
-  (numbers, s.list, [], sym (append-nil s.list), (refl, s.listed), (refl, refl)),
-)
+item_back (SetEncodings numbers) bytes s =
+    (EncodingsHead (length numbers), s.head, s.list, s.whole, s.head_is, (numbers, refl, (refl, s.listed)))
 item_back (FramebufferUpdateRequest incremental rect) bytes s =
     (Request incremental rect, bytes, [], sym (append-nil bytes), s, (refl, refl))
 item_back (KeyEvent down key) bytes s =
     (Key down key, bytes, [], sym (append-nil bytes), s, (refl, refl))
 item_back (PointerEvent buttons x y) bytes s =
     (Pointer buttons x y, bytes, [], sym (append-nil bytes), s, (refl, refl))
-item_back (ClientCutText text) bytes s = (
-  CutText (length text),
-  s.head,
-  text,
-  s.whole,
-  s.head_is,
-  (text, text, [], sym (append-nil text), (refl, refl), (refl, refl)),
-)
+item_back (ClientCutText text) bytes s =
+    (CutText (length text), s.head, text, s.whole, s.head_is, (text, refl, (refl, refl)))
 
 fault_back : (f : ClientFault) (bytes : List ℕ) → FaultsClientMessage f bytes →
-    parts_say.fault f bytes
+    ThenFault (headed_says SpellsClientHead (λ first. UnknownType first)) after_says f bytes
 fault_back (BadFormat fault) bytes (pixel_format, s, bad) =
     inr (FormatHead pixel_format, bytes, [], sym (append-nil bytes), s, (ap format_fault bad, refl))
 fault_back (UnknownType message_type) bytes h = inl (message_type, refl, h.0, h.1)
-
-client_same : Same parts_say client_says
-client_same = record {
-  item = λ m bytes h. spells_item h.0 m bytes h.1 h.2 h.3 h.4 h.5;
-  fault = fault;
-  item_back = item_back;
-  fault_back = fault_back;
-}
-  where
-    fault : (f : ClientFault) (bytes : List ℕ) → parts_say.fault f bytes →
-        FaultsClientMessage f bytes
-    fault f bytes (inl (first, e, all, none)) = rw e (all, none)
-    fault f bytes (inr (head, front, back, e, s, h)) = spells_fault head f bytes front back e s h
 
 -- the reading gives exactly the messages and the faults that the bytes of a client say
 pub client_message_reads : Reads client_message client_says
 unfolding client_message
 client_message_reads =
-    same_reads (and_then (headed client_head_size (λ first. UnknownType first) client_head_of)
-    client_body) parts_say client_says client_same
-    (then_reads (headed client_head_size (λ first. UnknownType first) client_head_of) client_body
-    (headed_says SpellsClientHead (λ first. UnknownType first)) after_says
-    (headed_reads SpellsClientHead client_head_size (λ first. UnknownType first)
-    client_head_of client_headed) after_reads)
+    message_reads client_headed after_reads spells_item spells_fault
+    (λ first bytes all none. (all, none)) item_back fault_back
 
 -- ---- the stream
-
--- the list of SetEncodings has four bytes a number
-length-numbers : (numbers : List ℤ) (bytes : List ℕ) → Listed SpellsNumber numbers bytes →
-    length bytes ≡ length numbers * 4
-length-numbers [] bytes h = rw h refl
-length-numbers (n ∷ numbers) bytes (front, back, e, s, more) =
-    let others = length-numbers numbers back more in
-    let all : length bytes ≡ length front + length back = ap length e ∙ length-append front back in
-    omega (arith, s.size, others, all)
 
 message_sized : (m : ClientMessage) (bytes : List ℕ) → SpellsClientMessage m bytes →
     (length bytes ≡ client_message_size m) × (0 < length bytes)
 message_sized (SetPixelFormat format) bytes s = (s.head.size, omega (arith, s.head.size))
 message_sized (SetEncodings numbers) bytes s =
-    let list = length-numbers numbers s.list s.listed in
-    let all : length bytes ≡ length s.head + length s.list =
-    ap length s.whole ∙ length-append s.head s.list in
-    (omega (arith, s.head_is.size, list, all), omega (arith, s.head_is.size, all))
+    list_sized SpellsSetEncodings SpellsNumber 4 4 (omega arith) (λ count head h. h.size)
+    (λ number list h. h.size) numbers bytes s
 message_sized (FramebufferUpdateRequest incremental rect) bytes s = (s.size, omega (arith, s.size))
 message_sized (KeyEvent down key) bytes s = (s.size, omega (arith, s.size))
 message_sized (PointerEvent buttons x y) bytes s = (s.size, omega (arith, s.size))
 message_sized (ClientCutText text) bytes s =
-    let all : length bytes ≡ length s.head + length text =
-    ap length s.whole ∙ length-append s.head text in
-    (omega (arith, s.head_is.size, all), omega (arith, s.head_is.size, all))
+    text_sized SpellsClientCutText 8 (omega arith) (λ count head h. h.size) text bytes s
 
 fault_some : (f : ClientFault) (bytes : List ℕ) → FaultsClientMessage f bytes → 0 < length bytes
 fault_some (BadFormat fault) bytes (pixel_format, s, bad) = omega (arith, s.size)

@@ -1,6 +1,6 @@
 -- Sessions of a client's bytes, computed: a key, and then a type that no message has, split in two
 -- ways.
-use Rattle.std.proofs.Common.{◌≡◌, ℕ, List, [], ◌∷◌, ◌++◌, Some, None, true, refl, arith}
+use Rattle.std.proofs.Common.{◌≡◌, ℕ, List, [], ◌∷◌, ◌++◌, Some, None, true, refl, ap, arith}
 use Rattle.std.specs.Prelude.{⊤}
 use Rattle.rfb_wire.specs.ClientMessage.{ClientMessage, KeyEvent, PointerEvent, ClientFault, UnknownType}
 use Rattle.rfb_wire.specs.ClientStream.{client_message, client_stream}
@@ -21,11 +21,13 @@ key = 4 ∷ 1 ∷ 0 ∷ 0 ∷ 0 ∷ 0 ∷ 0 ∷ 97 ∷ []
 abbrev at_once : List (Call ClientMessage)
 at_once = record { bytes = key; event = Some (KeyEvent true 97) } ∷ []
 
-key_taken : Takes teller tt [] key (Some (KeyEvent true 97)) tt []
+-- it is told at its last byte, whatever part of it came before
+key_taken : (front back : List ℕ) → front ++ back ≡ key →
+    Takes teller tt front back (Some (KeyEvent true 97)) tt []
 unfolding client_message
-key_taken = record {
+key_taken front back whole = record {
   items = KeyEvent true 97 ∷ [];
-  reads = ([], refl, refl);
+  reads = ([], ap client_message whole, refl);
   state = refl;
   ends = refl;
   partial = refl;
@@ -37,7 +39,7 @@ unfolding client_message
 type_refused = record { items = []; rest = 1 ∷ []; reads = refl; quiet = refl; bad = refl }
 
 told_at_once : IsSession teller tt [] at_once (1 ∷ []) (Some (UnknownType 1))
-told_at_once = (tt, [], (tt, [], key_taken, (refl, refl)), type_refused)
+told_at_once = (tt, [], (tt, [], key_taken [] key refl, (refl, refl)), type_refused)
 
 -- ---- the key's first three bytes, its others, and the fault with a byte after it
 
@@ -57,16 +59,7 @@ part_taken =
 
 others_taken : Takes teller tt (4 ∷ 1 ∷ 0 ∷ []) (0 ∷ 0 ∷ 0 ∷ 0 ∷ 97 ∷ []) (Some (KeyEvent true 97))
     tt []
-unfolding client_message
-others_taken =
-    record {
-      items = KeyEvent true 97 ∷ [];
-      reads = ([], refl, refl);
-      state = refl;
-      ends = refl;
-      partial = refl;
-      whole = refl;
-    }
+others_taken = key_taken (4 ∷ 1 ∷ 0 ∷ []) (0 ∷ 0 ∷ 0 ∷ 0 ∷ 97 ∷ []) refl
 
 more_refused : Refuses teller tt [] (1 ∷ 7 ∷ []) (UnknownType 1)
 unfolding client_message
@@ -93,7 +86,7 @@ parts_delivered = record {
   left = PointerEvent 1 258 3 ∷ [];
   queue_is = refl;
   state = refl;
-  told_is = refl;
+  ends = refl;
   reads = ([], refl, refl);
   count = refl;
   within = omega arith;

@@ -1,14 +1,14 @@
 -- The messages from client to server, RFC 6143 section 7.5, whole: heads with what follows them.
-use Rattle.std.specs.Prelude.{◌≡◌, ℕ, ℤ, ◌+◌, ◌*◌, Bool, List, [], ◌∷◌, ◌++◌, length, Some, None}
+use Rattle.std.specs.Prelude.{◌≡◌, ℕ, ℤ, ◌+◌, ◌*◌, Bool, List, length, Some, None}
 use Rattle.rfb_picture.specs.declared.rect.Rect.{Rect}
 use Rattle.rfb_pixel.specs.declared.fault.FormatFault.{FormatFault}
 use Rattle.rfb_pixel.specs.Format.{PixelFormat}
 use Rattle.rfb_pixel.specs.FormatBytes.{Spells, first_fault}
 use Rattle.rfb_wire.specs.Fields.{s32_at}
-use Rattle.rfb_wire.specs.stream.Heads.{BeginsNone}
+use Rattle.rfb_wire.specs.stream.Heads.{IsNoHead, SpellsList, SpellsText}
 use Rattle.rfb_wire.specs.ClientHead.{SpellsClientHead, SpellsSetPixelFormat, SpellsSetEncodings, SpellsRequest}
 use Rattle.rfb_wire.specs.ClientHead.{SpellsKey, SpellsPointer, SpellsClientCutText}
-use Rattle.rfb_wire.specs.stream.Reading.{Says, Listed}
+use Rattle.rfb_wire.specs.stream.Reading.{Says}
 
 -- a message: the format that is set, the numbers of the encodings in order, the area asked for, the
 -- key or the pointer, the text
@@ -38,18 +38,12 @@ pub record SpellsNumber (number : ℤ) (bytes : List ℕ) : Type 0 where
   pub number_is : s32_at 0 bytes ≡ number
 
 -- SetEncodings, section 7.5.2: the head tells how many numbers follow
-pub record SpellsEncodingsMessage (encodings : List ℤ) (bytes : List ℕ) : Type 0 where
-  pub head : List ℕ
-  pub list : List ℕ
-  pub whole : bytes ≡ head ++ list
-  pub head_is : SpellsSetEncodings (length encodings) head
-  pub listed : Listed SpellsNumber encodings list
+abbrev pub SpellsEncodingsMessage : List ℤ → List ℕ → Type 0
+SpellsEncodingsMessage encodings bytes = SpellsList SpellsSetEncodings SpellsNumber encodings bytes
 
 -- ClientCutText, section 7.5.6: the head tells how many bytes of text follow
-pub record SpellsTextMessage (text bytes : List ℕ) : Type 0 where
-  pub head : List ℕ
-  pub whole : bytes ≡ head ++ text
-  pub head_is : SpellsClientCutText (length text) head
+abbrev pub SpellsTextMessage : List ℕ → List ℕ → Type 0
+SpellsTextMessage text bytes = SpellsText SpellsClientCutText text bytes
 
 -- the bytes are this message on the wire
 abbrev pub SpellsClientMessage : ClientMessage → List ℕ → Type 0
@@ -66,8 +60,7 @@ abbrev pub FaultsClientMessage : ClientFault → List ℕ → Type 0
 FaultsClientMessage (BadFormat fault) bytes =
     (pixel_format : List ℕ) × SpellsSetPixelFormat pixel_format bytes
     × (first_fault pixel_format ≡ Some fault)
-FaultsClientMessage (UnknownType message_type) bytes =
-    (bytes ≡ message_type ∷ []) × BeginsNone SpellsClientHead message_type
+FaultsClientMessage (UnknownType message_type) bytes = IsNoHead SpellsClientHead message_type bytes
 
 -- what the bytes of a client say, between two messages
 abbrev pub client_says : Says ClientMessage ClientFault

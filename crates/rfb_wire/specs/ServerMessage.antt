@@ -1,13 +1,13 @@
 -- The messages from server to client, RFC 6143 section 7.6, whole but for the
 -- rectangles of an update.
-use Rattle.std.specs.Prelude.{◌≡◌, ℕ, ◌+◌, ◌*◌, ◌==◌, List, [], ◌∷◌, ◌++◌, length, if◌then◌else◌}
+use Rattle.std.specs.Prelude.{◌≡◌, ℕ, ◌+◌, ◌*◌, ◌==◌, List, length, if◌then◌else◌}
 use Rattle.rfb_wire.specs.declared.server_head.ServerHead.{ServerHead}
 use Rattle.rfb_wire.specs.declared.server_head.ServerHead.TheVariants.{Update, ColourMap, Bell as BellHead, CutText}
 use Rattle.rfb_wire.specs.Fields.{u8_at, u16_at, u32_at}
-use Rattle.rfb_wire.specs.stream.Heads.{BeginsNone}
+use Rattle.rfb_wire.specs.stream.Heads.{IsNoHead, SpellsList, SpellsText}
 use Rattle.rfb_wire.specs.ServerHead.{SpellsServerHead, SpellsUpdate, SpellsColourMap, SpellsBell, SpellsServerCutText}
 use Rattle.rfb_wire.specs.ServerHead.{server_head_size}
-use Rattle.rfb_wire.specs.stream.Reading.{Reading, Says, Listed}
+use Rattle.rfb_wire.specs.stream.Reading.{Reading, Says}
 use Rattle.rfb_wire.specs.stream.Parts.{piece, done, and_then, valued, many, headed}
 
 -- an entry of a colour map, 16 bits each
@@ -36,19 +36,13 @@ pub record SpellsMapColour (colour : MapColour) (bytes : List ℕ) : Type 0 wher
   pub blue_is : u16_at 4 bytes ≡ colour.blue
 
 -- SetColorMapEntries, section 7.6.2: the head tells how many colours follow
-pub record SpellsColoursMessage (first : ℕ) (colours : List MapColour) (bytes : List ℕ) : Type
-    0 where
-  pub head : List ℕ
-  pub list : List ℕ
-  pub whole : bytes ≡ head ++ list
-  pub head_is : SpellsColourMap first (length colours) head
-  pub listed : Listed SpellsMapColour colours list
+abbrev pub SpellsColoursMessage : ℕ → List MapColour → List ℕ → Type 0
+SpellsColoursMessage first colours bytes =
+    SpellsList (SpellsColourMap first) SpellsMapColour colours bytes
 
 -- ServerCutText, section 7.6.4: the head tells how many bytes of text follow
-pub record SpellsServerTextMessage (text bytes : List ℕ) : Type 0 where
-  pub head : List ℕ
-  pub whole : bytes ≡ head ++ text
-  pub head_is : SpellsServerCutText (length text) head
+abbrev pub SpellsServerTextMessage : List ℕ → List ℕ → Type 0
+SpellsServerTextMessage text bytes = SpellsText SpellsServerCutText text bytes
 
 -- the bytes are this message on the wire; of an update they are its head, and its rectangles follow
 abbrev pub SpellsServerMessage : ServerMessage → List ℕ → Type 0
@@ -60,8 +54,7 @@ SpellsServerMessage (ServerCutText text) bytes = SpellsServerTextMessage text by
 
 -- the bytes end in this fault: a type is judged at its byte
 abbrev pub FaultsServerMessage : ServerFault → List ℕ → Type 0
-FaultsServerMessage (UnknownType message_type) bytes =
-    (bytes ≡ message_type ∷ []) × BeginsNone SpellsServerHead message_type
+FaultsServerMessage (UnknownType message_type) bytes = IsNoHead SpellsServerHead message_type bytes
 
 -- what the bytes of a server say, between two messages
 abbrev pub server_says : Says ServerMessage ServerFault

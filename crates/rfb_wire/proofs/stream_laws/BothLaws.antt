@@ -6,8 +6,7 @@ use Rattle.std.specs.Option.{IfSome}
 use Rattle.rfb_wire.specs.stream.Reading.{Next, More}
 use Rattle.rfb_wire.specs.stream.Parts.{named}
 use Rattle.rfb_wire.specs.stream.Grammar.{Grammar, ReadsAll}
-use Rattle.rfb_wire.specs.stream.End.{Machine, IsMachine, acts, EndsWith, Takes, Refuses, RunsOut, FedBy, RefusedBy}
-use Rattle.rfb_wire.specs.stream.End.{RunsOutBy}
+use Rattle.rfb_wire.specs.stream.End.{Machine, IsMachine, acts, EndsWith, Takes, Refuses, RunsOut}
 use Rattle.rfb_wire.specs.stream.Sequel.{Stage, First, Second, turn, Two, sequel}
 use Rattle.rfb_wire.specs.stream.Both.{event_as, first_point, end_at, DoesAs, ComesTo, StarvesAs, GoesAsFirst}
 use Rattle.rfb_wire.specs.stream.Both.{GoesAsSecond, LandsAs}
@@ -23,319 +22,204 @@ whole_as {E = E} event (Some d) rest whole = some (event d)
     some None = tt
     some (Some e) = whole
 
-module _ {S R K H E A P I F D : Type 0} where
-  -- ---- items of the other, as the end's own
+module _ {S R K H E A P I F D : Type 0} {m : Machine S R K H E} {a : Machine A P I F D} {shows : S → Option A}
+    {item : I → K} {fault : F → H} {event : D → Option E} (does : DoesAs m a shows item fault event)
+  where
+    -- ---- items of the other, as the end's own
 
-  pub items_read : (m : Machine S R K H E) (a : Machine A P I F D) (shows : S → Option A)
-      (item : I → K) (fault : F → H) (event : D → Option E) → IsMachine m → IsMachine a →
-      DoesAs m a shows item fault event →
-      (s : S) (u : A) (bytes : List ℕ) (items : List I) (rest : List ℕ) (told : Option D) →
-      shows s ≡ Some u → EndsWith a u items told →
+    pub items_end : (s : S) (u : A) (items : List I) (told : Option D) → shows s ≡ Some u →
+        EndsWith a u items told → EndsWith m s (map item items) (event_as event told)
+    items_end s u [] told shown ends = ap (λ (e : Option D). event_as event e) ends
+    items_end s u (i ∷ []) told shown ends =
+        does.tells s u i shown ∙ ap (λ (e : Option D). event_as event e) ends
+    items_end s u (i ∷ j ∷ items) told shown ends = (
+      does.tells s u i shown ∙ ap (λ (e : Option D). event_as event e) ends.0,
+      items_end (m.act s (item i)) (a.act u i) (j ∷ items) told (does.goes_on s u i shown ends.0) ends.1,
+    )
+
+    -- where items without an event leave the end
+    pub items_quiet : (s : S) (u : A) (items : List I) → shows s ≡ Some u → EndsWith a u items None →
+        shows (acts m s (map item items)) ≡ Some (acts a u items)
+    items_quiet s u [] shown ends = shown
+    items_quiet s u (i ∷ items) shown ends =
+        let first = quiet_first a u i items ends in
+        items_quiet (m.act s (item i)) (a.act u i) items (does.goes_on s u i shown first.0) first.1
+
+    -- and where items leave it
+    pub items_come : (s : S) (u : A) (items : List I) (told : Option D) → shows s ≡ Some u →
+        EndsWith a u items told →
+        ComesTo m a shows item told (acts m s (map item items)) (acts a u items)
+    items_come s u items None shown ends = items_quiet s u items shown ends
+    items_come s u [] (Some d) shown ends = absurd cc
+    items_come s u (i ∷ []) (Some d) shown ends = (s, u, i, shown, ends, refl, refl)
+    items_come s u (i ∷ j ∷ items) (Some d) shown ends =
+        items_come (m.act s (item i)) (a.act u i) (j ∷ items) (Some d)
+        (does.goes_on s u i shown ends.0) ends.1
+
+    -- what waits for the other waits for the end
+    pub waits_as : (s : S) (u : A) (rest : List ℕ) → shows s ≡ Some u →
+        a.grammar.next (a.point u) rest ≡ More → m.grammar.next (m.point s) rest ≡ More
+    waits_as s u rest shown more =
+        does.reads s u rest shown ∙ ap (λ (n : Next I F). named item fault n) more
+
+module _ {S R K H E A P I F D : Type 0} {m : Machine S R K H E} {a : Machine A P I F D} {shows : S → Option A}
+    {item : I → K} {fault : F → H} {event : D → Option E} (is : IsMachine m) (other : IsMachine a)
+    (does : DoesAs m a shows item fault event) where
+  pub items_read : (s : S) (u : A) (bytes : List ℕ) (items : List I) (rest : List ℕ)
+      (told : Option D) → shows s ≡ Some u → EndsWith a u items told →
       ReadsAll a.grammar (a.point u) bytes items rest →
       ReadsAll m.grammar (m.point s) bytes (map item items) rest
-  items_read m a shows item fault event is other does s u bytes [] rest told shown ends reads =
-      reads
-  items_read m a shows item fault event is other does s u bytes (i ∷ []) rest told shown ends
-      reads = (
-        reads.0,
-        does.reads s u bytes shown ∙ ap (λ (n : Next I F). named item fault n) reads.1,
-        reads.2,
-      )
-  items_read m a shows item fault event is other does s u bytes (i ∷ j ∷ items) rest told shown ends
-      reads =
+  items_read s u bytes [] rest told shown ends reads = reads
+  items_read s u bytes (i ∷ []) rest told shown ends reads = (
+    reads.0,
+    does.reads s u bytes shown ∙ ap (λ (n : Next I F). named item fault n) reads.1,
+    reads.2,
+  )
+  items_read s u bytes (i ∷ j ∷ items) rest told shown ends reads =
       let after : ReadsAll a.grammar (a.point (a.act u i)) reads.0 (j ∷ items) rest =
       subst (λ (p : P). ReadsAll a.grammar p reads.0 (j ∷ items) rest) (sym (other.past u i))
       reads.2 in
-      let more = items_read m a shows item fault event is other does (m.act s (item i)) (a.act u i)
-      reads.0 (j ∷ items) rest told (does.goes_on s u i shown ends.0) ends.1 after in (
+      let more = items_read (m.act s (item i)) (a.act u i) reads.0 (j ∷ items) rest told
+      (does.goes_on s u i shown ends.0) ends.1 after in (
         reads.0,
         does.reads s u bytes shown ∙ ap (λ (n : Next I F). named item fault n) reads.1,
         subst (λ (p : R). ReadsAll m.grammar p reads.0 (map item (j ∷ items)) rest)
             (is.past s (item i)) more,
       )
 
-  pub items_end : (m : Machine S R K H E) (a : Machine A P I F D) (shows : S → Option A)
-      (item : I → K) (fault : F → H) (event : D → Option E) → DoesAs m a shows item fault event →
-      (s : S) (u : A) (items : List I) (told : Option D) → shows s ≡ Some u →
-      EndsWith a u items told → EndsWith m s (map item items) (event_as event told)
-  items_end m a shows item fault event does s u [] told shown ends =
-      ap (λ (e : Option D). event_as event e) ends
-  items_end m a shows item fault event does s u (i ∷ []) told shown ends =
-      does.tells s u i shown ∙ ap (λ (e : Option D). event_as event e) ends
-  items_end m a shows item fault event does s u (i ∷ j ∷ items) told shown ends = (
-    does.tells s u i shown ∙ ap (λ (e : Option D). event_as event e) ends.0,
-    items_end m a shows item fault event does (m.act s (item i)) (a.act u i) (j ∷ items) told
-        (does.goes_on s u i shown ends.0) ends.1,
-  )
-
-  -- where items without an event leave the end
-  pub items_quiet : (m : Machine S R K H E) (a : Machine A P I F D) (shows : S → Option A)
-      (item : I → K) (fault : F → H) (event : D → Option E) → DoesAs m a shows item fault event →
-      (s : S) (u : A) (items : List I) → shows s ≡ Some u → EndsWith a u items None →
-      shows (acts m s (map item items)) ≡ Some (acts a u items)
-  items_quiet m a shows item fault event does s u [] shown ends = shown
-  items_quiet m a shows item fault event does s u (i ∷ items) shown ends =
-      let first = quiet_first a u i items ends in
-      items_quiet m a shows item fault event does (m.act s (item i)) (a.act u i) items
-      (does.goes_on s u i shown first.0) first.1
-
-  -- and where items leave it
-  pub items_come : (m : Machine S R K H E) (a : Machine A P I F D) (shows : S → Option A)
-      (item : I → K) (fault : F → H) (event : D → Option E) → DoesAs m a shows item fault event →
-      (s : S) (u : A) (items : List I) (told : Option D) → shows s ≡ Some u →
-      EndsWith a u items told →
-      ComesTo m a shows item told (acts m s (map item items)) (acts a u items)
-  items_come m a shows item fault event does s u items None shown ends =
-      items_quiet m a shows item fault event does s u items shown ends
-  items_come m a shows item fault event does s u [] (Some d) shown ends = absurd cc
-  items_come m a shows item fault event does s u (i ∷ []) (Some d) shown ends =
-      (s, u, i, shown, ends, refl, refl)
-  items_come m a shows item fault event does s u (i ∷ j ∷ items) (Some d) shown ends =
-      items_come m a shows item fault event does (m.act s (item i)) (a.act u i) (j ∷ items) (Some d)
-      (does.goes_on s u i shown ends.0) ends.1
-
   -- ---- calls of the other, as the end's own
 
-  -- what waits for the other waits for the end
-  pub waits_as : (m : Machine S R K H E) (a : Machine A P I F D) (shows : S → Option A)
-      (item : I → K) (fault : F → H) (event : D → Option E) → DoesAs m a shows item fault event →
-      (s : S) (u : A) (rest : List ℕ) → shows s ≡ Some u →
-      a.grammar.next (a.point u) rest ≡ More → m.grammar.next (m.point s) rest ≡ More
-  waits_as m a shows item fault event does s u rest shown more =
-      does.reads s u rest shown ∙ ap (λ (n : Next I F). named item fault n) more
-
-  partial_as : (m : Machine S R K H E) (a : Machine A P I F D) (shows : S → Option A) (item : I → K)
-      (fault : F → H) (event : D → Option E) → IsMachine m → DoesAs m a shows item fault event →
-      (t : S) (v : A) (rest : List ℕ) (told : Option D) → ComesTo m a shows item told t v →
+  partial_as : (t : S) (v : A) (rest : List ℕ) (told : Option D) → ComesTo m a shows item told t v →
       a.grammar.next (a.point v) rest ≡ More → IfSome told (λ _. rest ≡ []) →
       m.grammar.next (m.point t) rest ≡ More
-  partial_as m a shows item fault event is does t v rest None comes more whole =
-      waits_as m a shows item fault event does t v rest comes more
-  partial_as m a shows item fault event is does t v rest (Some d) comes more whole =
+  partial_as t v rest None comes more whole = waits_as does t v rest comes more
+  partial_as t v rest (Some d) comes more whole =
       subst (λ (zs : List ℕ). m.grammar.next (m.point t) zs ≡ More) (sym whole)
       (is.laws.empty (m.point t))
 
-  -- what the other takes, the end takes
-  pub takes_as : (m : Machine S R K H E) (a : Machine A P I F D) (shows : S → Option A)
-      (item : I → K) (fault : F → H) (event : D → Option E) → IsMachine m → IsMachine a →
-      DoesAs m a shows item fault event →
+  -- what the other takes, the end takes, and what is so wherever that comes to is so
+  pub takes_as : (IsSo : S → A → Type 0) →
+      ((told : Option D) (t : S) (v : A) → ComesTo m a shows item told t v → IsSo t v) →
       (s : S) (u v : A) (prefix bytes rest : List ℕ) (told : Option D) → shows s ≡ Some u →
       Takes a u prefix bytes told v rest →
-      (t : S) × Takes m s prefix bytes (event_as event told) t rest
-      × ComesTo m a shows item told t v
-  takes_as m a shows item fault event is other does s u v prefix bytes rest told shown takes =
+      (t : S) × Takes m s prefix bytes (event_as event told) t rest × IsSo t v
+  takes_as IsSo comes_so s u v prefix bytes rest told shown takes =
       let t : S = acts m s (map item takes.items) in
       let comes : ComesTo m a shows item told t v =
       subst (λ (w : A). ComesTo m a shows item told t w) (sym takes.state)
-      (items_come m a shows item fault event does s u takes.items told shown takes.ends) in (
+      (items_come does s u takes.items told shown takes.ends) in (
         t,
         record {
           items = map item takes.items;
-          reads = items_read m a shows item fault event is other does s u (prefix ++ bytes)
-              takes.items rest told shown takes.ends takes.reads;
+          reads = items_read s u (prefix ++ bytes) takes.items rest told shown takes.ends
+              takes.reads;
           state = refl;
-          ends = items_end m a shows item fault event does s u takes.items told shown takes.ends;
-          partial = partial_as m a shows item fault event is does t v rest told comes takes.partial
-              takes.whole;
+          ends = items_end does s u takes.items told shown takes.ends;
+          partial = partial_as t v rest told comes takes.partial takes.whole;
           whole = whole_as event told rest takes.whole;
         },
-        comes,
+        comes_so told t v comes,
       )
 
   -- what it refuses, the end refuses by the fault's name
-  pub refuses_as : (m : Machine S R K H E) (a : Machine A P I F D) (shows : S → Option A)
-      (item : I → K) (fault : F → H) (event : D → Option E) → IsMachine m → IsMachine a →
-      DoesAs m a shows item fault event → (s : S) (u : A) (prefix bytes : List ℕ) (f : F) →
-      shows s ≡ Some u → Refuses a u prefix bytes f → Refuses m s prefix bytes (fault f)
-  refuses_as m a shows item fault event is other does s u prefix bytes f shown refuses =
-      let quiet = items_quiet m a shows item fault event does s u refuses.items shown
-      refuses.quiet in
+  pub refuses_as : (s : S) (u : A) (prefix bytes : List ℕ) (f : F) → shows s ≡ Some u →
+      Refuses a u prefix bytes f → Refuses m s prefix bytes (fault f)
+  refuses_as s u prefix bytes f shown refuses =
+      let quiet = items_quiet does s u refuses.items shown refuses.quiet in
       record {
         items = map item refuses.items;
         rest = refuses.rest;
-        reads = items_read m a shows item fault event is other does s u (prefix ++ bytes)
-            refuses.items refuses.rest None shown refuses.quiet refuses.reads;
-        quiet = items_end m a shows item fault event does s u refuses.items None shown
-            refuses.quiet;
+        reads = items_read s u (prefix ++ bytes) refuses.items refuses.rest None shown
+            refuses.quiet refuses.reads;
+        quiet = items_end does s u refuses.items None shown refuses.quiet;
         bad = does.reads (acts m s (map item refuses.items)) (acts a u refuses.items) refuses.rest
             quiet ∙ ap (λ (n : Next I F). named item fault n) refuses.bad;
       }
 
   -- where it wants memory, the end does
-  pub runs_out_as : (m : Machine S R K H E) (a : Machine A P I F D) (shows : S → Option A)
-      (item : I → K) (fault : F → H) (event : D → Option E) → IsMachine m → IsMachine a →
-      DoesAs m a shows item fault event →
-      (asks : S → List ℕ → Type 0) (wants : A → List ℕ → Type 0) →
+  pub runs_out_as : (asks : S → List ℕ → Type 0) (wants : A → List ℕ → Type 0) →
       ((s : S) (u : A) (front : List ℕ) → shows s ≡ Some u → wants u front →
       asks s front) → (s : S) (u : A) (prefix bytes : List ℕ) → shows s ≡ Some u →
       RunsOut a wants u prefix bytes → RunsOut m asks s prefix bytes
-  runs_out_as m a shows item fault event is other does asks wants asked s u prefix bytes shown out =
-      let quiet = items_quiet m a shows item fault event does s u out.items shown out.quiet in
+  runs_out_as asks wants asked s u prefix bytes shown out =
+      let quiet = items_quiet does s u out.items shown out.quiet in
       record {
         items = map item out.items;
         front = out.front;
         later = out.later;
-        reads = items_read m a shows item fault event is other does s u (prefix ++ bytes) out.items
-            (out.front ++ out.later) None shown out.quiet out.reads;
-        quiet = items_end m a shows item fault event does s u out.items None shown out.quiet;
+        reads = items_read s u (prefix ++ bytes) out.items (out.front ++ out.later) None shown
+            out.quiet out.reads;
+        quiet = items_end does s u out.items None shown out.quiet;
         asked = asked (acts m s (map item out.items)) (acts a u out.items) out.front quiet
             out.asked;
       }
 
   -- by a test of the other's state
-  pub starves_as : (m : Machine S R K H E) (a : Machine A P I F D) (shows : S → Option A)
-      (item : I → K) (fault : F → H) (event : D → Option E) → IsMachine m → IsMachine a →
-      DoesAs m a shows item fault event → StarvesAs m a shows
-  starves_as m a shows item fault event is other does wants s u prefix bytes shown out =
-      runs_out_as m a shows item fault event is other does
-      (λ t front. (v : A) × (shows t ≡ Some v) × IsTrue (wants v front))
+  pub starves_as : StarvesAs m a shows
+  starves_as wants s u prefix bytes shown out =
+      runs_out_as (λ t front. (v : A) × (shows t ≡ Some v) × IsTrue (wants v front))
       (λ v front. IsTrue (wants v front)) (λ t v front now test. (v, now, test)) s u prefix
       bytes shown out
 
-  -- ---- an end that is fed, where the other is
-
-  -- what the other is fed, the end is: what it stands for shows what the other stands for, and
-  -- so does what it comes to
-  pub fed_as : {V W : Type 0} (m : Machine S R K H E) (a : Machine A P I F D) (shows : S → Option A)
-      (item : I → K) (fault : F → H) (event : D → Option E) → IsMachine m → IsMachine a →
-      DoesAs m a shows item fault event →
-      (stands : V → S → List ℕ → Type 0) (inner : W → A → List ℕ → Type 0) (old new : V)
-      (before after : W) (bytes : List ℕ) (told : Option D) →
-      ((s : S) (prefix : List ℕ) → stands old s prefix →
-      (u : A) × (shows s ≡ Some u) × inner before u prefix) →
-      ((t : S) (v : A) (rest : List ℕ) → ComesTo m a shows item told t v →
-      inner after v rest → stands new t rest) →
-      FedBy a inner before bytes told after →
-      FedBy m stands old bytes (event_as event told) new
-  fed_as m a shows item fault event is other does stands inner old new before after bytes told opens
-      closes fed = λ s prefix now.
-      let one = opens s prefix now in
-      let two = fed one.0 prefix one.2 in
-      let takes = takes_as m a shows item fault event is other does s one.0 two.0 prefix bytes two.1
-      told one.1 two.3 in
-      (takes.0, two.1, closes takes.0 two.0 two.1 takes.2 two.2, takes.1)
-
-  -- what the other refuses, the end does
-  pub refused_as : {V W : Type 0} (m : Machine S R K H E) (a : Machine A P I F D)
-      (shows : S → Option A) (item : I → K) (fault : F → H) (event : D → Option E) → IsMachine m →
-      IsMachine a → DoesAs m a shows item fault event →
-      (stands : V → S → List ℕ → Type 0) (inner : W → A → List ℕ → Type 0) (old : V)
-      (before : W) (bytes : List ℕ) (f : F) →
-      ((s : S) (prefix : List ℕ) → stands old s prefix →
-      (u : A) × (shows s ≡ Some u) × inner before u prefix) →
-      RefusedBy a inner before bytes f →
-      RefusedBy m stands old bytes (fault f)
-  refused_as m a shows item fault event is other does stands inner old before bytes f opens
-      refused = λ s prefix now.
-      let one = opens s prefix now in
-      refuses_as m a shows item fault event is other does s one.0 prefix bytes f one.1
-      (refused one.0 prefix one.2)
-
-  -- where the other wants memory, the end does
-  pub wants_as : {V W : Type 0} (m : Machine S R K H E) (a : Machine A P I F D)
-      (shows : S → Option A) (item : I → K) (fault : F → H) (event : D → Option E) → IsMachine m →
-      IsMachine a → DoesAs m a shows item fault event →
-      (asks : S → List ℕ → Type 0) (wants : A → List ℕ → Type 0) →
-      ((s : S) (u : A) (front : List ℕ) → shows s ≡ Some u → wants u front →
-      asks s front) →
-      (stands : V → S → List ℕ → Type 0) (inner : W → A → List ℕ → Type 0)
-      (old : V) (before : W) (bytes : List ℕ) →
-      ((s : S) (prefix : List ℕ) → stands old s prefix →
-      (u : A) × (shows s ≡ Some u) × inner before u prefix) →
-      RunsOutBy a wants inner before bytes →
-      RunsOutBy m asks stands old bytes
-  wants_as m a shows item fault event is other does asks wants asked stands inner old before bytes
-      opens out = λ s prefix now.
-      let one = opens s prefix now in
-      runs_out_as m a shows item fault event is other does asks wants asked s one.0 prefix bytes
-      one.1 (out one.0 prefix one.2)
-
 module _ {P I F Q J G H : Type 0} where
-  -- what stands next in a stream of both, where the grammar is named
-  next_first : (two : Two P I F Q J G H) (g : Grammar (Stage P Q) (Stage I J) H) (h : Grammar P I F)
-      (r : Stage P Q) (p : P) (bytes : List ℕ) → g ≡ sequel two → h ≡ two.first → r ≡ First p →
-      g.next r bytes ≡ named (λ i. First i) two.first_fault (h.next p bytes)
-  next_first two g h r p bytes both grammar point = rw (both, grammar, point) refl
-
-  next_second : (two : Two P I F Q J G H) (g : Grammar (Stage P Q) (Stage I J) H)
-      (h : Grammar Q J G) (r : Stage P Q) (q : Q) (bytes : List ℕ) → g ≡ sequel two →
-      h ≡ two.second → r ≡ Second q →
-      g.next r bytes ≡ named (λ j. Second j) two.second_fault (h.next q bytes)
-  next_second two g h r q bytes both grammar point = rw (both, grammar, point) refl
-
   -- the point after an item of the first
   past_item : (two : Two P I F Q J G H) (g : Grammar (Stage P Q) (Stage I J) H) (r : Stage P Q)
       (p : P) (i : I) → g ≡ sequel two → r ≡ First p →
       g.past r (First i) ≡ turn (two.leads p i) (two.first.past p i)
   past_item two g r p i both point = rw (both, point) refl
 
-module _ {S A P I F Q J G H D E : Type 0} where
-  -- an end of both does as the first's
-  pub first_does : (two : Two P I F Q J G H) (m : Machine S (Stage P Q) (Stage I J) H E)
-      (a : Machine A P I F D) (shows : S → Option A) (event : D → Option E) →
-      GoesAsFirst two m a shows event → DoesAs m a shows (λ i. First i) two.first_fault event
-  first_does two m a shows event goes = record {
-    reads = λ s u bytes shown.
-        next_first two m.grammar a.grammar (m.point s) (a.point u) bytes goes.both goes.grammar
-        (goes.point s u shown);
-    tells = goes.tells;
-    goes_on = λ s u i shown quiet. goes.stays s u i shown (goes.told_over u i quiet);
-  }
+module _ {S P I F Q J G H E : Type 0} {two : Two P I F Q J G H} {m : Machine S (Stage P Q) (Stage I J) H E}
+  where
+    -- an end of both does as the first's
+    pub first_does : {A D : Type 0} {a : Machine A P I F D} {shows : S → Option A} {event : D → Option E} →
+        GoesAsFirst two m a shows event → DoesAs m a shows (λ i. First i) two.first_fault event
+    first_does goes = record {
+      reads = λ s u bytes shown. rw (goes.both, goes.grammar, goes.point s u shown) refl;
+      tells = goes.tells;
+      goes_on = λ s u i shown quiet. goes.stays s u i shown (goes.told_over u i quiet);
+    }
 
-  -- after an item of the first the end shows what that comes to, or stands at the second
-  lands_after : (two : Two P I F Q J G H) (m : Machine S (Stage P Q) (Stage I J) H E)
-      (a : Machine A P I F D) (shows : S → Option A) (event : D → Option E) → IsMachine m →
-      GoesAsFirst two m a shows event → (s t : S) (u v : A) (i : I) → shows s ≡ Some u →
-      t ≡ m.act s (First i) → v ≡ a.act u i → LandsAs two m a shows t v
-  lands_after two m a shows event is goes s t u v i shown state left =
-      by (two.leads (a.point u) i) refl
-    where
-      by : (over : Option Q) → two.leads (a.point u) i ≡ over → LandsAs two m a shows t v
-      by None e = inl
-          (ap shows state ∙ goes.stays s u i shown e ∙ ap (λ (w : A). Some w) (sym left))
-      by (Some q) e = inr (record {
-        before = s;
-        shown = u;
-        item = i;
-        to = q;
-        shows_is = shown;
-        leads = e;
-        state = state;
-        left = left;
-        point = ap m.point state ∙ is.past s (First i)
-            ∙ past_item two m.grammar (m.point s) (a.point u) i goes.both (goes.point s u shown)
-            ∙ ap (λ (over : Option Q). turn over (two.first.past (a.point u) i)) e;
-      })
+    -- and as the second's, after each item of it
+    pub second_does : {B C : Type 0} {b : Machine B Q J G C} {shows : S → Option B} {event : C → Option E} →
+        GoesAsSecond two m b shows event → DoesAs m b shows (λ j. Second j) two.second_fault event
+    second_does goes = record {
+      reads = λ s u bytes shown. rw (goes.both, goes.grammar, goes.point s u shown) refl;
+      tells = goes.tells;
+      goes_on = λ s u j shown quiet. goes.stays s u j shown;
+    }
 
-  pub lands : (two : Two P I F Q J G H) (m : Machine S (Stage P Q) (Stage I J) H E)
-      (a : Machine A P I F D) (shows : S → Option A) (event : D → Option E) → IsMachine m →
-      GoesAsFirst two m a shows event → (told : Option D) (t : S) (v : A) →
-      ComesTo m a shows (λ i. First i) told t v → LandsAs two m a shows t v
-  lands two m a shows event is goes None t v comes = inl comes
-  lands two m a shows event is goes (Some d) t v comes =
-      lands_after two m a shows event is goes comes.0 t comes.1 v comes.2 comes.3 comes.5 comes.6
+    -- after an item of the first the end shows what that comes to, or stands at the second
+    pub lands : {A D : Type 0} {a : Machine A P I F D} {shows : S → Option A} {event : D → Option E} →
+        GoesAsFirst two m a shows event → IsMachine m → (told : Option D) (t : S) (v : A) →
+        ComesTo m a shows (λ i. First i) told t v → LandsAs two m a shows t v
+    lands goes is None t v comes = inl comes
+    lands {A = A} {a = a} {shows = shows} goes is (Some d) t v (s, u, i, shown, tells, state, left) =
+        by (two.leads (a.point u) i) refl
+      where
+        by : (over : Option Q) → two.leads (a.point u) i ≡ over → LandsAs two m a shows t v
+        by None e = inl
+            (ap shows state ∙ goes.stays s u i shown e ∙ ap (λ (w : A). Some w) (sym left))
+        by (Some q) e = inr (record {
+          before = s;
+          shown = u;
+          item = i;
+          to = q;
+          shows_is = shown;
+          leads = e;
+          state = state;
+          left = left;
+          point = ap m.point state ∙ is.past s (First i)
+              ∙ past_item two m.grammar (m.point s) (a.point u) i goes.both (goes.point s u shown)
+              ∙ ap (λ (over : Option Q). turn over (two.first.past (a.point u) i)) e;
+        })
 
-module _ {S B P I F Q J G H C E : Type 0} where
-  -- an end of both does as the second's, after each item of it
-  pub second_does : (two : Two P I F Q J G H) (m : Machine S (Stage P Q) (Stage I J) H E)
-      (b : Machine B Q J G C) (shows : S → Option B) (event : C → Option E) →
-      GoesAsSecond two m b shows event → DoesAs m b shows (λ j. Second j) two.second_fault event
-  second_does two m b shows event goes = record {
-    reads = λ s u bytes shown.
-        next_second two m.grammar b.grammar (m.point s) (b.point u) bytes goes.both goes.grammar
-        (goes.point s u shown);
-    tells = goes.tells;
-    goes_on = λ s u j shown quiet. goes.stays s u j shown;
-  }
-
-  pub second_stays : (two : Two P I F Q J G H) (m : Machine S (Stage P Q) (Stage I J) H E)
-      (b : Machine B Q J G C) (shows : S → Option B) (event : C → Option E) →
-      GoesAsSecond two m b shows event → (told : Option C) (t : S) (v : B) →
-      ComesTo m b shows (λ j. Second j) told t v → shows t ≡ Some v
-  second_stays two m b shows event goes None t v comes = comes
-  second_stays two m b shows event goes (Some d) t v comes =
-      ap shows comes.5 ∙ goes.stays comes.0 comes.1 comes.2 comes.3
-      ∙ ap (λ (w : B). Some w) (sym comes.6)
+    -- after an item of the second it goes on showing what that comes to
+    pub second_stays : {B C : Type 0} {b : Machine B Q J G C} {shows : S → Option B} {event : C → Option E} →
+        GoesAsSecond two m b shows event → (told : Option C) (t : S) (v : B) →
+        ComesTo m b shows (λ j. Second j) told t v → shows t ≡ Some v
+    second_stays goes None t v comes = comes
+    second_stays {B = B} {shows = shows} goes (Some d) t v (s, u, j, shown, tells, state, left) =
+        ap shows state ∙ goes.stays s u j shown ∙ ap (λ (w : B). Some w) (sym left)
 
 -- a point that is one of the first
 first_is : {P Q : Type 0} (r : Stage P Q) (p : P) → first_point r ≡ Some p → r ≡ First p

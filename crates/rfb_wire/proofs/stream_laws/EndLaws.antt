@@ -5,7 +5,7 @@ use Rattle.std.specs.Option.{IfSome}
 use Rattle.rfb_wire.specs.stream.Reading.{More, Got, Bad}
 use Rattle.rfb_wire.specs.stream.Grammar.{ReadsAll, past_all}
 use Rattle.rfb_wire.specs.stream.End.{Machine, IsMachine, acts, EndsWith, told, with_event, Takes, Refuses, RunsOut}
-use Rattle.rfb_wire.specs.stream.End.{Runs, Call, CallsTo, bytes_of, events_of, Delivers}
+use Rattle.rfb_wire.specs.stream.End.{Runs, Call, CallsTo, bytes_of, events_of, DeliversItems, Delivers}
 use Rattle.rfb_wire.proofs.stream_laws.GrammarLaws.{all_more, all_append, all_length, all_rest, all_good, all_one}
 use Rattle.rfb_wire.proofs.stream_laws.GrammarLaws.{within_first}
 
@@ -199,6 +199,32 @@ module _ {S P I F E : Type 0} where
 
   -- ---- delivered bytes
 
+  -- whole items that are read of a queue's bytes are taken from the front of the queue
+  pub delivered_items : (m : Machine S P I F E) → IsMachine m →
+      (s t : S) (prefix bytes later rest : List ℕ) (queue : List I) (Told : List I → Type 0)
+      (items : List I) → ReadsAll m.grammar (m.point s) (prefix ++ bytes) items rest →
+      t ≡ acts m s items → Told items → m.grammar.next (m.point t) rest ≡ More →
+      ReadsAll m.grammar (m.point s) ((prefix ++ bytes) ++ later) queue [] →
+      DeliversItems m s prefix queue bytes later Told t rest
+  delivered_items m is s t prefix bytes later rest queue Told items read state told partial flight =
+      let left = all_rest m.grammar is.laws (m.point s) (prefix ++ bytes) later items queue rest
+      read flight in
+      let point : past_all m.grammar (m.point s) items ≡ m.point t =
+      sym (point_acts m is s items) ∙ ap m.point (sym state) in
+      let reads : ReadsAll m.grammar (m.point t) (rest ++ later) left.0 [] =
+      subst (λ (p : P). ReadsAll m.grammar p (rest ++ later) left.0 []) point left.2 in
+      let size = all_length m.grammar is.laws (m.point s) (prefix ++ bytes) items rest read in
+      record {
+        done = items;
+        left = left.0;
+        queue_is = left.1;
+        state = state;
+        ends = told;
+        reads = reads;
+        count = sym (length-append prefix bytes) ∙ size;
+        within = within_first m.grammar is.laws (m.point t) rest later left.0 partial reads;
+      }
+
   -- what is delivered of a queue's bytes is taken from the front of the queue
   pub delivered : (m : Machine S P I F E) → IsMachine m →
       (s t : S) (prefix bytes later rest : List ℕ) (queue : List I) (event : Option E) →
@@ -206,24 +232,8 @@ module _ {S P I F E : Type 0} where
       ReadsAll m.grammar (m.point s) ((prefix ++ bytes) ++ later) queue [] →
       Delivers m s prefix queue bytes later event t rest
   delivered m is s t prefix bytes later rest queue event takes flight =
-      let left = all_rest m.grammar is.laws (m.point s) (prefix ++ bytes) later takes.items queue
-      rest takes.reads flight in
-      let point : past_all m.grammar (m.point s) takes.items ≡ m.point t =
-      sym (point_acts m is s takes.items) ∙ ap m.point (sym takes.state) in
-      let reads : ReadsAll m.grammar (m.point t) (rest ++ later) left.0 [] =
-      subst (λ (p : P). ReadsAll m.grammar p (rest ++ later) left.0 []) point left.2 in
-      let size = all_length m.grammar is.laws (m.point s) (prefix ++ bytes) takes.items rest
-      takes.reads in
-      record {
-        done = takes.items;
-        left = left.0;
-        queue_is = left.1;
-        state = takes.state;
-        ends = takes.ends;
-        reads = reads;
-        count = sym (length-append prefix bytes) ∙ size;
-        within = within_first m.grammar is.laws (m.point t) rest later left.0 takes.partial reads;
-      }
+      delivered_items m is s t prefix bytes later rest queue (λ done. EndsWith m s done event)
+      takes.items takes.reads takes.state takes.ends takes.partial flight
 
   -- bytes of a queue's items are not refused
   pub not_refused : (m : Machine S P I F E) → IsMachine m →
@@ -273,22 +283,29 @@ module _ {S P I F E : Type 0} where
         partial = one.partial;
       }
 
+  -- the state and the events that items lead to after others
+  pub acts_then : (m : Machine S P I F E) (s t u : S) (xs ys : List I) (es fs : List E) →
+      t ≡ acts m s xs → es ≡ told m s xs → u ≡ acts m t ys → fs ≡ told m t ys →
+      (u ≡ acts m s (xs ++ ys)) × (es ++ fs ≡ told m s (xs ++ ys))
+  acts_then m s t u xs ys es fs state told_is after told_after = (
+    after ∙ ap (λ (v : S). acts m v ys) state ∙ sym (acts_append m s xs ys),
+    ap (λ (events : List E). events ++ fs) told_is
+        ∙ ap (λ (events : List E). told m s xs ++ events)
+        (told_after ∙ ap (λ (v : S). told m v ys) state) ∙ sym (told_append m s xs ys),
+  )
+
   -- a run after a run is one
   pub runs_then : (m : Machine S P I F E) → IsMachine m →
       (s t u : S) (prefix mid rest xs ys : List ℕ) (one two : List E) →
       Runs m s prefix xs one t mid → Runs m t mid ys two u rest →
       Runs m s prefix (xs ++ ys) (one ++ two) u rest
   runs_then m is s t u prefix mid rest xs ys one two a b =
-      let later : two ≡ told m (acts m s a.items) b.items =
-      b.told_is ∙ ap (λ (v : S). told m v b.items) a.state in
+      let joined = acts_then m s t u a.items b.items one two a.state a.told_is b.state b.told_is in
       record {
         items = a.items ++ b.items;
         reads = reads_then m is s t prefix mid xs ys rest a.items b.items a.state a.reads b.reads;
-        state = b.state ∙ ap (λ (v : S). acts m v b.items) a.state
-            ∙ sym (acts_append m s a.items b.items);
-        told_is = ap (λ (events : List E). events ++ two) a.told_is
-            ∙ ap (λ (events : List E). told m s a.items ++ events) later
-            ∙ sym (told_append m s a.items b.items);
+        state = joined.0;
+        told_is = joined.1;
         partial = b.partial;
       }
 

@@ -1,11 +1,13 @@
 -- The law of a head whose first byte decides its size.
-use Rattle.std.proofs.Common.{◌≡◌, ℕ, ◌-◌, ◌<◌, inl, inr, List, [], ◌∷◌, ◌++◌, Option, Some, None, length, slice_index}
-use Rattle.std.proofs.Common.{refl, sym, subst, ◌∙◌, ap, arith}
-use Rattle.rfb_wire.specs.stream.Reading.{Says, Reads, Same}
-use Rattle.rfb_wire.specs.stream.Parts.{waiting, refused, valued, rest_of_head, headed}
-use Rattle.rfb_wire.specs.stream.Heads.{BeginsNone}
-use Rattle.rfb_wire.proofs.stream_laws.PartLaws.{then_says, then_reads, same_reads}
+use Rattle.std.proofs.Common.{◌≡◌, ℕ, ◌+◌, ◌*◌, ◌-◌, ◌<◌, inl, inr, List, [], ◌∷◌, ◌++◌, Option, Some, None, length, slice_index}
+use Rattle.std.proofs.Common.{refl, sym, subst, ◌∙◌, ap, length-append, arith}
+use Rattle.rfb_wire.specs.stream.Reading.{Reading, Says, Reads, Same, Listed}
+use Rattle.rfb_wire.specs.stream.Parts.{waiting, refused, valued, rest_of_head, headed, and_then}
+use Rattle.rfb_wire.specs.stream.Heads.{BeginsNone, Misses, SpellsList, SpellsText}
+use Rattle.rfb_wire.proofs.stream_laws.HeadLemmas.{SizesSpell, SpelledAlone, misses_rest, begins_some}
+use Rattle.rfb_wire.proofs.stream_laws.PartLaws.{ThenItem, ThenFault, then_says, then_reads, same_reads}
 use Rattle.rfb_wire.proofs.stream_laws.RepeatLaws.{valued_says, valued_reads}
+use Rattle.rfb_wire.proofs.stream_laws.PendingLaws.{length-pieces}
 
 -- one byte is a list of one
 pub one_byte : (bytes : List ℕ) (first : ℕ) → length bytes ≡ 1 → first ≡ slice_index bytes 0 →
@@ -19,10 +21,32 @@ pub record IsHeaded {A : Type 0} (Spells : A → List ℕ → Type 0) (size : �
     (head_in : List ℕ → A) : Type 0 where
   pub made : (bytes : List ℕ) → size (slice_index bytes 0) ≡ Some (length bytes) →
       Spells (head_in bytes) bytes
-  pub only : (a : A) (bytes : List ℕ) → Spells a bytes →
-      (a ≡ head_in bytes) × (size (slice_index bytes 0) ≡ Some (length bytes)) × (0 < length bytes)
+  pub only : SpelledAlone Spells size head_in
   pub some : (first n : ℕ) → size first ≡ Some n → 0 < n
   pub begins : (first n : ℕ) → size first ≡ Some n → BeginsNone Spells first → ⊥
+
+module _ {A : Type 0} {Spells : A → List ℕ → Type 0} {size : ℕ → Option ℕ}
+    {head_in : List ℕ → A} where
+  -- heads are so where bytes of the size that their first asks for are one, and no others are
+  pub headed_by : SizesSpell Spells size → SpelledAlone Spells size head_in →
+      ((first n : ℕ) → size first ≡ Some n → 0 < n) → IsHeaded Spells size head_in
+  headed_by sizes only some = record {
+    made = λ bytes e. let head = sizes bytes e in
+        subst (λ (a : A). Spells a bytes) (only head.0 bytes head.1).0 head.1;
+    only = only;
+    some = some;
+    begins = λ first n e none. begins_some Spells size sizes first n (some first n e) e none;
+  }
+
+  -- bytes that are fewer than their first asks for miss the others
+  pub misses_others : IsHeaded Spells size head_in → (bytes : List ℕ) (n : ℕ) → 0 < length bytes →
+      length bytes < n → size (slice_index bytes 0) ≡ Some n → Misses Spells (n - length bytes) bytes
+  misses_others is = misses_rest Spells size (λ bytes e. (head_in bytes, is.made bytes e))
+
+  -- a byte that asks for no size begins no head
+  pub begins_none : IsHeaded Spells size head_in → (first : ℕ) → size first ≡ None →
+      BeginsNone Spells first
+  begins_none is first none head rest s = let told = (is.only head (first ∷ rest) s).1 in cc
 
 module _ {A F : Type 0} where
   -- nothing
@@ -95,13 +119,8 @@ module _ {A F : Type 0} where
       no_head : (first : ℕ) (front back : List ℕ) (f : F) (told : Option ℕ) → size first ≡ told →
           front ≡ first ∷ [] → (rest_says unknown head_in first told).fault f back →
           IsUnknownByte Spells unknown f (front ++ back)
-      no_head first front back f None e all h = (
-        first,
-        h.0,
-        rw (all, h.1) refl,
-        λ v rest s. let size_is =
-            (is.only v (first ∷ rest) s).1 in let none : size first ≡ None = e in cc,
-      )
+      no_head first front back f None e all h =
+          (first, h.0, rw (all, h.1) refl, begins_none is first e)
       no_head first front back f (Some n) e all h = absurd h
 
       fault : (f : F) (bytes : List ℕ) →
@@ -163,3 +182,79 @@ module _ {A F : Type 0} where
       (λ first. rest_says unknown head_in first (size first))
       (valued_reads 1 (λ bytes. slice_index bytes 0))
       (λ first. rest_reads unknown head_in first (size first)))
+
+-- ---- what stands after a head
+
+module _ {A B F : Type 0} where
+  -- a message is a head and what stands after it, or a byte that begins no head
+  pub message_reads : {Spells : A → List ℕ → Type 0} {size : ℕ → Option ℕ} {head_in : List ℕ → A}
+      {unknown : ℕ → F} {body : A → Reading B F} {after : A → Says B F} {s : Says B F} →
+      IsHeaded Spells size head_in → ((head : A) → Reads (body head) (after head)) →
+      ((head : A) (b : B) (bytes front back : List ℕ) → bytes ≡ front ++ back →
+      Spells head front → (after head).item b back → s.item b bytes) →
+      ((head : A) (f : F) (bytes front back : List ℕ) → bytes ≡ front ++ back →
+      Spells head front → (after head).fault f back → s.fault f bytes) →
+      ((first : ℕ) (bytes : List ℕ) → bytes ≡ first ∷ [] → BeginsNone Spells first →
+      s.fault (unknown first) bytes) →
+      ((b : B) (bytes : List ℕ) → s.item b bytes → ThenItem (headed_says Spells unknown) after b bytes) →
+      ((f : F) (bytes : List ℕ) → s.fault f bytes → ThenFault (headed_says Spells unknown) after f bytes) →
+      Reads (and_then (headed size unknown head_in) body) s
+  message_reads {Spells = Spells} {size = size} {head_in = head_in} {unknown = unknown} {body = body}
+      {after = after} {s = s} is reads item fault refuses item_back fault_back =
+      same_reads (and_then (headed size unknown head_in) body)
+      (then_says (headed_says Spells unknown) after) s (record {
+        item = λ b bytes h. item h.0 b bytes h.1 h.2 h.3 h.4 h.5;
+        fault = faults;
+        item_back = item_back;
+        fault_back = fault_back;
+      })
+      (then_reads (headed size unknown head_in) body (headed_says Spells unknown) after
+      (headed_reads Spells size unknown head_in is) reads)
+    where
+      faults : (f : F) (bytes : List ℕ) → ThenFault (headed_says Spells unknown) after f bytes →
+          s.fault f bytes
+      faults f bytes (inl (first, e, all, none)) = rw e (refuses first bytes all none)
+      faults f bytes (inr (head, front, back, e, h, w)) = fault head f bytes front back e h w
+
+module _ {A : Type 0} where
+  -- a list after the head that tells how many items it has
+  pub list_follows : (Head : ℕ → List ℕ → Type 0) (R : A → List ℕ → Type 0) (count : ℕ) (items : List A)
+      (bytes front back : List ℕ) → bytes ≡ front ++ back → Head count front →
+      (length items ≡ count) × Listed R items back → SpellsList Head R items bytes
+  list_follows Head R count items bytes front back e s many =
+      record { head = front; list = back; whole = e; head_is = rw many.0 s; listed = many.1 }
+
+  -- such a list has as many bytes as its head and its items
+  pub list_sized : (Head : ℕ → List ℕ → Type 0) (R : A → List ℕ → Type 0) (n size : ℕ) → 0 < n →
+      ((count : ℕ) (head : List ℕ) → Head count head → length head ≡ n) →
+      ((a : A) (bytes : List ℕ) → R a bytes → length bytes ≡ size) →
+      (items : List A) (bytes : List ℕ) → SpellsList Head R items bytes →
+      (length bytes ≡ n + length items * size) × (0 < length bytes)
+  list_sized Head R n size some head_sized sized items bytes s =
+      let head = head_sized (length items) s.head s.head_is in
+      let list = length-pieces R size sized items s.list s.listed in
+      let all : length bytes ≡ length s.head + length s.list =
+      ap length s.whole ∙ length-append s.head s.list in
+      (omega (arith, head, list, all), omega (arith, some, head, all))
+
+-- a text after the head that tells how many bytes it has
+pub text_follows : (Head : ℕ → List ℕ → Type 0) (count : ℕ) (text bytes front back : List ℕ) →
+    bytes ≡ front ++ back → Head count front → (back ≡ text) × (length back ≡ count) →
+    SpellsText Head text bytes
+text_follows Head count text bytes front back e s is =
+    record {
+      head = front;
+      whole = e ∙ ap (λ (ys : List ℕ). front ++ ys) is.0;
+      head_is = subst (λ (n : ℕ). Head n front) (sym is.1 ∙ ap length is.0) s;
+    }
+
+-- such a text has as many bytes as its head and itself
+pub text_sized : (Head : ℕ → List ℕ → Type 0) (n : ℕ) → 0 < n →
+    ((count : ℕ) (head : List ℕ) → Head count head → length head ≡ n) →
+    (text bytes : List ℕ) → SpellsText Head text bytes →
+    (length bytes ≡ n + length text) × (0 < length bytes)
+text_sized Head n some head_sized text bytes s =
+    let head = head_sized (length text) s.head s.head_is in
+    let all : length bytes ≡ length s.head + length text =
+    ap length s.whole ∙ length-append s.head text in
+    (omega (arith, head, all), omega (arith, some, head, all))

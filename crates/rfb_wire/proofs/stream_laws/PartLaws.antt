@@ -196,3 +196,30 @@ module _ {A F : Type 0} where
         reads.blamed bytes f e in (one.0, one.1, one.2, same.fault f one.0 one.3);
     blames = λ f front rest h. reads.blames f front rest (same.fault_back f front h);
   }
+
+module _ {A B F : Type 0} where
+  -- an item that is made of a part's
+  abbrev pub made_says : (A → B) → Says A F → Says B F
+  made_says item s =
+      record {
+        item = λ b bytes. (a : A) × (b ≡ item a) × s.item a bytes;
+        fault = s.fault;
+      }
+
+  -- a part, and nothing after it but what is made of its item
+  pub made_reads : {p : Reading A F} {s : Says A F} (item : A → B) → Reads p s →
+      Reads (and_then p (λ a. done (item a))) (made_says item s)
+  made_reads {p = p} {s = s} item reads =
+      same_reads (and_then p (λ a. done (item a))) (then_says s (λ a. done_says (item a)))
+      (made_says item s) same
+      (then_reads p (λ a. done (item a)) s (λ a. done_says (item a)) reads
+      (λ a. done_reads (item a)))
+    where
+      same : Same (then_says s (λ a. done_says (item a))) (made_says item s)
+      same = record {
+        item = λ b bytes h. let all : bytes ≡ h.1 =
+            alone bytes h.1 h.2 h.3 h.5.1 in (h.0, h.5.0, rw all h.4);
+        fault = λ f bytes h. elim h [ inl bad ↦ bad | inr none ↦ absurd none.5 ];
+        item_back = λ b bytes h. (h.0, bytes, [], sym (append-nil bytes), h.2, (h.1, refl));
+        fault_back = λ f bytes h. inl h;
+      }

@@ -7,6 +7,7 @@ use Rattle.std.proofs.Math.Nat.{mod-le, mod-lt, mod-one}
 use Rattle.std.proofs.lemmas.Bool.Decides.{nat_tests}
 use Rattle.rfb_wire.specs.stream.Reading.{Listed}
 use Rattle.rfb_wire.specs.stream.Pending.{in_pieces, after_piece, after_head, message_pending}
+use Rattle.rfb_wire.proofs.stream_laws.HeadLemmas.{SpelledAlone}
 
 -- ---- pieces
 
@@ -95,6 +96,33 @@ module _ (head : ℕ → Option ℕ) (size : ℕ → ℕ) where
   past_head kind n (first ∷ front) rest some whole is has =
       let same : first ≡ kind = is in
       rw (same, has) (past_piece n (in_pieces (size kind)) (kind ∷ front) rest whole)
+
+  -- a head that lacks bytes is pending
+  pub missing_pending : {V : Type 0} {Spells : V → List ℕ → Type 0} {head_in : List ℕ → V} →
+      SpelledAlone Spells head head_in → (v : V) (bytes missing : List ℕ) → Spells v (bytes ++ missing) →
+      0 < length missing → message_pending head size bytes ≡ length bytes
+  missing_pending only v [] missing s some = refl
+  missing_pending only v (first ∷ rest) missing s some =
+      head_pending first (length (first ∷ (rest ++ missing))) rest
+      (only v (first ∷ (rest ++ missing)) s).1 (omega (arith, length-append rest missing, some))
+
+  -- after a head and whole items it is what stands after these
+  pub items_pending : {A : Type 0} (R : A → List ℕ → Type 0) (kind n : ℕ) → 0 < n → head kind ≡ Some n →
+      ((a : A) (bytes : List ℕ) → R a bytes → length bytes ≡ size kind) →
+      (items : List A) (front list rest : List ℕ) → length front ≡ n → slice_index front 0 ≡ kind →
+      Listed R items list → length rest < size kind →
+      message_pending head size (front ++ (list ++ rest)) ≡ length rest
+  items_pending R kind n some has sized items front list rest whole is listed less =
+      past_head kind n front (list ++ rest) some whole is has
+      ∙ pieces_pending R (size kind) sized items list rest listed less
+
+  -- after a head and bytes that are a piece each nothing is
+  pub text_pending : (kind n : ℕ) → 0 < n → head kind ≡ Some n → size kind ≡ 1 →
+      (front text : List ℕ) → length front ≡ n → slice_index front 0 ≡ kind →
+      message_pending head size (front ++ text) ≡ 0
+  text_pending kind n some has one front text whole is =
+      past_head kind n front text some whole is has
+      ∙ ap (λ (k : ℕ). in_pieces k text) one ∙ bytes_pending text
 
   pub message_within : (bytes : List ℕ) → message_pending head size bytes ≤ length bytes
   message_within [] = omega arith

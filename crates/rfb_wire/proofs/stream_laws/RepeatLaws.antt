@@ -10,6 +10,7 @@ use Rattle.rfb_wire.specs.stream.Parts.{named, renamed, checked, judged, piece, 
 use Rattle.rfb_wire.specs.stream.Parts.{valued, optional, many, each}
 use Rattle.rfb_wire.proofs.stream_laws.PartLaws.{alone, judged_says, judged_reads, kept_says, piece_says, done_says}
 use Rattle.rfb_wire.proofs.stream_laws.PartLaws.{then_says, piece_reads, done_reads, then_reads, same_reads}
+use Rattle.rfb_wire.proofs.stream_laws.PartLaws.{made_reads}
 
 -- a fault of a part that is there
 abbrev pub FaultIf : {F : Type 0} → Bool → (F → List ℕ → Type 0) → F → List ℕ → Type 0
@@ -103,6 +104,26 @@ module _ {A F : Type 0} where
         fault_back = λ f bytes h. absurd h;
       }
 
+  -- items as a relation says them, and no fault
+  abbrev pub items_say : (A → List ℕ → Type 0) → Says A F
+  items_say R = record { item = R; fault = λ _ _. ⊥ }
+
+  -- n bytes and what they say, where that is what a relation says
+  pub value_reads : (n : ℕ) (value : List ℕ → A) (R : A → List ℕ → Type 0) →
+      ((a : A) (bytes : List ℕ) → length bytes ≡ n → a ≡ value bytes → R a bytes) →
+      ((a : A) (bytes : List ℕ) → R a bytes → (length bytes ≡ n) × (a ≡ value bytes)) →
+      Reads (valued n value) (items_say R)
+  value_reads n value R says said =
+      same_reads (valued n value) (valued_says n value) (items_say R) same (valued_reads n value)
+    where
+      same : Same (valued_says n value) (items_say R)
+      same = record {
+        item = λ a bytes h. says a bytes h.0 h.1;
+        fault = λ f bytes h. h;
+        item_back = λ a bytes h. said a bytes h;
+        fault_back = λ f bytes h. h;
+      }
+
   pub checked_reads : (n : ℕ) (fault : List ℕ → Option F) (value : List ℕ → A) →
       Reads (checked n fault value) (checked_says n fault value)
   checked_reads n fault value =
@@ -143,19 +164,7 @@ module _ {A F : Type 0} where
         item_back = λ a bytes h. h;
         fault_back = λ f bytes h. h;
       }
-  optional_reads true p s reads =
-      same_reads (optional true p) (then_says s (λ a. done_says (Some a))) (optional_says true s)
-      same (then_reads p (λ a. done (Some a)) s (λ a. done_says (Some a)) reads
-      (λ a. done_reads (Some a)))
-    where
-      same : Same (then_says s (λ a. done_says (Some a))) (optional_says true s)
-      same = record {
-        item = λ o bytes h. let all : bytes ≡ h.1 =
-            alone bytes h.1 h.2 h.3 h.5.1 in (h.0, h.5.0, rw all h.4);
-        fault = λ f bytes h. elim h [ inl bad ↦ bad | inr none ↦ absurd none.5 ];
-        item_back = λ o bytes h. (h.0, bytes, [], sym (append-nil bytes), h.2, (h.1, refl));
-        fault_back = λ f bytes h. inl h;
-      }
+  optional_reads true p s reads = made_reads (λ a. Some a) reads
 
   -- one part, and then n others
   abbrev each_more : ℕ → (List A → Says A F) → List A → Says (List A) F

@@ -1,7 +1,8 @@
 -- A stream of two grammars keeps the laws that each of them has.
 use Rattle.std.proofs.Common.{◌≡◌, ℕ, ◌<◌, List, [], ◌∷◌, ◌++◌, Option, Some, None, length, map, refl, sym, subst, ◌∙◌}
 use Rattle.std.proofs.Common.{ap}
-use Rattle.rfb_wire.specs.stream.Reading.{Says, Reads, Same}
+use Rattle.rfb_wire.specs.stream.Reading.{Reading, Says, Reads}
+use Rattle.rfb_wire.specs.stream.Parts.{renamed}
 use Rattle.rfb_wire.specs.stream.Grammar.{IsSpelled, ReadsAll, past_all}
 use Rattle.rfb_wire.proofs.stream_laws.PartLaws.{same_reads}
 use Rattle.rfb_wire.proofs.stream_laws.RepeatLaws.{renamed_says, renamed_reads}
@@ -9,51 +10,40 @@ use Rattle.rfb_wire.specs.stream.Sequel.{Stage, First, Second, turn, Two, next_i
 use Rattle.rfb_wire.specs.stream.Sequel.{StaysFirst, in_both}
 use Rattle.rfb_wire.proofs.stream_laws.GrammarLaws.{all_append}
 
+-- a part whose items and faults are named otherwise, where a relation says the same of the items
+renamed_as : {A B F H : Type 0} {p : Reading A F} {s : Says A F} {R : B → List ℕ → Type 0}
+    (item : A → B) (fault : F → H) → Reads p s →
+    ((a : A) (bytes : List ℕ) → s.item a bytes → R (item a) bytes) →
+    ((b : B) (bytes : List ℕ) → R b bytes → (a : A) × (b ≡ item a) × s.item a bytes) →
+    Reads (renamed item fault p) (record { item = R; fault = (renamed_says item fault s).fault })
+renamed_as {p = p} {s = s} {R = R} item fault reads there back =
+    same_reads (renamed item fault p) (renamed_says item fault s)
+    (record { item = R; fault = (renamed_says item fault s).fault }) (record {
+      item = λ b bytes w. rw w.1 (there w.0 bytes w.2);
+      fault = λ h bytes w. w;
+      item_back = back;
+      fault_back = λ h bytes w. w;
+    })
+    (renamed_reads item fault p s reads)
+
 module _ {P I F Q J G H : Type 0} where
-  first_same : (two : Two P I F Q J G H) (one : P → Says I F) (other : Q → Says J G) (p : P) →
-      Same (renamed_says (λ i. First i) two.first_fault (one p))
-      (sequel_says two one other (First p))
-  first_same two one other p =
-      record { item = there; fault = λ h bytes w. w; item_back = back; fault_back = λ h bytes w. w }
-    where
-      there : (s : Stage I J) (bytes : List ℕ) → (i : I) × (s ≡ First i) × (one p).item i bytes →
-          ItemIn two one other (First p) s bytes
-      there (First i) bytes (k, e, h) = let same : i ≡ k = cc in rw same h
-      there (Second j) bytes (k, e, h) = cc
-
-      back : (s : Stage I J) (bytes : List ℕ) → ItemIn two one other (First p) s bytes →
-          (i : I) × (s ≡ First i) × (one p).item i bytes
-      back (First i) bytes h = (i, refl, h)
-      back (Second j) bytes h = absurd h
-
-  second_same : (two : Two P I F Q J G H) (one : P → Says I F) (other : Q → Says J G) (q : Q) →
-      Same (renamed_says (λ j. Second j) two.second_fault (other q))
-      (sequel_says two one other (Second q))
-  second_same two one other q =
-      record { item = there; fault = λ h bytes w. w; item_back = back; fault_back = λ h bytes w. w }
-    where
-      there : (s : Stage I J) (bytes : List ℕ) → (j : J) × (s ≡ Second j) × (other q).item j bytes →
-          ItemIn two one other (Second q) s bytes
-      there (First i) bytes (k, e, h) = cc
-      there (Second j) bytes (k, e, h) = let same : j ≡ k = cc in rw same h
-
-      back : (s : Stage I J) (bytes : List ℕ) → ItemIn two one other (Second q) s bytes →
-          (j : J) × (s ≡ Second j) × (other q).item j bytes
-      back (First i) bytes h = absurd h
-      back (Second j) bytes h = (j, refl, h)
-
   reads_in : (two : Two P I F Q J G H) (one : P → Says I F) (other : Q → Says J G) →
       IsSpelled two.first one → IsSpelled two.second other → (s : Stage P Q) →
       Reads (next_in two s) (sequel_says two one other s)
   reads_in two one other a b (First p) =
-      same_reads (next_in two (First p)) (renamed_says (λ i. First i) two.first_fault (one p))
-      (sequel_says two one other (First p)) (first_same two one other p)
-      (renamed_reads (λ i. First i) two.first_fault (two.first.next p) (one p) (a.reads p))
+      renamed_as (λ i. First i) two.first_fault (a.reads p) (λ i bytes h. h) back
+    where
+      back : (s : Stage I J) (bytes : List ℕ) → ItemIn two one other (First p) s bytes →
+          (i : I) × (s ≡ First i) × (one p).item i bytes
+      back (First i) bytes h = (i, refl, h)
+      back (Second j) bytes h = absurd h
   reads_in two one other a b (Second q) =
-      same_reads (next_in two (Second q)) (renamed_says (λ j. Second j) two.second_fault (other q))
-      (sequel_says two one other (Second q)) (second_same two one other q)
-      (renamed_reads (λ j. Second j) two.second_fault (two.second.next q) (other q)
-      (b.reads q))
+      renamed_as (λ j. Second j) two.second_fault (b.reads q) (λ j bytes h. h) back
+    where
+      back : (s : Stage I J) (bytes : List ℕ) → ItemIn two one other (Second q) s bytes →
+          (j : J) × (s ≡ Second j) × (other q).item j bytes
+      back (First i) bytes h = absurd h
+      back (Second j) bytes h = (j, refl, h)
 
   -- both are spelled, so the stream of both is
   pub sequel_spelled : (two : Two P I F Q J G H) (one : P → Says I F) (other : Q → Says J G) →

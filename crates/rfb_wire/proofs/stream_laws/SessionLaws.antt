@@ -5,13 +5,12 @@ use Rattle.std.proofs.Common.{length-append, arith}
 use Rattle.std.specs.Prelude.{⊤}
 use Rattle.rfb_wire.specs.stream.Reading.{More, Bad}
 use Rattle.rfb_wire.specs.stream.Grammar.{ReadsAll, past_all, EndsIn}
-use Rattle.rfb_wire.specs.stream.End.{Machine, IsMachine, acts, told, with_event, RunsOut, Runs, Call, CallsTo}
-use Rattle.rfb_wire.specs.stream.End.{bytes_of, events_of, Delivers}
+use Rattle.rfb_wire.specs.stream.End.{Machine, IsMachine, acts, told, RunsOut, Runs, Call, CallsTo}
+use Rattle.rfb_wire.specs.stream.End.{bytes_of, events_of, DeliversItems}
 use Rattle.rfb_wire.specs.stream.Session.{Waits, IsSession, IsStarved, DeliversAll}
-use Rattle.rfb_wire.proofs.stream_laws.GrammarLaws.{all_more, all_rest, all_length, all_one, all_front, sizes_append}
-use Rattle.rfb_wire.proofs.stream_laws.GrammarLaws.{within_first}
+use Rattle.rfb_wire.proofs.stream_laws.GrammarLaws.{all_more, all_one, all_front, sizes_append}
 use Rattle.rfb_wire.proofs.stream_laws.EndLaws.{acts_append, point_acts, reads_then, told_append, told_ends, calls_run}
-use Rattle.rfb_wire.proofs.stream_laws.EndLaws.{not_refused}
+use Rattle.rfb_wire.proofs.stream_laws.EndLaws.{acts_then, delivered_items, not_refused}
 
 module _ {S P I F E : Type 0} where
   -- ---- sessions
@@ -119,24 +118,24 @@ module _ {S P I F E : Type 0} where
 
   -- sessions over the same bytes, however these are split, tell the same events and then the same
   -- fault
-  pub sessions_agree : (m : Machine S P I F E) → IsMachine m →
-      (s : S) (prefix xs ys : List ℕ) (one two : List (Call E)) (v w : Option F) →
+  pub sessions_agree : (m : Machine S P I F E) (s : S) (prefix xs ys : List ℕ)
+      (one two : List (Call E)) (v w : Option F) → IsMachine m →
       Waits m s prefix → bytes_of one ++ xs ≡ bytes_of two ++ ys →
       IsSession m s prefix one xs v → IsSession m s prefix two ys w →
       (events_of one ≡ events_of two) × (v ≡ w)
-  sessions_agree m is s prefix xs ys one two v w waits same a b =
+  sessions_agree m s prefix xs ys one two v w is waits same a b =
       let first = session_makes m is s prefix xs one v waits a in
       let second = session_makes m is s prefix ys two w waits b in
       makes_one m s prefix (bytes_of two ++ ys) (events_of one) (events_of two) v w
       (subst (λ (zs : List ℕ). Makes m s prefix zs (events_of one) v) same first) second
 
   -- once all bytes of a fault are there, so it is with more of them
-  pub faults_stay : (m : Machine S P I F E) → IsMachine m →
-      (s : S) (prefix xs ys more : List ℕ) (one two : List (Call E)) (f : F) (w : Option F) →
-      Waits m s prefix → (bytes_of one ++ xs) ++ more ≡ bytes_of two ++ ys →
+  pub faults_stay : (m : Machine S P I F E) (s : S) (prefix xs ys more : List ℕ)
+      (one two : List (Call E)) (f : F) (w : Option F) → IsMachine m → Waits m s prefix →
+      (bytes_of one ++ xs) ++ more ≡ bytes_of two ++ ys →
       IsSession m s prefix one xs (Some f) → IsSession m s prefix two ys w →
       (events_of one ≡ events_of two) × (Some f ≡ w)
-  faults_stay m is s prefix xs ys more one two f w waits same a b =
+  faults_stay m s prefix xs ys more one two f w is waits same a b =
       let first = makes_more m is s prefix (bytes_of one ++ xs) more (events_of one) f
       (session_makes m is s prefix xs one (Some f) waits a) in
       let second = session_makes m is s prefix ys two w waits b in
@@ -144,12 +143,12 @@ module _ {S P I F E : Type 0} where
       (subst (λ (zs : List ℕ). Makes m s prefix zs (events_of one) (Some f)) same first) second
 
   -- fewer bytes tell the first of the events
-  pub fronts_tell_first : (m : Machine S P I F E) → IsMachine m →
-      (s t : S) (prefix ys more rest : List ℕ) (one two : List (Call E)) (w : Option F) →
+  pub fronts_tell_first : (m : Machine S P I F E) (s t : S) (prefix ys more rest : List ℕ)
+      (one two : List (Call E)) (w : Option F) → IsMachine m →
       Waits m s prefix → bytes_of one ++ more ≡ bytes_of two ++ ys →
       CallsTo m s prefix one t rest → IsSession m s prefix two ys w →
       (later : List E) × (events_of two ≡ events_of one ++ later)
-  fronts_tell_first m is s t prefix ys more rest one two w waits same a b =
+  fronts_tell_first m s t prefix ys more rest one two w is waits same a b =
       let run = calls_run m is s t prefix rest one waits a in
       let second = session_makes m is s prefix ys two w waits b in
       makes_front m is s prefix (bytes_of one) more rest run.items (events_of one) (events_of two) w
@@ -170,12 +169,12 @@ module _ {S P I F E : Type 0} where
       }
 
   -- and so does a session that wants memory
-  pub starved_tell_first : (m : Machine S P I F E) → IsMachine m →
-      (s : S) (prefix xs ys more : List ℕ) (one two : List (Call E)) (w : Option F) →
-      Waits m s prefix → (bytes_of one ++ xs) ++ more ≡ bytes_of two ++ ys →
+  pub starved_tell_first : (m : Machine S P I F E) (s : S) (prefix xs ys more : List ℕ)
+      (one two : List (Call E)) (w : Option F) → IsMachine m → Waits m s prefix →
+      (bytes_of one ++ xs) ++ more ≡ bytes_of two ++ ys →
       IsStarved m s prefix one xs → IsSession m s prefix two ys w →
       (later : List E) × (events_of two ≡ events_of one ++ later)
-  starved_tell_first m is s prefix xs ys more one two w waits same (new, rest, goes, out) b =
+  starved_tell_first m s prefix xs ys more one two w is waits same (new, rest, goes, out) b =
       let run = calls_run m is s new prefix rest one waits goes in
       let reads = reads_then m is s new prefix rest (bytes_of one) xs (out.front ++ out.later)
       run.items out.items run.state run.reads out.reads in
@@ -189,16 +188,17 @@ module _ {S P I F E : Type 0} where
 
   -- ---- deliveries
 
-  -- a delivery by one call is a delivery
-  pub delivers_all : (m : Machine S P I F E) (s t : S) (prefix bytes later rest : List ℕ)
-      (queue : List I) (event : Option E) → Delivers m s prefix queue bytes later event t rest →
-      DeliversAll m s prefix queue bytes later (with_event event []) t rest
-  delivers_all m s t prefix bytes later rest queue event one = record {
+  -- what is so of the items of a delivery may be said in another way
+  pub delivers_so : (m : Machine S P I F E) (s t : S) (prefix bytes later rest : List ℕ)
+      (queue : List I) (IsSo IsToo : List I → Type 0) → ((done : List I) → IsSo done → IsToo done) →
+      DeliversItems m s prefix queue bytes later IsSo t rest →
+      DeliversItems m s prefix queue bytes later IsToo t rest
+  delivers_so m s t prefix bytes later rest queue IsSo IsToo too one = record {
     done = one.done;
     left = one.left;
     queue_is = one.queue_is;
     state = one.state;
-    told_is = sym (told_ends m s one.done event one.ends);
+    ends = too one.done one.ends;
     reads = one.reads;
     count = one.count;
     within = one.within;
@@ -211,8 +211,7 @@ module _ {S P I F E : Type 0} where
       DeliversAll m t mid one.left ys later fs u rest →
       DeliversAll m s prefix queue (xs ++ ys) later (es ++ fs) u rest
   deliveries_join m s t u prefix xs ys later mid rest queue es fs one two =
-      let told_later : fs ≡ told m (acts m s one.done) two.done =
-      two.told_is ∙ ap (λ (v : S). told m v two.done) one.state in
+      let joined = acts_then m s t u one.done two.done es fs one.state one.ends two.state two.ends in
       let bytes = length-append xs ys in
       let items = sizes_append m.grammar one.done two.done in
       let first = one.count in
@@ -222,65 +221,37 @@ module _ {S P I F E : Type 0} where
         left = two.left;
         queue_is = one.queue_is ∙ ap (λ (items : List I). one.done ++ items) two.queue_is
             ∙ sym (append_assoc one.done two.done two.left);
-        state = two.state ∙ ap (λ (v : S). acts m v two.done) one.state
-            ∙ sym (acts_append m s one.done two.done);
-        told_is = ap (λ (events : List E). events ++ fs) one.told_is
-            ∙ ap (λ (events : List E). told m s one.done ++ events) told_later
-            ∙ sym (told_append m s one.done two.done);
+        state = joined.0;
+        ends = joined.1;
         reads = two.reads;
         count = omega (arith, bytes, items, first, second);
         within = two.within;
       }
 
-  -- what a run was given of a queue's bytes is delivered
-  run_delivers : (m : Machine S P I F E) → IsMachine m →
-      (s t : S) (prefix bytes later rest : List ℕ) (queue : List I) (events : List E) →
-      Runs m s prefix bytes events t rest →
-      ReadsAll m.grammar (m.point s) ((prefix ++ bytes) ++ later) queue [] →
-      DeliversAll m s prefix queue bytes later events t rest
-  run_delivers m is s t prefix bytes later rest queue events run flight =
-      let left = all_rest m.grammar is.laws (m.point s) (prefix ++ bytes) later run.items queue rest
-      run.reads flight in
-      let point : past_all m.grammar (m.point s) run.items ≡ m.point t =
-      sym (point_acts m is s run.items) ∙ ap m.point (sym run.state) in
-      let reads : ReadsAll m.grammar (m.point t) (rest ++ later) left.0 [] =
-      subst (λ (p : P). ReadsAll m.grammar p (rest ++ later) left.0 []) point left.2 in
-      let size = all_length m.grammar is.laws (m.point s) (prefix ++ bytes) run.items rest
-      run.reads in
-      record {
-        done = run.items;
-        left = left.0;
-        queue_is = left.1;
-        state = run.state;
-        told_is = run.told_is;
-        reads = reads;
-        count = sym (length-append prefix bytes) ∙ size;
-        within = within_first m.grammar is.laws (m.point t) rest later left.0 run.partial reads;
-      }
-
   -- several calls over what was delivered are one delivery
-  pub calls_deliver : (m : Machine S P I F E) → IsMachine m →
-      (s t : S) (prefix later rest : List ℕ) (queue : List I) (calls : List (Call E)) →
+  pub calls_deliver : (m : Machine S P I F E) (s t : S) (prefix later rest : List ℕ)
+      (queue : List I) (calls : List (Call E)) → IsMachine m →
       Waits m s prefix → CallsTo m s prefix calls t rest →
       ReadsAll m.grammar (m.point s) ((prefix ++ bytes_of calls) ++ later) queue [] →
       DeliversAll m s prefix queue (bytes_of calls) later (events_of calls) t rest
-  calls_deliver m is s t prefix later rest queue calls waits goes flight =
-      run_delivers m is s t prefix (bytes_of calls) later rest queue (events_of calls)
-      (calls_run m is s t prefix rest calls waits goes) flight
+  calls_deliver m s t prefix later rest queue calls is waits goes flight =
+      let run = calls_run m is s t prefix rest calls waits goes in
+      delivered_items m is s t prefix (bytes_of calls) later rest queue
+      (λ done. events_of calls ≡ told m s done) run.items run.reads run.state run.told_is
+      run.partial flight
 
   -- and none of them is refused
-  pub calls_not_refused : (m : Machine S P I F E) → IsMachine m →
-      (s : S) (prefix slice later : List ℕ) (queue : List I) (calls : List (Call E)) (fault : F) →
-      Waits m s prefix →
+  pub calls_not_refused : (m : Machine S P I F E) (s : S) (prefix slice later : List ℕ)
+      (queue : List I) (calls : List (Call E)) (fault : F) → IsMachine m → Waits m s prefix →
       ReadsAll m.grammar (m.point s) ((prefix ++ (bytes_of calls ++ slice)) ++ later) queue
       [] → IsSession m s prefix calls slice (Some fault) → ⊥
-  calls_not_refused m is s prefix slice later queue calls fault waits flight
+  calls_not_refused m s prefix slice later queue calls fault is waits flight
       (new, rest, goes, refused) =
       let all : (prefix ++ (bytes_of calls ++ slice)) ++ later
       ≡ (prefix ++ bytes_of calls) ++ (slice ++ later) =
       ap (λ (ys : List ℕ). ys ++ later) (sym (append_assoc prefix (bytes_of calls) slice))
       ∙ append_assoc (prefix ++ bytes_of calls) slice later in
-      let one = calls_deliver m is s new prefix (slice ++ later) rest queue calls waits goes
+      let one = calls_deliver m s new prefix (slice ++ later) rest queue calls is waits goes
       (subst (λ (zs : List ℕ). ReadsAll m.grammar (m.point s) zs queue []) all flight) in
       not_refused m is new rest slice later one.left fault
       (subst (λ (zs : List ℕ). ReadsAll m.grammar (m.point new) zs one.left [])

@@ -103,17 +103,24 @@ module _ {S P I F E : Type 0} where
       × CallsTo m mid left calls new rest
 
   -- bytes that were delivered of those in flight to it, where all in flight are the items of a
-  -- queue: some items are done, and what is left of the queue is what is left of the bytes
-  pub record Delivers (m : Machine S P I F E) (old : S) (prefix : List ℕ) (queue : List I)
-      (bytes later : List ℕ) (event : Option E) (new : S) (rest : List ℕ) : Type 0 where
+  -- queue: some items are done, of which something is so, and what is left of the queue is what
+  -- is left of the bytes
+  pub record DeliversItems (m : Machine S P I F E) (old : S) (prefix : List ℕ) (queue : List I)
+      (bytes later : List ℕ) (IsSo : List I → Type 0) (new : S) (rest : List ℕ) : Type 0 where
     pub done : List I
     pub left : List I
     pub queue_is : queue ≡ done ++ left
     pub state : new ≡ acts m old done
-    pub ends : EndsWith m old done event
+    pub ends : IsSo done
     pub reads : ReadsAll m.grammar (m.point new) (rest ++ later) left []
     pub count : length prefix + length bytes ≡ sizes m.grammar done + length rest
     pub within : IsWithinFirst m.grammar (length rest) left
+
+  -- delivered by one call, with its event
+  abbrev pub Delivers : Machine S P I F E → S → List ℕ → List I → List ℕ → List ℕ → Option E →
+      S → List ℕ → Type 0
+  Delivers m old prefix queue bytes later event =
+      DeliversItems m old prefix queue bytes later (λ done. EndsWith m old done event)
 
 module _ {S P I F E V : Type 0} where
   -- what a call leaves: an end that stood for a state and a prefix takes the bytes from there, and

@@ -1,8 +1,7 @@
 -- Sessions: calls one after another and how they end, and what they make of a queue.
-use Rattle.std.specs.Prelude.{ℕ, ◌+◌, List, [], ◌++◌, ◌≡◌, length, Option, Some, None, ⊤}
+use Rattle.std.specs.Prelude.{ℕ, List, [], ◌≡◌, Option, Some, None, ⊤}
 use Rattle.rfb_wire.specs.stream.Reading.{More}
-use Rattle.rfb_wire.specs.stream.Grammar.{ReadsAll, sizes, IsWithinFirst}
-use Rattle.rfb_wire.specs.stream.End.{Machine, acts, told, Refuses, RunsOut, Call, CallsTo}
+use Rattle.rfb_wire.specs.stream.End.{Machine, told, Refuses, RunsOut, Call, CallsTo, DeliversItems}
 
 module _ {S P I F E : Type 0} where
   -- a prefix is too few bytes for an item
@@ -23,16 +22,8 @@ module _ {S P I F E : Type 0} where
       (new : S) × (rest : List ℕ) × CallsTo m old prefix calls new rest
       × RunsOut m (λ _ _. ⊤) new rest slice
 
-  -- bytes that were delivered of those in flight by any number of calls, where all in flight are
-  -- the items of a queue: some items are done, with these events, and what is left of the queue
-  -- is what is left of the bytes
-  pub record DeliversAll (m : Machine S P I F E) (old : S) (prefix : List ℕ) (queue : List I)
-      (bytes later : List ℕ) (events : List E) (new : S) (rest : List ℕ) : Type 0 where
-    pub done : List I
-    pub left : List I
-    pub queue_is : queue ≡ done ++ left
-    pub state : new ≡ acts m old done
-    pub told_is : events ≡ told m old done
-    pub reads : ReadsAll m.grammar (m.point new) (rest ++ later) left []
-    pub count : length prefix + length bytes ≡ sizes m.grammar done + length rest
-    pub within : IsWithinFirst m.grammar (length rest) left
+  -- bytes that were delivered of those in flight by any number of calls, with these events
+  abbrev pub DeliversAll : Machine S P I F E → S → List ℕ → List I → List ℕ → List ℕ → List E →
+      S → List ℕ → Type 0
+  DeliversAll m old prefix queue bytes later events =
+      DeliversItems m old prefix queue bytes later (λ done. events ≡ told m old done)

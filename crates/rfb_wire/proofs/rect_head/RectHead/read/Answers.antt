@@ -1,5 +1,4 @@
 use Rattle.std.proofs.Common.{◌≡◌, ℕ, List, arith, rules, sym, ap, ◌∙◌}
-use Rattle.std.proofs.lemmas.Grind.{common_steps}
 use Rattle.std.specs.Int.{cast_signed, w32}
 use Rattle.std.proofs.lemmas.Int.{to_z-of_z}
 use Rattle.std.proofs.lemmas.List.{take_rest}
@@ -37,24 +36,3 @@ returns-clause-got c =
           c.if-bytes-lt-HEAD_SIZE.false c.read_rect-rect.ensures number,
       grind arith,
     )
-
-pub returns-then-bytes-lt-HEAD_SIZE-clause-head : goal.returns-then-bytes-lt-HEAD_SIZE-clause-head
-returns-then-bytes-lt-HEAD_SIZE-clause-head c = grind (arith, common_steps)
-
-pub returns-in-Err-clause-bad : goal.returns-in-Err-clause-bad
-returns-in-Err-clause-bad c = grind (arith, common_steps)
-
-pub returns-in-Err-clause-head : goal.returns-in-Err-clause-head
-returns-in-Err-clause-head c = grind (arith, common_steps)
-
-pub returns-in-Err-clause-unknown : goal.returns-in-Err-clause-unknown
-returns-in-Err-clause-unknown c = grind (arith, common_steps)
-
-pub returns-in-Err-clause-outside : goal.returns-in-Err-clause-outside
-returns-in-Err-clause-outside c = grind (arith, common_steps)
-
-pub returns-clause-head : goal.returns-clause-head
-returns-clause-head c = grind (arith, common_steps)
-
-pub returns-clause-unknown : goal.returns-clause-unknown
-returns-clause-unknown c = grind (arith, common_steps)
