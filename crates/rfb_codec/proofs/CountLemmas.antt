@@ -40,22 +40,6 @@ cases_owner slot pixels firsts p =
       | inr none ↦ inr (λ own. let taken = own.taken in absurd (omega arith))
     ]
 
--- nothing is counted
-pub tallied_none : (slot : ℕ → ℕ) (pixels firsts counts : List ℕ) →
-    0 < length pixels → ((s : ℕ) → get_or firsts s 0 ≡ 0) → ((s : ℕ) → get_or counts s 0 ≡ 0) →
-    Tallied slot pixels firsts counts [] 0 (get_or pixels 0 0) 0
-tallied_none slot pixels firsts counts some free zeros = record {
-  vacant = λ p none. (zeros (slot p), refl);
-  counted = λ p own. let none = free (slot p) in let taken = own.taken in absurd (omega arith);
-  yields = λ p own. let none = free (slot p) in let taken = own.taken in absurd (omega arith);
-  other = λ p not. refl;
-  less = λ p. omega arith;
-  within = λ p. let none = free (slot p) in omega arith;
-  few = omega arith;
-  some = omega arith;
-  there = (0, some, refl);
-}
-
 -- a slot that none has goes to the pixel of the run that begins here
 pub slot_claimed : (slot : ℕ → ℕ) (pixels firsts counts aside : List ℕ) (start better most : ℕ) →
     start < length pixels → slot (get_or pixels start 0) < length firsts →

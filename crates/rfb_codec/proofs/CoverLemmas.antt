@@ -10,7 +10,7 @@ use Rattle.rfb_picture.proofs.GridLaws.{place_below, contains_true}
 use Rattle.rfb_wire.specs.RectHead.{IsOnScreen}
 use Rattle.rfb_codec.specs.declared.subrect.Subrect.{Subrect}
 use Rattle.rfb_codec.specs.Rre.{pixel_at}
-use Rattle.rfb_codec.specs.inside.Cover.{IsPartOf, ArePartsOf, IsCover}
+use Rattle.rfb_codec.specs.inside.Cover.{IsPartOf, ArePartsOf}
 use Rattle.rfb_codec.proofs.RreLaws.{pixel_at-last}
 
 -- ---- subrectangles
@@ -116,14 +116,11 @@ covering_passed width height x y pixels until background subs here old = record 
       ];
 }
 
--- places of the background at the front of a row are passed
-pub covering_plain : (width height x y : ℕ) (pixels until : List ℕ) (background : ℕ) (subs : List Subrect) →
-    ((i : ℕ) → i < x → slice_index pixels (y * width + i) ≡ background) →
-    Covering width height 0 y pixels until background subs → Covering width height x y pixels until background subs
-covering_plain width height zero y pixels until background subs plain old = old
-covering_plain width height (suc x) y pixels until background subs plain old =
-    rw add-one at (covering_passed width height x y pixels until background subs (inr (plain x (omega arith)))
-    (covering_plain width height x y pixels until background subs (λ i below. plain i (omega arith)) old))
+-- what each place of a row hands on to the next holds after as many places
+pub handed_on : (P : ℕ → Type 0) (n : ℕ) → ((i : ℕ) → i < n → P i → P (i + 1)) → P 0 → P n
+handed_on P zero next first = first
+handed_on P (suc n) next first =
+    rw add-one at (next n (omega arith) (handed_on P n (λ i below. next i (omega arith)) first))
 
 -- a rectangle that begins here is taken
 pub covering_taken : (width height x y : ℕ) (pixels until after : List ℕ)
@@ -171,26 +168,3 @@ covering_taken width height x y pixels until after background subs s whole p q p
         now ≡ (if done then v else b)
     at_place true done now part before v b e yes_it no_it = let h = yes_it refl in rw (h.0) (e ∙ h.1)
     at_place false done now part before v b e yes_it no_it = e ∙ no_it refl
-
--- a row is passed
-pub covering_row : (width height y : ℕ) (pixels until : List ℕ) (background : ℕ) (subs : List Subrect) →
-    Covering width height width y pixels until background subs →
-    Covering width height 0 (y + 1) pixels until background subs
-covering_row width height y pixels until background subs old = record {
-  parts = old.parts;
-  shown = λ i j left below.
-      let u = slice_index until i in
-      let same : is_done 0 (y + 1) u i j ≡ is_done width y u i j = grind (arith, nat_tests) in
-      rw same (old.shown i j left below);
-}
-
--- all places are passed
-pub covering_all : (width height : ℕ) (pixels until : List ℕ) (background : ℕ) (subs : List Subrect) →
-    Covering width height 0 height pixels until background subs → IsCover width height pixels background subs
-covering_all width height pixels until background subs old = record {
-  parts = old.parts;
-  shows = λ i j left below.
-      let u = slice_index until i in
-      let done : is_done 0 height u i j ≡ true = grind (arith, nat_tests) in
-      rw done at (old.shown i j left below);
-}

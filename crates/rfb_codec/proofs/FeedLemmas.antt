@@ -1,5 +1,6 @@
 -- A slice of a rectangle's data, taken step by step.
-use Rattle.std.proofs.Common.{◌≡◌, ℕ, ◌+◌, ◌-◌, ◌*◌, ◌/◌, ◌%◌, ◌<◌, ◌≤◌, ◌==◌, ◌||◌, ◌&&◌, nat_lt, List, []}
+use Rattle.std.proofs.Common.{◌≡◌, ℕ, ◌+◌, ◌-◌, ◌*◌, ◌/◌, ◌%◌, ◌<◌, ◌≤◌, ◌&&◌}
+use Rattle.std.proofs.Common.{nat_lt, List, []}
 use Rattle.std.proofs.Common.{◌∷◌, ◌++◌, Bool, true, false, if◌then◌else◌, length, take, drop, refl, sym, subst}
 use Rattle.std.proofs.Common.{◌∙◌, ap, append-nil, append_assoc, arith, length-drop, take-append-drop}
 use Rattle.std.proofs.lemmas.List.{take_all}
@@ -17,11 +18,8 @@ use Rattle.rfb_wire.proofs.stream_laws.ReadingLaws.{reads_bad}
 use Rattle.rfb_codec.specs.declared.fault.PaintFault.{PaintFault}
 use Rattle.rfb_codec.specs.declared.fault.Flaw.{Flaw}
 use Rattle.rfb_codec.specs.declared.painter.stage.Stage.{Stage}
-use Rattle.rfb_codec.specs.declared.painter.stage.Stage.TheVariants.{BeforeSource, Copied, InPixels, BeforeHead}
-use Rattle.rfb_codec.specs.declared.painter.stage.Stage.TheVariants.{InSubrects, InTiles, InRawTile}
 use Rattle.rfb_codec.specs.RectData.{data_says, rect_data}
 use Rattle.rfb_codec.specs.Front.{ShowsFront}
-use Rattle.rfb_codec.specs.Hextile.{tile_count, tile_width, tile_height}
 use Rattle.rfb_codec.specs.Stage.{encoding_at, is_ended, is_sound, StandsAt, IsRefused}
 use Rattle.rfb_codec.specs.declared.painter.rectangle.Rectangle.{Rectangle}
 use Rattle.rfb_codec.specs.inside.Step.{stage_of, GoesOn, Stops, Reaches, Breaks}
@@ -69,25 +67,6 @@ fresh_stands f rect Hextile picture some = (
     shows = unchanged _ picture (λ x y old. none_below (contains rect x y) _ _ old);
   },
 )
-
-fresh_pixel : (w s : ℕ) → 0 < s → (nat_lt 0 s && (w == 0 || nat_lt 0 w)) ≡ true
-fresh_pixel w s some = grind (arith, nat_tests)
-
-below_it : (a m : ℕ) → a < m → nat_lt a m ≡ true
-below_it a m p = grind (arith, nat_tests)
-
-pub fresh_sound : (f : PixelFormat) (rect : Rect) (encoding : Encoding) → 0 < size_of f →
-    is_sound f rect (stage_of encoding) 0 ≡ true
-fresh_sound f rect Raw some = fresh_pixel rect.w (size_of f) some
-fresh_sound f rect CopyRect some = refl
-fresh_sound f rect Rre some = below_it 0 (4 + size_of f) (omega arith)
-fresh_sound f rect Hextile some = refl
-
-pub fresh_encoding : (encoding : Encoding) → encoding_at (stage_of encoding) ≡ encoding
-fresh_encoding Raw = refl
-fresh_encoding CopyRect = refl
-fresh_encoding Rre = refl
-fresh_encoding Hextile = refl
 
 -- ---- step by step
 
@@ -244,21 +223,3 @@ feed_shows f rect stage pending old new bytes flaw some within stops = λ before
       waits = subst (λ (n : ℕ). read n ≡ More) first w.waits;
       bad = subst (λ (n : ℕ). read n ≡ Bad flaw.fault) (sym last) w.refused.bad;
     }
-
--- with nothing pending a stage is as sound as before
-pub sound_empty : (f : PixelFormat) (rect : Rect) (stage : Stage) (n : ℕ) → is_sound f rect stage n ≡ true →
-    is_sound f rect stage 0 ≡ true
-sound_empty f rect BeforeSource n e = refl
-sound_empty f rect (Copied x y) n e = refl
-sound_empty f rect (InPixels at) n e = fewer n (size_of f) (rect.w == 0 || nat_lt at.x rect.w) e
-  where
-    fewer : (n s : ℕ) (b : Bool) → (nat_lt n s && b) ≡ true → (nat_lt 0 s && b) ≡ true
-    fewer n s b e = grind (arith, nat_tests)
-sound_empty f rect BeforeHead n e = below_it 0 (4 + size_of f) (omega arith)
-sound_empty f rect (InSubrects left) n e = below_it 0 (size_of f + 8) (omega arith)
-sound_empty f rect (InTiles tile seen) n e = refl
-sound_empty f rect (InRawTile tile seen at) n e = fewer n (size_of f) (nat_lt tile (tile_count rect.w rect.h))
-    (nat_lt at.x (tile_width rect.w tile) && nat_lt at.y (tile_height rect.w rect.h tile)) e
-  where
-    fewer : (n s : ℕ) (a b : Bool) → (nat_lt n s && a && b) ≡ true → (nat_lt 0 s && a && b) ≡ true
-    fewer n s a b e = grind (arith, nat_tests)

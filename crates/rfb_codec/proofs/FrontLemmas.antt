@@ -1,15 +1,19 @@
 -- Fronts of data with some bytes more.
-use Rattle.std.proofs.Common.{◌≡◌, ℕ, ◌+◌, ◌*◌, ◌<◌, ◌≤◌, List, [], ◌∷◌, ◌++◌, length, refl, sym, ◌∙◌, ap, arith}
+use Rattle.std.proofs.Common.{◌≡◌, ℕ, ◌+◌, ◌*◌, ◌<◌, ◌≤◌, List, [], ◌∷◌, ◌++◌}
+use Rattle.std.proofs.Common.{length, take, true, refl, sym, ◌∙◌, ap, arith}
 use Rattle.std.proofs.Common.{append-nil, append_assoc, length-append}
 use Rattle.std.proofs.Math.Nat.{mul-le-mul_right}
 use Rattle.rfb_pixel.specs.Format.{PixelFormat, size_of}
 use Rattle.rfb_pixel.specs.declared.colour.Colour.{Colour}
 use Rattle.rfb_picture.specs.declared.rect.Rect.{Rect}
 use Rattle.rfb_picture.specs.Grid.{Grid}
+use Rattle.rfb_codec.specs.declared.painter.rectangle.Rectangle.{Rectangle}
 use Rattle.rfb_codec.specs.declared.painter.stage.Place.{Place}
+use Rattle.rfb_codec.specs.declared.painter.stage.Stage.{Stage}
+use Rattle.rfb_codec.specs.declared.painter.stage.Step.{Step}
 use Rattle.rfb_codec.specs.Front.{SpellsPixels}
-use Rattle.rfb_codec.specs.Stage.{places_before}
-use Rattle.rfb_codec.specs.inside.Step.{StandsPixels, PaintsRun}
+use Rattle.rfb_codec.specs.Stage.{encoding_at, is_sound, places_before}
+use Rattle.rfb_codec.specs.inside.Step.{GoesOn, PaintsRun, StandsPixels, Takes}
 
 -- ---- pixels
 
@@ -90,3 +94,18 @@ pub some_places : (h w : ℕ) → 0 < h → 0 < w → 0 < h * w
 some_places h w high wide =
     let rows : 1 * w ≤ h * w = mul-le-mul_right w (omega arith) in
     omega (arith, rows)
+
+-- ---- a step
+
+-- some of the bytes are taken to a stage of the same encoding, what stood for data stands for them with these,
+-- and the picture keeps its size
+pub takes_on : {r : Rectangle} {stage : Stage} {pending : List ℕ} {picture : Grid Colour} {bytes : List ℕ}
+    {step : Step} {rest : List ℕ} {now : Grid Colour} → 0 < step.used → step.used ≤ length bytes →
+    is_sound r.format r.rect step.stage (length rest) ≡ true → encoding_at step.stage ≡ encoding_at stage →
+    GoesOn r.format r.rect stage pending picture (take step.used bytes) step.stage rest now →
+    now.width ≡ picture.width → now.height ≡ picture.height → Takes r stage pending picture bytes step rest now
+takes_on some used sound same goes_on width height = record {
+  some = some;
+  used = used;
+  reaches = record { sound = sound; same = same; goes_on = goes_on; width = width; height = height };
+}

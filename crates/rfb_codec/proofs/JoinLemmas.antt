@@ -1,5 +1,6 @@
 -- A byte that only joins those pending.
-use Rattle.std.proofs.Common.{◌≡◌, ℕ, ◌+◌, ◌<◌, ◌≤◌, ◌==◌, ◌||◌, ◌&&◌, nat_le, nat_lt, List, [], ◌∷◌, ◌++◌, Bool, true}
+use Rattle.std.proofs.Common.{◌≡◌, ℕ, ◌+◌, ◌<◌, ◌==◌, ◌||◌, ◌&&◌, nat_le, nat_lt, List, []}
+use Rattle.std.proofs.Common.{◌∷◌, ◌++◌, true}
 use Rattle.std.proofs.Common.{false, Option, Some, None, length, take, slice_index, refl, sym, subst, ◌∙◌, ap, arith}
 use Rattle.std.proofs.Common.{length-append}
 use Rattle.std.proofs.lemmas.List.{take_all}
@@ -118,29 +119,6 @@ module _ (f : PixelFormat) (rect : Rect) (pending : List ℕ) where
       picture before body refl inside.0 inside.1
       (λ before' back there. walk_waits f (tile_places rect tile) at pending (byte ∷ []) (pending ++ byte ∷ []) picture
       before' back there inside.0 inside.1 refl (omega (arith, l))) stands
-
--- it is as sound with the byte
-more_sound : (n s : ℕ) (b : Bool) → n + 1 < s → (nat_lt n s && b) ≡ true → (nat_lt (n + 1) s && b) ≡ true
-more_sound n s b short e = grind (arith, nat_tests)
-
-pub joined_sound : (f : PixelFormat) (rect : Rect) (stage : Stage) (pending : List ℕ) →
-    is_sound f rect stage (length pending) ≡ true → length pending + 1 < piece_size f stage pending →
-    piece_size f stage pending ≤ 1536 → is_sound f rect stage (length pending + 1) ≡ true
-joined_sound f rect BeforeSource pending sound short few = grind (arith, nat_tests)
-joined_sound f rect (Copied x y) pending sound short few = absurd (omega arith)
-joined_sound f rect (InPixels at) pending sound short few =
-    more_sound (length pending) (size_of f) (rect.w == 0 || nat_lt at.x rect.w) short sound
-joined_sound f rect BeforeHead pending sound short few = grind (arith, nat_tests)
-joined_sound f rect (InSubrects left) pending sound short few = grind (arith, nat_tests)
-joined_sound f rect (InTiles tile seen) pending sound short few =
-    let less : length pending + 1 < 1536 = omega (arith, short, few) in
-    grind (arith, nat_tests)
-joined_sound f rect (InRawTile tile seen at) pending sound short few =
-    more_raw (length pending) (size_of f) (nat_lt tile (tile_count rect.w rect.h))
-    (nat_lt at.x (tile_width rect.w tile) && nat_lt at.y (tile_height rect.w rect.h tile)) short sound
-  where
-    more_raw : (n s : ℕ) (a b : Bool) → n + 1 < s → (nat_lt n s && a && b) ≡ true → (nat_lt (n + 1) s && a && b) ≡ true
-    more_raw n s a b short e = grind (arith, nat_tests)
 
 -- ---- a slice of one byte
 

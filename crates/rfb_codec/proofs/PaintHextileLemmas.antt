@@ -1,5 +1,6 @@
 -- Tiles of Hextile, read one after another and painted one after another.
-use Rattle.std.proofs.Common.{◌≡◌, ℕ, ◌+◌, List, [], ◌∷◌, ◌++◌, true, false, Option, take, drop, map, refl, ◌∙◌, ap}
+use Rattle.std.proofs.Common.{◌≡◌, ℕ, ◌+◌, List, [], ◌∷◌, ◌++◌, true, false, Option, drop, map}
+use Rattle.std.proofs.Common.{refl, ◌∙◌, ap}
 use Rattle.rfb_pixel.specs.declared.colour.Colour.{Colour}
 use Rattle.rfb_pixel.specs.Format.{PixelFormat, colour_of, size_of}
 use Rattle.rfb_picture.specs.declared.rect.Rect.{Rect}
@@ -8,10 +9,9 @@ use Rattle.rfb_wire.specs.stream.Reading.{Next}
 use Rattle.rfb_wire.specs.stream.Parts.{continue_with, done}
 use Rattle.rfb_codec.specs.declared.fault.PaintFault.{PaintFault}
 use Rattle.rfb_codec.specs.declared.hextile.layout.TileLayout.{TileLayout}
-use Rattle.rfb_codec.specs.declared.hextile.layout.TileLayout.TheVariants.{Raw, Plain, Colored}
+use Rattle.rfb_codec.specs.declared.hextile.layout.TileLayout.TheVariants.{Plain, Colored}
 use Rattle.rfb_codec.specs.declared.hextile.paint.tile_read.Seen.{Seen}
 use Rattle.rfb_codec.specs.Pixels.{drawn}
-use Rattle.rfb_codec.specs.Raw.{raw_length, raw_pixel}
 use Rattle.rfb_codec.specs.Rre.{pixel_at}
 use Rattle.rfb_codec.specs.Tile.{Tile, PlainTile, background_of, last_of, colour_or_zero, tile_pixel, place_of}
 use Rattle.rfb_codec.specs.Tile.{colored_of, in_pixel}
@@ -72,13 +72,3 @@ drawn_colored f rect before seen layout list count bytes slice b background fore
     (λ x y. colour_of f (pixel_at background (values_in (colored_of f) (size_of f + 2) count ys) x y)) old) slice_is
     ∙ ap (λ (n : ℕ). over rect (λ x y. colour_of f (pixel_at n subs x y)) old)
     (background_is ∙ ap colour_or_zero sees'.background))
-
--- a raw one shows its pixels whatever the colours
-pub drawn_raw : (f : PixelFormat) (rect : Rect) (before : List Tile) (layout : TileLayout)
-    (list count n : ℕ) (bytes : List ℕ) (new old : Grid Colour) → layout ≡ Raw → n ≡ raw_length f rect.w rect.h →
-    new ≡ over rect (λ x y. colour_of f (raw_pixel f rect.w (take n (drop list bytes)) x y)) old →
-    new ≡ over rect (λ x y. colour_of f (tile_pixel f rect.w (before ++ tile_in f rect.w rect.h layout list count bytes
-    ∷ []) (tile_in f rect.w rect.h layout list count bytes) x y)) old
-drawn_raw f rect before layout list count n bytes new old layout_is n_is drawn =
-    rw layout_is (drawn
-    ∙ ap (λ (m : ℕ). over rect (λ x y. colour_of f (raw_pixel f rect.w (take m (drop list bytes)) x y)) old) n_is)

@@ -1,6 +1,6 @@
 -- Laws of painting: where pixels are read from, and what a picture is after each of them.
 use Rattle.std.proofs.Common.{◌≡◌, ℕ, ◌+◌, ◌-◌, ◌*◌, ◌<◌, ◌≤◌, List, length, take, drop, arith, refl, sym, ap, ◌∙◌}
-use Rattle.std.proofs.Common.{Bool, true, false, if◌then◌else◌, ◌||◌}
+use Rattle.std.proofs.Common.{Bool, true, false, if◌then◌else◌, ◌&&◌, ◌||◌}
 use Rattle.std.specs.Prelude.{slice_index_or}
 use Rattle.std.proofs.lemmas.List.{drop-drop, drop-take}
 use Rattle.std.proofs.Math.Nat.{mul-le-mul_right}
@@ -9,13 +9,15 @@ use Rattle.rfb_pixel.specs.Format.{PixelFormat, colour_of, pixel_number, size_of
 use Rattle.rfb_pixel.proofs.FormatLaws.{pixel_number-take}
 use Rattle.rfb_picture.specs.declared.rect.Rect.{Rect}
 use Rattle.rfb_picture.specs.Rect.{contains}
-use Rattle.rfb_picture.specs.Grid.{Grid, IsGrid, at_or, with_row}
+use Rattle.rfb_picture.specs.Grid.{Grid, IsGrid, at_or, changed, with_row, with_run}
 use Rattle.rfb_picture.proofs.GridLaws.{at-changed, changed_twice, contains_more, contains_true, height-changed}
 use Rattle.rfb_picture.proofs.GridLaws.{same_changes, same_grid, whole-changed, width-changed}
+use Rattle.rfb_picture.proofs.LoanLaws.{run_in_row}
 use Rattle.rfb_codec.specs.Pixels.{drawn}
 use Rattle.rfb_codec.specs.Raw.{raw_pixel}
 use Rattle.rfb_codec.specs.RectData.{replaced}
 use Rattle.rfb_codec.specs.Painter.{over}
+use Rattle.rfb_codec.specs.inside.Step.{PaintsOver}
 use Rattle.rfb_codec.proofs.PixelLaws.{at-drawn}
 
 -- ---- pixels
@@ -57,6 +59,23 @@ over_drawn f rect c g whole =
     (λ e.
     let h = contains_true rect x y e in
     ap (colour_of f) (sym (at-drawn rect.w rect.h c (x - rect.x) (y - rect.y) 0 (omega arith) (omega arith)))))
+
+-- where a test holds at each place of the rectangle, what is painted where it holds is painted over all
+pub over_all : (rect : Rect) (test : ℕ → ℕ → Bool) (c : ℕ → ℕ → Colour) (g : Grid Colour) →
+    IsGrid g → ((x y : ℕ) → x < rect.w → y < rect.h → test x y ≡ true) →
+    changed (λ x y old. if contains rect x y && test (x - rect.x) (y - rect.y) then c (x - rect.x) (y - rect.y)
+    else old) g ≡ over rect c g
+over_all rect test c g whole holds =
+    same_changes _ _ g whole
+    (λ x y d p q. by (contains rect x y) (c (x - rect.x) (y - rect.y)) (at_or g x y d)
+    (λ e.
+    let h = contains_true rect x y e in
+    holds (x - rect.x) (y - rect.y) (omega arith) (omega arith)))
+  where
+    by : (b : Bool) (c old : Colour) {t : Bool} → (b ≡ true → t ≡ true) →
+        (if b && t then c else old) ≡ (if b then c else old)
+    by true c old on = rw (on refl) refl
+    by false c old on = refl
 
 -- over no rows nothing is painted
 pub over_none : (rect : Rect) (c : ℕ → ℕ → Colour) (g : Grid Colour) → IsGrid g → g ≡ over (record rect { h = 0 }) c g
@@ -100,3 +119,20 @@ over_more rect n c row g whole len each =
     let line : y - rect.y ≡ n = omega arith in
     each (x - rect.x) before (omega arith) ∙ ap (λ m. c (x - rect.x) m) (sym line)) in
     rw (len, place, contains_more rect n x y) refl)
+
+-- no row is painted
+pub rows_none : (rect : Rect) {c : ℕ → ℕ → Colour} {old : Grid Colour} → IsGrid old →
+    PaintsOver (record rect { h = 0 }) c old old
+rows_none rect {c} {old} whole = record { value = over_none rect c old whole; width = refl; height = refl }
+
+-- with the row after them written they are one more
+pub rows_more : (rect : Rect) {c : ℕ → ℕ → Colour} {n : ℕ} {now old : Grid Colour} (row : List Colour) →
+    PaintsOver (record rect { h = n }) c old now → IsGrid now → IsGrid old → length row ≡ rect.w →
+    rect.x + rect.w ≤ now.width → ((k : ℕ) (d : Colour) → k < rect.w → slice_index_or row k d ≡ c k n) →
+    PaintsOver (record rect { h = n + 1 }) c old (with_run rect.x (rect.y + n) row now)
+rows_more rect {c} {n} {now} {old} row rows whole whole_old len fits each = record {
+  value = run_in_row rect.x (rect.y + n) row now whole (omega (arith, len, fits))
+      ∙ ap (λ g. with_row rect.x (rect.y + n) row g) rows.value ∙ over_more rect n c row old whole_old len each;
+  width = rows.width;
+  height = rows.height;
+}

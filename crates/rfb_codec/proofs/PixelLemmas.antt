@@ -1,14 +1,12 @@
 -- Laws of the bytes of pixels, one after another.
 use Rattle.std.proofs.Common.{◌≡◌, ℕ, zero, suc, ◌+◌, ◌-◌, ◌*◌, ◌%◌, ◌^◌, ◌<◌, ◌≤◌, List, [], ◌∷◌, ◌++◌, Bool, true}
-use Rattle.std.proofs.Common.{false, cond, length, take, drop, slice_index, arith, ap, ◌∙◌, sym, append-nil}
+use Rattle.std.proofs.Common.{false, cond, length, take, drop, slice_index, arith, ap, ◌∙◌, sym}
 use Rattle.std.proofs.Common.{length-append, append_assoc}
 use Rattle.std.proofs.Math.Nat.{mod-eq_of_lt, mul-le-mul_right}
 use Rattle.std.proofs.Math.Seq.{take-add}
-use Rattle.std.proofs.lemmas.List.{drop_at, drop-drop, take_more, get_or_default, length-take-le, length-drop}
-use Rattle.std.proofs.lemmas.Slice.{take-put_mid}
+use Rattle.std.proofs.lemmas.List.{drop_at, drop-drop, get_or_default, length-take-le, length-drop}
 use Rattle.std.proofs.lemmas.Grind.{flat_map-append}
 use Rattle.std.specs.List.{flat_map}
-use borrow.Rule.Slice.PartMut.{put_mid}
 use Rattle.byteorder.specs.Endian.{big_bytes, little_bytes}
 use Rattle.byteorder.specs.Numbers.{length-bytes_high_first, length-bytes_low_first}
 use Rattle.rfb_pixel.specs.Format.{PixelFormat, size_of, pixel_bytes, pixel_number}
@@ -25,21 +23,6 @@ length-pixel_bytes f pixel = ordered f.big_endian
     ordered : (b : Bool) → length (cond b (big_bytes (size_of f) pixel) (little_bytes (size_of f) pixel)) ≡ size_of f
     ordered true = length-bytes_high_first (size_of f) pixel
     ordered false = length-bytes_low_first 0 (size_of f) pixel
-
--- one pixel more after those that are written
-pub pixels_more : (f : PixelFormat) (pixels bytes part : List ℕ) (i size k : ℕ) →
-    size ≡ size_of f → i < length pixels → i * size ≤ length bytes →
-    part ≡ pixel_bytes f (slice_index pixels i) → take (i * size) bytes ≡ flat_map (pixel_bytes f) (take i pixels) →
-    take ((i + 1) * size) (put_mid (i * size) k bytes part) ≡ flat_map (pixel_bytes f) (take (i + 1) pixels)
-pixels_more f pixels bytes part i size k e within room is before =
-    let long : length part ≡ size = ap length is ∙ length-pixel_bytes f (slice_index pixels i) ∙ sym e in
-    let end : (i + 1) * size ≡ i * size + length part = omega (arith, long) in
-    let one : flat_map (pixel_bytes f) (slice_index pixels i ∷ []) ≡ part =
-    append-nil (pixel_bytes f (slice_index pixels i)) ∙ sym is in
-    take-put_mid (i * size) k bytes part ((i + 1) * size) end room
-    ∙ sym (ap (flat_map (pixel_bytes f)) (take_more pixels i 0 within) ∙ flat_map-append (pixel_bytes f) (take i pixels)
-    (slice_index pixels i ∷ []) ∙ ap (λ (rest : List ℕ). flat_map (pixel_bytes f) (take i pixels) ++ rest) one
-    ∙ ap (λ (front : List ℕ). front ++ part) (sym before))
 
 -- how many bytes pixels have
 pub length-pixels : (f : PixelFormat) (pixels : List ℕ) →
@@ -82,27 +65,24 @@ stands_raw f block whole small = record {
 
 -- ---- part by part
 
--- a part has as many pixels as it has places
-pub length-part : (pixels : List ℕ) (start end : ℕ) → start ≤ end → end ≤ length pixels →
-    length (take (end - start) (drop start pixels)) ≡ end - start
-length-part pixels start end l within =
-    let rest : end - start ≤ length (drop start pixels) = rw length-drop (omega arith) in
-    length-take-le (end - start) (drop start pixels) rest
+-- a part: it has as many pixels as places, and with the bytes of the pixels before it its bytes are those
+-- up to its end, which are no more than all
+pub record IsPart (pixels : List ℕ) (start end size : ℕ) : Type 0 where
+  pub long : length (take (end - start) (drop start pixels)) ≡ end - start
+  pub bytes : start * size + (end - start) * size ≡ end * size
+  pub room : end * size ≤ length pixels * size
 
--- with the bytes of the pixels before it, its bytes are those up to its end
-pub bytes_of_part : (start end size : ℕ) → start ≤ end → start * size + (end - start) * size ≡ end * size
-bytes_of_part start end size l =
+pub a_part : (pixels : List ℕ) (start end size : ℕ) → start ≤ end → end ≤ length pixels →
+    IsPart pixels start end size
+a_part pixels start end size l within =
+    let rest : end - start ≤ length (drop start pixels) = rw length-drop (omega arith) in
     let split : start + (end - start) ≡ end = omega arith in
     let both : (start + (end - start)) * size ≡ end * size = ap (λ (n : ℕ). n * size) split in
-    omega (arith, both)
-
--- which are no more than all
-pub room_for_part : (start end all size : ℕ) → start ≤ end → end ≤ all →
-    start * size + (end - start) * size ≤ all * size
-room_for_part start end all size l within =
-    let bytes : end * size ≤ all * size = mul-le-mul_right size within in
-    let both = bytes_of_part start end size l in
-    omega (arith, bytes, both)
+    record {
+      long = length-take-le (end - start) (drop start pixels) rest;
+      bytes = omega (arith, both);
+      room = mul-le-mul_right size within;
+    }
 
 -- one part more is appended
 pub part_more : (f : PixelFormat) (pixels before : List ℕ) (start end : ℕ) →

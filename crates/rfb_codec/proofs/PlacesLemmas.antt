@@ -3,7 +3,7 @@ use Rattle.std.proofs.Common.{◌≡◌, ◌≢◌, ℕ, zero, suc, ◌+◌, ◌
 use Rattle.std.proofs.Common.{get_or, slice_index, take, replicate, arith, refl, inl, inr}
 use Rattle.std.specs.List.Sorted.{IsPermutation}
 use Rattle.std.proofs.lemmas.List.Sorted.{sum_by-IsPermutation}
-use Rattle.std.proofs.lemmas.List.Sums.{count_by_more_yes, count_by_more_no, sum_by-cons, sum_by-append, sum_by-take-le}
+use Rattle.std.proofs.lemmas.List.Sums.{count_by_more_yes, count_by_more_no, sum_by-cons, sum_by-append}
 use Rattle.std.proofs.lemmas.List.Sums.{get_or-le-sum_by}
 use Rattle.std.proofs.lemmas.List.{take_all}
 use Rattle.std.proofs.lemmas.Bool.{cases_eq}
@@ -75,9 +75,6 @@ has_place p xs is =
     let least = get_or-le-sum_by (λ (q : ℕ). cond (nat_eq q p) 1 0) xs is.0 0 is.1 in
     let one : 1 ≤ places_of p xs = rw yes at least in
     omega (arith, one)
-
-pub taken_le : (p : ℕ) (xs : List ℕ) (i : ℕ) → places_of p (take i xs) ≤ places_of p xs
-taken_le p xs i = sum_by-take-le (λ (q : ℕ). cond (nat_eq q p) 1 0) xs i
 
 pub places-append : (p : ℕ) (xs ys : List ℕ) → places_of p (xs ++ ys) ≡ places_of p xs + places_of p ys
 places-append p xs ys = sum_by-append (λ (q : ℕ). cond (nat_eq q p) 1 0) xs ys

@@ -1,15 +1,15 @@
 -- The pixels of a raw tile, taken from its mask on to its last.
-use Rattle.std.proofs.Common.{◌≡◌, ℕ, ◌+◌, ◌-◌, ◌*◌, ◌/◌, ◌%◌, ◌<◌, ◌≤◌, ◌&&◌, List, [], ◌∷◌, ◌++◌, Bool, true, false}
-use Rattle.std.proofs.Common.{if◌then◌else◌, length, refl, sym, subst, ◌∙◌, ap, append-nil, append_assoc, arith}
+use Rattle.std.proofs.Common.{◌≡◌, ℕ, ◌+◌, ◌*◌, ◌/◌, ◌%◌, ◌<◌, ◌≤◌, nat_lt, List, []}
+use Rattle.std.proofs.Common.{◌∷◌, ◌++◌, true}
+use Rattle.std.proofs.Common.{length, refl, sym, subst, ◌∙◌, ap, append-nil, append_assoc, arith}
 use Rattle.std.proofs.Common.{length-append}
 use Rattle.std.proofs.Math.Nat.{mul-le-mul_right}
 use Rattle.std.proofs.lemmas.Bool.Decides.{nat_tests}
 use Rattle.rfb_pixel.specs.declared.colour.Colour.{Colour}
 use Rattle.rfb_pixel.specs.Format.{PixelFormat, size_of, colour_of}
 use Rattle.rfb_picture.specs.declared.rect.Rect.{Rect}
-use Rattle.rfb_picture.specs.Rect.{contains}
-use Rattle.rfb_picture.specs.Grid.{Grid, IsGrid, at_or}
-use Rattle.rfb_picture.proofs.GridLaws.{same_changes, contains_true, place_below, whole_before}
+use Rattle.rfb_picture.specs.Grid.{Grid, IsGrid}
+use Rattle.rfb_picture.proofs.GridLaws.{place_below, whole_before}
 use Rattle.rfb_codec.specs.declared.hextile.paint.tile_read.Seen.{Seen}
 use Rattle.rfb_codec.specs.declared.painter.stage.Place.{Place}
 use Rattle.rfb_codec.specs.declared.painter.stage.Stage.TheVariants.{InTiles, InRawTile}
@@ -23,6 +23,7 @@ use Rattle.rfb_codec.specs.inside.Step.{StandsPixels}
 use Rattle.rfb_codec.proofs.CarriedLemmas.{last_of-more}
 use Rattle.rfb_codec.proofs.HextileEncodeLemmas.{listed_more}
 use Rattle.rfb_codec.proofs.FrontLemmas.{run_within}
+use Rattle.rfb_codec.proofs.PaintLemmas.{over_all}
 use Rattle.rfb_codec.proofs.TakeTileLemmas.{draws}
 
 -- all of them
@@ -30,17 +31,8 @@ pub pixels_all : (f : PixelFormat) (rect : Rect) (count : ℕ) (pixels : List �
     IsGrid g → count ≡ rect.h * rect.w →
     pixels_over f rect count pixels g ≡ over rect (λ x y. colour_of f (raw_pixel f rect.w pixels x y)) g
 pixels_all f rect count pixels g whole all =
-    same_changes _ _ g whole
-    (λ x y d p q. by (contains rect x y) _ (at_or g x y d)
-    (λ e.
-    let h = contains_true rect x y e in
-    let below = place_below rect.w rect.h (x - rect.x) (y - rect.y) (omega arith) (omega arith) in
-    grind (arith, nat_tests)))
-  where
-    by : (b : Bool) (c old : Colour) {t : Bool} → (b ≡ true → t ≡ true) →
-        (if b && t then c else old) ≡ (if b then c else old)
-    by true c old on = rw (on refl) refl
-    by false c old on = refl
+    over_all rect (λ x y. nat_lt (y * rect.w + x) count) (λ x y. colour_of f (raw_pixel f rect.w pixels x y)) g whole
+    (λ x y p q. let below = place_below rect.w rect.h x y p q in grind (arith, nat_tests))
 
 -- a raw tile that is whole
 raw_spelled : (f : PixelFormat) (w h : ℕ) (tiles : List Tile) (mask : ℕ) (pixels : List ℕ) →

@@ -1,13 +1,13 @@
 -- The reading of a rectangle's data is what bytes say under its head, in both directions.
 use Rattle.std.proofs.Common.{◌≡◌, ℕ, List, Bool, true, false, Option, Some, None, length, if◌then◌else◌, refl, sym}
-use Rattle.std.proofs.Common.{subst, ◌∙◌}
+use Rattle.std.proofs.Common.{subst}
 use Rattle.rfb_pixel.specs.Format.{PixelFormat}
 use Rattle.rfb_picture.specs.declared.rect.Rect.{Rect}
 use Rattle.rfb_picture.specs.Grid.{Grid}
 use Rattle.rfb_wire.specs.declared.encoding.Encoding.{Encoding}
 use Rattle.rfb_wire.specs.declared.encoding.Encoding.TheVariants.{Raw, CopyRect, Rre, Hextile}
 use Rattle.rfb_wire.specs.Fields.{u16_at}
-use Rattle.rfb_wire.specs.stream.Reading.{Says, Reads, Same}
+use Rattle.rfb_wire.specs.stream.Reading.{Reading, Says, Reads, Same}
 use Rattle.rfb_wire.specs.stream.Parts.{renamed}
 use Rattle.rfb_wire.specs.RectHead.{IsOnScreen}
 use Rattle.rfb_wire.specs.RectStream.{is_on_screen}
@@ -31,46 +31,29 @@ use Rattle.rfb_codec.proofs.HextileLaws.{hextile_says, hextile_reads}
 abbrev pixels_say : Says (Grid ℕ) PaintFault → Says RectData PaintFault
 pixels_say s = renamed_says (λ block. Pixels block) (λ fault. fault) s
 
-raw_same : (f : PixelFormat) (width height : ℕ) (rect : Rect) →
-    Same (pixels_say (raw_says f rect.w rect.h)) (data_says f width height rect Raw)
-raw_same f width height rect = record {
-  item = item;
-  fault = λ fault bytes told. told.2;
-  item_back = item_back;
-  fault_back = λ fault bytes none. absurd none;
-}
+-- where bytes say data exactly as they say a block of pixels, the reading of the block gives the data
+pixels_read : (p : Reading (Grid ℕ) PaintFault) (s : Says (Grid ℕ) PaintFault) (t : Says RectData PaintFault) →
+    Reads p s → ((block : Grid ℕ) (bytes : List ℕ) → s.item block bytes → t.item (Pixels block) bytes) →
+    ((block : Grid ℕ) (bytes : List ℕ) → t.item (Pixels block) bytes → s.item block bytes) →
+    ((x y : ℕ) (bytes : List ℕ) → t.item (Source x y) bytes → ⊥) →
+    ((g : PaintFault) (bytes : List ℕ) → s.fault g bytes → t.fault g bytes) →
+    ((g : PaintFault) (bytes : List ℕ) → t.fault g bytes → s.fault g bytes) →
+    Reads (renamed (λ block. Pixels block) (λ fault. fault) p) t
+pixels_read p s t reads to back none fault_to fault_back =
+    same_reads (renamed (λ block. Pixels block) (λ fault. fault) p) (pixels_say s) t (record {
+      item = item;
+      fault = λ g bytes told. rw told.1 (fault_to told.0 bytes told.2);
+      item_back = item_back;
+      fault_back = λ g bytes told. (g, refl, fault_back g bytes told);
+    }) (renamed_reads (λ block. Pixels block) (λ fault. fault) p s reads)
   where
-    item : (a : RectData) (bytes : List ℕ) → (pixels_say (raw_says f rect.w rect.h)).item a bytes →
-        SpellsData f width height rect Raw a bytes
-    item (Pixels block) bytes (k, is, stands) = let same : block ≡ k = cc in rw same stands
+    item : (a : RectData) (bytes : List ℕ) → (pixels_say s).item a bytes → t.item a bytes
+    item (Pixels block) bytes (k, is, stands) = let same : block ≡ k = cc in to block bytes (rw same stands)
     item (Source x y) bytes (k, is, stands) = cc
 
-    item_back : (a : RectData) (bytes : List ℕ) → SpellsData f width height rect Raw a bytes →
-        (pixels_say (raw_says f rect.w rect.h)).item a bytes
-    item_back (Pixels block) bytes stands = (block, refl, stands)
-    item_back (Source x y) bytes none = absurd none
-
-rre_same : (f : PixelFormat) (width height : ℕ) (rect : Rect) →
-    Same (pixels_say (rre_says f rect.w rect.h)) (data_says f width height rect Rre)
-rre_same f width height rect = record { item = item; fault = fault; item_back = item_back; fault_back = fault_back }
-  where
-    item : (a : RectData) (bytes : List ℕ) → (pixels_say (rre_says f rect.w rect.h)).item a bytes →
-        SpellsData f width height rect Rre a bytes
-    item (Pixels block) bytes (k, is, stands) = let same : block ≡ k = cc in rw same stands
-    item (Source x y) bytes (k, is, stands) = cc
-
-    item_back : (a : RectData) (bytes : List ℕ) → SpellsData f width height rect Rre a bytes →
-        (pixels_say (rre_says f rect.w rect.h)).item a bytes
-    item_back (Pixels block) bytes stands = (block, refl, stands)
-    item_back (Source x y) bytes none = absurd none
-
-    fault : (g : PaintFault) (bytes : List ℕ) → (pixels_say (rre_says f rect.w rect.h)).fault g bytes →
-        FaultsData f width height rect Rre g bytes
-    fault g bytes (k, is, told) = (is ∙ told.0, told.1)
-
-    fault_back : (g : PaintFault) (bytes : List ℕ) → FaultsData f width height rect Rre g bytes →
-        (pixels_say (rre_says f rect.w rect.h)).fault g bytes
-    fault_back g bytes told = (g, refl, told)
+    item_back : (a : RectData) (bytes : List ℕ) → t.item a bytes → (pixels_say s).item a bytes
+    item_back (Pixels block) bytes stands = (block, refl, back block bytes stands)
+    item_back (Source x y) bytes told = absurd (none x y bytes told)
 
 -- ---- CopyRect
 
@@ -131,42 +114,23 @@ source_same f width height rect = record { item = item; fault = fault; item_back
         rw (told.spelled.x_is, told.spelled.y_is) off in
         (told.spelled.size, rw (test, is) refl)
 
-hextile_same : (f : PixelFormat) (width height : ℕ) (rect : Rect) →
-    Same (pixels_say (hextile_says f rect.w rect.h)) (data_says f width height rect Hextile)
-hextile_same f width height rect =
-    record { item = item; fault = fault; item_back = item_back; fault_back = λ g bytes told. (g, refl, told) }
-  where
-    item : (a : RectData) (bytes : List ℕ) → (pixels_say (hextile_says f rect.w rect.h)).item a bytes →
-        SpellsData f width height rect Hextile a bytes
-    item (Pixels block) bytes (k, is, stands) = let same : block ≡ k = cc in rw same stands
-    item (Source x y) bytes (k, is, stands) = cc
-
-    item_back : (a : RectData) (bytes : List ℕ) → SpellsData f width height rect Hextile a bytes →
-        (pixels_say (hextile_says f rect.w rect.h)).item a bytes
-    item_back (Pixels block) bytes stands = (block, refl, stands)
-    item_back (Source x y) bytes none = absurd none
-
-    fault : (g : PaintFault) (bytes : List ℕ) → (pixels_say (hextile_says f rect.w rect.h)).fault g bytes →
-        FaultsData f width height rect Hextile g bytes
-    fault g bytes (k, is, told) = rw is told
-
 -- the reading gives exactly the data and the faults that bytes say
 pub rect_data_reads : (f : PixelFormat) (width height : ℕ) (rect : Rect) (encoding : Encoding) →
     Reads (rect_data f width height rect encoding) (data_says f width height rect encoding)
 unfolding rect_data
-rect_data_reads f width height rect Raw = same_reads
-    (renamed (λ block. Pixels block) (λ fault. fault) (raw f rect.w rect.h)) (pixels_say (raw_says f rect.w rect.h))
-    (data_says f width height rect Raw) (raw_same f width height rect) (renamed_reads (λ block. Pixels block)
-    (λ fault. fault) (raw f rect.w rect.h) (raw_says f rect.w rect.h) (raw_reads f rect.w rect.h))
+rect_data_reads f width height rect Raw =
+    pixels_read (raw f rect.w rect.h) (raw_says f rect.w rect.h) (data_says f width height rect Raw)
+    (raw_reads f rect.w rect.h) (λ block bytes stands. stands) (λ block bytes stands. stands)
+    (λ x y bytes none. none) (λ g bytes told. told) (λ g bytes told. told)
 rect_data_reads f width height rect CopyRect = same_reads (source width height rect) (checked_says 4
     (λ bytes. source_fault width height (source_rect rect bytes)) (λ bytes. Source (u16_at 0 bytes) (u16_at 2 bytes)))
     (data_says f width height rect CopyRect) (source_same f width height rect) (checked_reads 4
     (λ bytes. source_fault width height (source_rect rect bytes)) (λ bytes. Source (u16_at 0 bytes) (u16_at 2 bytes)))
-rect_data_reads f width height rect Rre = same_reads
-    (renamed (λ block. Pixels block) (λ fault. fault) (rre f rect.w rect.h)) (pixels_say (rre_says f rect.w rect.h))
-    (data_says f width height rect Rre) (rre_same f width height rect) (renamed_reads (λ block. Pixels block)
-    (λ fault. fault) (rre f rect.w rect.h) (rre_says f rect.w rect.h) (rre_reads f rect.w rect.h))
-rect_data_reads f width height rect Hextile = same_reads (renamed (λ block. Pixels block) (λ fault. fault)
-    (hextile f rect.w rect.h)) (pixels_say (hextile_says f rect.w rect.h)) (data_says f width height rect Hextile)
-    (hextile_same f width height rect) (renamed_reads (λ block. Pixels block) (λ fault. fault) (hextile f rect.w rect.h)
-    (hextile_says f rect.w rect.h) (hextile_reads f rect.w rect.h))
+rect_data_reads f width height rect Rre =
+    pixels_read (rre f rect.w rect.h) (rre_says f rect.w rect.h) (data_says f width height rect Rre)
+    (rre_reads f rect.w rect.h) (λ block bytes stands. stands) (λ block bytes stands. stands)
+    (λ x y bytes none. none) (λ g bytes told. told) (λ g bytes told. told)
+rect_data_reads f width height rect Hextile =
+    pixels_read (hextile f rect.w rect.h) (hextile_says f rect.w rect.h) (data_says f width height rect Hextile)
+    (hextile_reads f rect.w rect.h) (λ block bytes stands. stands) (λ block bytes stands. stands)
+    (λ x y bytes none. none) (λ g bytes told. told) (λ g bytes told. told)

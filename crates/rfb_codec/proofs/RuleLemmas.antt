@@ -1,6 +1,7 @@
 -- The subrectangles of the rule, as the scan of a block's places takes them.
-use Rattle.std.proofs.Common.{◌≡◌, ◌≢◌, ℕ, zero, suc, ◌+◌, ◌*◌, ◌<◌, ◌≤◌, List, [], ◌∷◌, ◌++◌, Bool, true, false, ◌||◌}
-use Rattle.std.proofs.Common.{nat_lt, length, slice_index, replicate, add-one, arith, refl, sym, subst, ◌∙◌, inl, inr}
+use Rattle.std.proofs.Common.{◌≡◌, ◌≢◌, ℕ, ◌+◌, ◌*◌, ◌<◌, ◌≤◌, List, [], ◌∷◌}
+use Rattle.std.proofs.Common.{◌++◌, Bool, true, false, ◌||◌}
+use Rattle.std.proofs.Common.{nat_lt, length, slice_index, replicate, arith, refl, sym, subst, ◌∙◌, inl, inr}
 use Rattle.std.proofs.Common.{◌⊎◌, append_assoc, append-nil}
 use Rattle.std.proofs.lemmas.Bool.{cases_lt, both_ways, or_right}
 use Rattle.std.proofs.lemmas.Bool.Decides.{nat_tests}
@@ -8,7 +9,7 @@ use Rattle.rfb_picture.specs.Rect.{contains}
 use Rattle.rfb_picture.proofs.GridLaws.{contains_true, contains_row}
 use Rattle.rfb_wire.specs.RectHead.{IsOnScreen}
 use Rattle.rfb_codec.specs.declared.subrect.Subrect.{Subrect}
-use Rattle.rfb_codec.specs.Choice.{is_in_any, IsLeft, IsBefore, IsNextSub, AreNextSubs, AreRuleSubs}
+use Rattle.rfb_codec.specs.Choice.{is_in_any, IsLeft, IsBefore, IsNextSub, AreNextSubs}
 use Rattle.rfb_codec.specs.inside.Cover.{IsOpen, IsUncovered, AreNoted, HasRun, HasRuns, IsGivenUp}
 use Rattle.rfb_codec.proofs.CoverLemmas.{zeros}
 
@@ -83,41 +84,6 @@ choosing_passed width height x y pixels until background subs here old = record 
                   ]
             ]
       ];
-}
-
--- places of the background at the front of a row are passed
-pub choosing_plain : (width height x y : ℕ) (pixels until : List ℕ) (background : ℕ) (subs : List Subrect) →
-    ((i : ℕ) → i < x → slice_index pixels (y * width + i) ≡ background) →
-    Choosing width height 0 y pixels until background subs → Choosing width height x y pixels until background subs
-choosing_plain width height zero y pixels until background subs plain old = old
-choosing_plain width height (suc x) y pixels until background subs plain old =
-    rw add-one at (choosing_passed width height x y pixels until background subs (inr (plain x (omega arith)))
-    (choosing_plain width height x y pixels until background subs (λ i below. plain i (omega arith)) old))
-
--- a row is passed
-pub choosing_row : (width height y : ℕ) (pixels until : List ℕ) (background : ℕ) (subs : List Subrect) →
-    Choosing width height width y pixels until background subs →
-    Choosing width height 0 (y + 1) pixels until background subs
-choosing_row width height y pixels until background subs old = record {
-  each = old.each;
-  reach = λ i j p q. old.reach i j p (omega arith);
-  passed = λ i j p q before left.
-      elim before [
-        | inl above ↦
-            elim (cases_lt j y) [
-              | inl less ↦ old.passed i j p q (inl less) left
-              | inr more ↦ old.passed i j p q (inr (omega arith, p)) left
-            ]
-        | inr (row, column) ↦ omega arith
-      ];
-}
-
--- all places are passed
-pub choosing_all : (width height : ℕ) (pixels until : List ℕ) (background : ℕ) (subs : List Subrect) →
-    Choosing width height 0 height pixels until background subs → AreRuleSubs width height pixels background subs
-choosing_all width height pixels until background subs old = record {
-  each = old.each;
-  none = λ x y p q left. old.passed x y p q (inl q) left;
 }
 
 -- ---- a rectangle that begins at (x, y) is taken

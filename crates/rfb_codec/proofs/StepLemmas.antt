@@ -1,12 +1,13 @@
 -- The steps of the loop that counts pixels: how many own a slot, and what a run of one pixel changes.
-use Rattle.std.proofs.Common.{◌≡◌, ◌≢◌, ℕ, ◌+◌, ◌-◌, ◌<◌, ◌≤◌, List, [], ◌∷◌, ◌++◌, length, nat_eq, get_or, take, set}
-use Rattle.std.proofs.Common.{replicate, arith, refl, sym, ◌∙◌, inl, inr, ◌⊎◌, All}
+use Rattle.std.proofs.Common.{◌≡◌, ◌≢◌, ℕ, ◌+◌, ◌-◌, ◌<◌, ◌≤◌, List, ◌∷◌}
+use Rattle.std.proofs.Common.{◌++◌, length, nat_eq, get_or, take, set}
+use Rattle.std.proofs.Common.{replicate, arith, refl, sym, ◌∙◌, inl, inr, All}
 use Rattle.std.proofs.lemmas.Bool.{cases_eq}
-use Rattle.std.proofs.lemmas.List.Elements.{All-nil, All-cons, All-weaker}
+use Rattle.std.proofs.lemmas.List.Elements.{All-cons, All-weaker}
 use Rattle.std.proofs.lemmas.List.{get_or-set_same, get_or-set_other, length-take, length-set}
 use Rattle.std.proofs.lemmas.List.Sums.{count_by-le-length}
 use Rattle.rfb_codec.specs.Choice.{IsPixelOf, places_of}
-use Rattle.rfb_codec.specs.inside.Background.{HasMore, AllDiffer, IsRun, Leads}
+use Rattle.rfb_codec.specs.inside.Background.{AllDiffer, Claims, HasMore, IsRun, Leads}
 use Rattle.rfb_codec.proofs.TallyLemmas.{Yields}
 use Rattle.rfb_codec.proofs.CountLemmas.{IsOwner, Tallied, passed, slot_claimed, run_noted, run_aside}
 
@@ -19,15 +20,6 @@ pub record Claimed (slot : ℕ → ℕ) (pixels firsts : List ℕ) (free limit :
   pub there : All (λ p. IsPixelOf pixels p) owners
   pub differ : AllDiffer owners
   pub held : All (λ p. 0 < get_or firsts (slot p) 0) owners
-
-pub claimed_none : (slot : ℕ → ℕ) (pixels firsts : List ℕ) (limit : ℕ) → Claimed slot pixels firsts limit limit
-claimed_none slot pixels firsts limit = record {
-  owners = [];
-  many = omega arith;
-  there = All-nil (λ p. IsPixelOf pixels p);
-  differ = tt;
-  held = All-nil (λ p. 0 < get_or firsts (slot p) 0);
-}
 
 -- a pixel whose slot is vacant is none of the owners
 is_other : (slot : ℕ → ℕ) (firsts owners : List ℕ) (pixel : ℕ) → get_or firsts (slot pixel) 0 ≡ 0 →
@@ -70,26 +62,32 @@ more_than_allowed slot pixels firsts start limit below vacant old = record {
 
 -- ---- the steps of the loop, where the code's slot is that of the pixel
 
--- the slot of the run that begins here belongs to some pixel
-pub record Settled (slot : ℕ → ℕ) (pixels firsts counts aside : List ℕ)
-    (start better most free limit slots first at : ℕ) : Type 0 where
-  pub sized : length firsts ≡ slots
+-- at `start` both tables have all slots, the places before are counted or stand aside, and the owners of
+-- slots and the pixels still allowed are together the limit
+pub record Counting (slot : ℕ → ℕ) (slots : ℕ) (pixels firsts counts aside : List ℕ)
+    (start better most free limit : ℕ) : Type 0 where
+  pub firsts_sized : length firsts ≡ slots
+  pub counts_sized : length counts ≡ slots
   pub tallied : Tallied slot pixels firsts counts aside start better most
   pub claimed : Claimed slot pixels firsts free limit
+
+-- the slot of the run that begins here belongs to some pixel
+pub record Settled (slot : ℕ → ℕ) (slots : ℕ) (pixels firsts counts aside : List ℕ)
+    (start better most free limit first at : ℕ) : Type 0 where
+  pub counting : Counting slot slots pixels firsts counts aside start better most free limit
+  pub at_is : at ≡ slot (get_or pixels start 0)
+  pub below : at < slots
   pub first_is : first ≡ get_or firsts at 0
   pub taken : 0 < first
 
-pub slot_settled : (slot : ℕ → ℕ) (pixels firsts firsts' counts aside : List ℕ)
-    (start better most free free' limit slots first at : ℕ) → at ≡ slot (get_or pixels start 0) →
-    start < length pixels → length firsts ≡ slots → at < slots →
-    ((get_or firsts at 0 ≡ 0) × (free ≢ 0) × (firsts' ≡ set firsts at (start + 1))
-    × (free' ≡ free - 1) × (first ≡ start + 1))
-    ⊎ ((get_or firsts at 0 ≢ 0) × (firsts' ≡ firsts) × (free' ≡ free) × (first ≡ get_or firsts at 0)) →
-    Tallied slot pixels firsts counts aside start better most → Claimed slot pixels firsts free limit →
-    Settled slot pixels firsts' counts aside start better most free' limit slots first at
-slot_settled slot pixels firsts firsts' counts aside start better most free free' limit slots first at e below
-    sized below_all choice old claims =
-    let fits : at < length firsts = omega (arith, below_all, sized) in
+pub slot_settled : {slot : ℕ → ℕ} {slots : ℕ} {pixels firsts firsts' counts aside : List ℕ}
+    {start better most free free' limit first at : ℕ} → at ≡ slot (get_or pixels start 0) →
+    start < length pixels → at < slots → Claims at start firsts firsts' free free' first →
+    Counting slot slots pixels firsts counts aside start better most free limit →
+    Settled slot slots pixels firsts' counts aside start better most free' limit first at
+slot_settled {slot} {slots} {pixels} {firsts} {firsts'} {counts} {aside} {start} {better} {most} {free} {free'}
+    {limit} {first} {at} e here below choice old =
+    let fits : at < length firsts = omega (arith, below, old.firsts_sized) in
     elim choice [
       | inl l ↦
           let vacant = rw e at l.0 in
@@ -97,16 +95,23 @@ slot_settled slot pixels firsts firsts' counts aside start better most free free
           let now = get_or-set_same firsts at (start + 1) 0 fits in
           let some : 0 < start + 1 = omega arith in
           rw (l.2, l.3, l.4) (record {
-            sized = length-set firsts at (start + 1) ∙ sized;
-            tallied = rw e (slot_claimed slot pixels firsts counts aside start better most below fits_there vacant old);
-            claimed = rw e (claimed_more slot pixels firsts start free limit (start + 1) below
-                fits_there vacant l.1 some claims);
+            counting = record {
+              firsts_sized = length-set firsts at (start + 1) ∙ old.firsts_sized;
+              counts_sized = old.counts_sized;
+              tallied = rw e (slot_claimed slot pixels firsts counts aside start better most here fits_there vacant
+                  old.tallied);
+              claimed = rw e (claimed_more slot pixels firsts start free limit (start + 1) here
+                  fits_there vacant l.1 some old.claimed);
+            };
+            at_is = e;
+            below = below;
             first_is = sym now;
             taken = some;
           })
       | inr l ↦
           let some : 0 < get_or firsts at 0 = omega (arith, l.0) in
-          rw (l.1, l.2, l.3) (record { sized = sized; tallied = old; claimed = claims; first_is = refl; taken = some })
+          rw (l.1, l.2, l.3)
+          (record { counting = old; at_is = e; below = below; first_is = refl; taken = some })
     ]
 
 -- the slot belongs to the pixel of the run, if the pixel at its first place is that
@@ -184,3 +189,65 @@ put_by slot pixels firsts counts aside start end better most first at e some wit
     let there : first ≡ get_or firsts (slot (get_or pixels start 0)) 0 = rw (← e) is in
     run_aside slot pixels firsts counts aside start end better most some within run (rw there at taken)
     (owner_other slot pixels firsts start first at e is differ) old
+
+-- ---- a turn of the loop
+
+module _ {slot : ℕ → ℕ} {slots : ℕ} {pixels firsts counts aside : List ℕ}
+    {start end better most free limit first at : ℕ}
+    (settled : Settled slot slots pixels firsts counts aside start better most free limit first at)
+    (some : start < end) (within : end ≤ length pixels) (run : IsRun pixels start end) where
+  owned : get_or pixels (first - 1) 0 ≡ get_or pixels start 0 → IsOwner slot pixels firsts (get_or pixels start 0)
+  owned same = owner_known slot pixels firsts start first at settled.at_is settled.first_is settled.taken same
+
+  in_counts : at < length counts
+  in_counts = omega (arith, settled.below, settled.counting.counts_sized)
+
+  -- what the slot has counted are no more places than all
+  pub count_fits : get_or pixels (first - 1) 0 ≡ get_or pixels start 0 →
+      get_or counts at 0 + (end - start) ≤ length pixels
+  count_fits same =
+      let few = count_within slot pixels firsts counts aside start better most at settled.at_is (owned same)
+      settled.counting.tallied in
+      omega (arith, few, some, within)
+
+  counted : {better' most' : ℕ} →
+      Tallied slot pixels firsts (set counts at (get_or counts at 0 + (end - start))) aside end better' most' →
+      Counting slot slots pixels firsts (set counts at (get_or counts at 0 + (end - start))) aside end better' most'
+      free limit
+  counted tallied = record {
+    firsts_sized = settled.counting.firsts_sized;
+    counts_sized = length-set counts at (get_or counts at 0 + (end - start)) ∙ settled.counting.counts_sized;
+    tallied = tallied;
+    claimed = settled.counting.claimed;
+  }
+
+  -- the run is counted, and its pixel is the best so far
+  pub counted_first : get_or pixels (first - 1) 0 ≡ get_or pixels start 0 →
+      Leads (get_or counts at 0 + (end - start)) (get_or pixels start 0) most better →
+      Counting slot slots pixels firsts (set counts at (get_or counts at 0 + (end - start))) aside end
+      (get_or pixels start 0) (get_or counts at 0 + (end - start)) free limit
+  counted_first same leads =
+      counted (noted_first slot pixels firsts counts aside start end better most at settled.at_is some within run
+      in_counts (owned same) leads settled.counting.tallied)
+
+  -- the run is counted, and another pixel is still the best
+  pub counted_after : get_or pixels (first - 1) 0 ≡ get_or pixels start 0 →
+      (get_or counts at 0 + (end - start) ≤ most)
+      × (get_or counts at 0 + (end - start) ≡ most → better ≤ get_or pixels start 0) →
+      Counting slot slots pixels firsts (set counts at (get_or counts at 0 + (end - start))) aside end better most
+      free limit
+  counted_after same no_more =
+      counted (noted_after slot pixels firsts counts aside start end better most at settled.at_is some within run
+      in_counts (owned same) no_more settled.counting.tallied)
+
+  -- the run is put aside
+  pub counted_aside : get_or pixels (first - 1) 0 ≢ get_or pixels start 0 →
+      Counting slot slots pixels firsts counts (aside ++ replicate (end - start) (get_or pixels start 0)) end better
+      most free limit
+  counted_aside differ = record {
+    firsts_sized = settled.counting.firsts_sized;
+    counts_sized = settled.counting.counts_sized;
+    tallied = put_by slot pixels firsts counts aside start end better most first at settled.at_is some within run
+        settled.first_is settled.taken differ settled.counting.tallied;
+    claimed = settled.counting.claimed;
+  }

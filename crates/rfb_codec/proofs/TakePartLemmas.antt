@@ -29,7 +29,7 @@ use Rattle.rfb_pixel.proofs.FormatLaws.{pixel_number-take}
 use Rattle.rfb_codec.proofs.PaintRreLemmas.{over_filled}
 use Rattle.rfb_codec.proofs.RreLaws.{subrect_spelled}
 use Rattle.rfb_codec.proofs.RectDataLaws.{rect_data_reads}
-use Rattle.rfb_codec.proofs.VerdictLemmas.{stage_waits}
+use Rattle.rfb_codec.proofs.VerdictLemmas.{refused_with, stage_waits}
 
 -- ---- a fault
 
@@ -72,27 +72,13 @@ source_refused f rect pending bytes xs used k x y now before body s within is si
       );
       shows = s.shows;
     } in
-    record {
-      refused = record {
-        n = k;
-        pending = pending ++ take k bytes;
-        within = within;
-        bad = rw whole (data_bad f rect CopyRect before xs SourceOutside (
-          refl,
-          record {
-            x = x;
-            y = y;
-            spelled = record { size = size; x_is = x_is; y_is = y_is };
-            outside =
-                off';
-          },
-        ));
-        shows = record { front = NoSource; encoding_is = refl; shown_is = shown };
-      };
-      last = last;
-      waits = stage_waits f rect BeforeSource (pending ++ take k bytes) now before (body ++ take k bytes) refl
-          (let three = short in grind (arith, nat_tests)) shown;
-    }
+    let waits = stage_waits f rect BeforeSource (pending ++ take k bytes) now before (body ++ take k bytes) refl
+    (let three = short in grind (arith, nat_tests)) shown in
+    let bad = data_bad f rect CopyRect before xs SourceOutside (
+      refl,
+      record { x = x; y = y; spelled = record { size = size; x_is = x_is; y_is = y_is }; outside = off' },
+    ) in
+    refused_with NoSource k pending within shown waits (rw whole bad) last
 
 -- ---- RRE
 
@@ -205,42 +191,29 @@ subrect_refused f rect left used k pending bytes xs now before body some within 
     ∙ ap (λ (ys : List ℕ). p.head ++ ys)
     (append_assoc p.list pending (take (k + 1) bytes) ∙ ap (λ (ys : List ℕ). p.list ++ ys) (sym is)) in
     let short = front_short k (size_of f + 7) pending bytes xs is within (size ∙ omega arith) in
-    let waits = subrect_waits f rect left pending (take k bytes) (pending ++ take k bytes) now before body some refl
+    let stands = subrect_waits f rect left pending (take k bytes) (pending ++ take k bytes) now before body some refl
     (omega (arith, short)) (background, subs, s) in
-    record {
-      refused = record {
-        n = k;
-        pending = pending ++ take k bytes;
-        within = within;
-        bad = rw whole (data_bad f rect Rre before (p.head ++ (p.list ++ xs)) SubrectOutside (
-          refl,
-          record {
-            count = length subs + left;
-            background = background;
-            subs = subs;
-            outside = subrect_of f xs;
-            head = p.head;
-            list = p.list;
-            last = xs;
-            whole = refl;
-            head_is = p.head_is;
-            fewer = omega arith;
-            listed = p.listed;
-            last_is = subrect_spelled f xs size;
-            leaves = off;
-          },
-        ));
-        shows = record {
-          front = SomeParts (length subs + left) waits.0 waits.1;
-          encoding_is = refl;
-          shown_is =
-              waits.2;
-        };
-      };
-      last = last;
-      waits = stage_waits f rect (InSubrects left) (pending ++ take k bytes) now before (body ++ take k bytes)
-          (is_some left some) (few (length (pending ++ take k bytes)) (size_of f + 8) (omega (arith, short))) waits;
-    }
+    let waits = stage_waits f rect (InSubrects left) (pending ++ take k bytes) now before (body ++ take k bytes)
+    (is_some left some) (few (length (pending ++ take k bytes)) (size_of f + 8) (omega (arith, short))) stands in
+    let bad = data_bad f rect Rre before (p.head ++ (p.list ++ xs)) SubrectOutside (
+      refl,
+      record {
+        count = length subs + left;
+        background = background;
+        subs = subs;
+        outside = subrect_of f xs;
+        head = p.head;
+        list = p.list;
+        last = xs;
+        whole = refl;
+        head_is = p.head_is;
+        fewer = omega arith;
+        listed = p.listed;
+        last_is = subrect_spelled f xs size;
+        leaves = off;
+      },
+    ) in
+    refused_with (SomeParts (length subs + left) stands.0 stands.1) k pending within stands.2 waits (rw whole bad) last
   where
     is_some : (n : ℕ) → 0 < n → (n == 0) ≡ false
     is_some n e = grind (arith, nat_tests)

@@ -1,12 +1,13 @@
 -- The steps of a tally: a slot claimed, a run counted or put aside, and the runs of those aside.
-use Rattle.std.proofs.Common.{◌≡◌, ◌≢◌, ℕ, ◌+◌, ◌-◌, ◌<◌, ◌≤◌, List, [], ◌++◌, length, get_or, take, drop, arith, refl}
+use Rattle.std.proofs.Common.{◌≡◌, ◌≢◌, ℕ, ◌+◌, ◌-◌, ◌<◌, ◌≤◌, List, ◌++◌, length}
+use Rattle.std.proofs.Common.{get_or, take, drop, arith}
 use Rattle.std.proofs.Common.{sym, ◌∙◌, inl, inr, ◌⊎◌}
 use Rattle.std.proofs.lemmas.Bool.{cases_lt, cases_eq}
 use Rattle.std.proofs.lemmas.List.{take_all}
 use Rattle.std.proofs.lemmas.List.{take-append-le}
 use Rattle.std.specs.List.{refill}
 use Rattle.rfb_codec.specs.Choice.{places_of}
-use Rattle.rfb_codec.specs.inside.Background.{IsLed, IsRun, Leads}
+use Rattle.rfb_codec.specs.inside.Background.{EndsRun, IsLed, IsRun, Leads}
 use Rattle.rfb_codec.proofs.PlacesLemmas.{run_counted, run_passed, none_before}
 
 -- ---- the best of two counts, and of those of more pixels
@@ -22,14 +23,6 @@ pub record Led (aside : List ℕ) (first before better most : ℕ) : Type 0 wher
   pub kept : before ≤ most
   pub still : before ≡ most → better ≤ first
   pub each : (other : ℕ) → Yields (places_of other aside) other most better
-
-pub led_none : (first before : ℕ) → Led [] first before first before
-led_none first before = record {
-  from = inl (refl, refl);
-  kept = omega arith;
-  still = λ _. omega arith;
-  each = λ other. (omega arith, λ some. absurd (omega arith));
-}
 
 -- one more pixel, of `n` places, is better
 led_taken : (xs xs' : List ℕ) (pixel n first before better most : ℕ) → 0 < n → places_of pixel xs' ≡ n →
@@ -156,6 +149,38 @@ sort_left items sorted new same is =
     take-append-le (length items) new (drop (length new) items) fits in
     let all : take (length items) new ≡ new = take_all (length items) new (omega arith) in
     is ∙ front ∙ all
+
+-- the runs before `start` are passed: what they hold comes before what stands there
+pub record PassedTo (sorted : List ℕ) (start first before better most : ℕ) : Type 0 where
+  pub within : start ≤ length sorted
+  pub apart : start < length sorted → (k : ℕ) → k < start → get_or sorted k 0 < get_or sorted start 0
+  pub led : Led (take start sorted) first before better most
+
+module _ {sorted : List ℕ} {start end first before better most : ℕ} (below : start < length sorted)
+    (some : start < end) (within : end ≤ length sorted) (run : IsRun sorted start end)
+    (ends : EndsRun sorted start end)
+    (rise : (i j : ℕ) → i ≤ j → j < length sorted → get_or sorted i 0 ≤ get_or sorted j 0)
+    (old : PassedTo sorted start first before better most) where
+  next_apart : end < length sorted → (k : ℕ) → k < end → get_or sorted k 0 < get_or sorted end 0
+  next_apart more = run_apart sorted start end rise some more (old.apart below) run (ends more)
+
+  -- the run is passed, and its pixel is the best so far
+  pub passed_first : Leads (end - start) (get_or sorted start 0) most better →
+      PassedTo sorted end first before (get_or sorted start 0) (end - start)
+  passed_first leads = record {
+    within = within;
+    apart = next_apart;
+    led = run_taken sorted start end first before better most some within (old.apart below) run leads old.led;
+  }
+
+  -- the run is passed, and another pixel is still the best
+  pub passed_after : (end - start ≤ most) × (end - start ≡ most → better ≤ get_or sorted start 0) →
+      PassedTo sorted end first before better most
+  passed_after no_more = record {
+    within = within;
+    apart = next_apart;
+    led = run_left sorted start end first before better most some within (old.apart below) run no_more old.led;
+  }
 
 -- all are passed
 pub led_all : (aside sorted : List ℕ) (first before better most : ℕ) →

@@ -9,7 +9,7 @@ use Rattle.rfb_picture.specs.declared.rect.Rect.{Rect}
 use Rattle.rfb_picture.specs.Grid.{Grid}
 use Rattle.rfb_picture.proofs.GridLaws.{place_below}
 use Rattle.rfb_codec.specs.Raw.{raw_length}
-use Rattle.rfb_codec.specs.Choice.{IsPixelOf}
+use Rattle.rfb_codec.specs.Choice.{IsPixelOf, IsBackground}
 use Rattle.rfb_codec.specs.Tile.{Tile, RawTile, PlainTile, ColoredTile, rect_in}
 use Rattle.rfb_codec.specs.Hextile.{tile_count, tile_part}
 use Rattle.rfb_codec.specs.HextileRule.{Held, named_in, left_by, IsDrawn, IsRuleTile, HasPixelsOf, AreRuleTiles}
@@ -58,44 +58,37 @@ decide_neither a b c =
     ]
 
 module _ (w h : ℕ) (pixels : List ℕ) (held : Held) (whole : length pixels ≡ h * w) (some : 0 < length pixels) where
+  -- two pixels are there, of which the first is the background, and no third
+  drawn_over : (b p q : ℕ) → IsBackground pixels b → b ≡ p → IsPixelOf pixels q → q ≢ p →
+      ((i : ℕ) → i < length pixels → (slice_index pixels i ≡ p) ⊎ (slice_index pixels i ≡ q)) →
+      (tile : Tile) × IsDrawn w h pixels held tile
+  drawn_over b p q chosen same there differ both =
+      let (subs, rule) = some_subs w h pixels b whole chosen.there in (
+        PlainTile (named_in held.background b) (named_in held.foreground q) (map rect_in subs),
+        inr (inl (record {
+          background = b;
+          foreground = q;
+          subs = subs;
+          chosen = chosen;
+          there = there;
+          differ = λ e. differ (e ∙ same);
+          both = λ i l. elim (both i l) [ inl e ↦ inl (e ∙ sym same) | inr e ↦ inr e ];
+          rule = rule;
+          tile_is = refl;
+        })),
+      )
+
   -- two pixels are there, and no third
   drawn_of_two : (p q : ℕ) → IsPixelOf pixels p → IsPixelOf pixels q → q ≢ p →
       ((i : ℕ) → i < length pixels → (slice_index pixels i ≡ p) ⊎ (slice_index pixels i ≡ q)) →
       (tile : Tile) × IsDrawn w h pixels held tile
   drawn_of_two p q there there_too differ both =
       let (b, chosen) = some_background pixels some in
-      let (subs, rule) = some_subs w h pixels b whole chosen.there in
       elim (both chosen.there.0 chosen.there.1) [
-        | inl is ↦
-            let same : b ≡ p = chosen.there.2 ∙ is in (
-              PlainTile (named_in held.background b) (named_in held.foreground q) (map rect_in subs),
-              inr (inl (record {
-                background = b;
-                foreground = q;
-                subs = subs;
-                chosen = chosen;
-                there = there_too;
-                differ = λ e. differ (e ∙ same);
-                both = λ i l. elim (both i l) [ inl e ↦ inl (e ∙ sym same) | inr e ↦ inr e ];
-                rule = rule;
-                tile_is = refl;
-              })),
-            )
+        | inl is ↦ drawn_over b p q chosen (chosen.there.2 ∙ is) there_too differ both
         | inr is ↦
-            let same : b ≡ q = chosen.there.2 ∙ is in (
-              PlainTile (named_in held.background b) (named_in held.foreground p) (map rect_in subs),
-              inr (inl (record {
-                background = b;
-                foreground = p;
-                subs = subs;
-                chosen = chosen;
-                there = there;
-                differ = λ e. differ (sym (e ∙ same));
-                both = λ i l. elim (both i l) [ inl e ↦ inr e | inr e ↦ inl (e ∙ sym same) ];
-                rule = rule;
-                tile_is = refl;
-              })),
-            )
+            drawn_over b q p chosen (chosen.there.2 ∙ is) there (λ e. differ (sym e))
+            (λ i l. elim (both i l) [ inl e ↦ inr e | inr e ↦ inl e ])
       ]
 
   some_drawn : (tile : Tile) × IsDrawn w h pixels held tile

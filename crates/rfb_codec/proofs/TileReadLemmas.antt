@@ -1,6 +1,6 @@
 -- What a tile's bytes give: its subrectangles, and the colours seen after it.
 use Rattle.std.proofs.Common.{◌≡◌, ℕ, zero, suc, ◌+◌, ◌*◌, ◌<◌, ◌≤◌, List, [], ◌∷◌, ◌++◌, Bool, true, false, Option}
-use Rattle.std.proofs.Common.{None, length, take, drop, map, refl, sym, subst, ◌∙◌, ap, arith}
+use Rattle.std.proofs.Common.{length, take, drop, map, refl, sym, subst, ◌∙◌, ap, arith, length-drop}
 use Rattle.std.proofs.lemmas.List.{drop-drop}
 use Rattle.rfb_pixel.specs.Format.{PixelFormat, size_of}
 use Rattle.rfb_picture.specs.declared.rect.Rect.{Rect}
@@ -53,11 +53,6 @@ subs_in-more f g true n list =
     sym (values_in-more (colored_of f) (size_of f + 2) n list)
     ∙ ap (λ (m : ℕ). values_in (colored_of f) (size_of f + 2) m list) number
 
--- a subrectangle's bytes, as a slice gives them
-pub sub_slice : (f : PixelFormat) (list : List ℕ) (size at part : ℕ) → size ≡ size_of f → (n : ℕ) → at ≡ n
-    * (size + 2) → part ≡ size + 2 → take part (drop at list) ≡ take (size_of f + 2) (drop (n * (size_of f + 2)) list)
-sub_slice f list size at part size_is n at_is part_is = rw (part_is, at_is, size_is) refl
-
 -- of places that lie inside each does
 inside_at : (w h : ℕ) (value : List ℕ → Rect) (unit count : ℕ) (list : List ℕ) (n : ℕ) → n < count →
     AreInside w h (values_in value unit count list) → IsOnScreen w h (value (take unit (drop (n * unit) list)))
@@ -76,6 +71,11 @@ map_values : (f : PixelFormat) (unit n : ℕ) (list : List ℕ) →
 map_values f unit zero list = refl
 map_values f unit (suc n) list =
     ap (λ (xs : List Rect). rect_in (colored_of f (take unit list)) ∷ xs) (map_values f unit n (drop unit list))
+
+-- a list that ends where the bytes end, or before, is there
+pub list_left : (list n used : ℕ) (bytes : List ℕ) → used ≡ list + n → used ≤ length bytes →
+    n ≤ length (drop list bytes)
+list_left list n used bytes end within = omega (arith, end, within, length-drop list bytes)
 
 pub plain_inside : (f : PixelFormat) (w h g count : ℕ) (list : List ℕ) → count * 2 ≤ length list →
     AreInside w h (values_in place_of 2 count list) → AreSubsInside f w h g false count list
@@ -107,10 +107,6 @@ named_foreground : (f : PixelFormat) (w h : ℕ) (layout : TileLayout) (list cou
 named_foreground f w h Raw list count bytes = refl
 named_foreground f w h (Plain background foreground) list count bytes = refl
 named_foreground f w h (Colored background) list count bytes = refl
-
--- none before the first tile
-pub sees_nothing : (seen : Seen) → seen.background ≡ None → seen.foreground ≡ None → Sees [] seen
-sees_nothing seen background foreground = record { background = background; foreground = foreground }
 
 -- those of one tile more
 pub sees_more : (f : PixelFormat) (w h : ℕ) (before : List Tile)

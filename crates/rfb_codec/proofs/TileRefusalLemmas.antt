@@ -26,7 +26,7 @@ use Rattle.rfb_codec.proofs.TakeTileLemmas.{tiles_wait}
 use Rattle.rfb_codec.specs.declared.fault.Flaw.{Flaw}
 use Rattle.rfb_codec.specs.inside.Step.{FaultsNext, IsRefusedWith}
 use Rattle.rfb_codec.proofs.TileFaultLemmas.{raw_is_good, hextile_bad, hextile_data}
-use Rattle.rfb_codec.proofs.VerdictLemmas.{tiles_are_awaited}
+use Rattle.rfb_codec.proofs.VerdictLemmas.{refused_with, tiles_are_awaited}
 
 -- a tile that is refused with byte k of these
 tile_refused : (f : PixelFormat) (rect : Rect) (n : ℕ) (seen : Seen) (pending bytes : List ℕ) (flaw : Flaw)
@@ -50,18 +50,10 @@ tile_refused f rect n seen pending bytes flaw now before body below refused (til
           (pending ++ take k bytes) body s.spelled refl at.2;
       shows = s.shows;
     } in
-    record {
-      refused = record {
-        n = k;
-        pending = pending ++ take k bytes;
-        within = at.1;
-        bad = hextile_data f before.width before.height rect (body ++ take (k + 1) bytes) flaw.fault (rw whole bad);
-        shows = record { front = SomeTiles tiles; encoding_is = refl; shown_is = shown };
-      };
-      last = at.4;
-      waits = tiles_are_awaited f rect n seen (pending ++ take k bytes) now before (body ++ take k bytes) below
-          (tiles, number, sees, shown);
-    }
+    let waits = tiles_are_awaited f rect n seen (pending ++ take k bytes) now before (body ++ take k bytes) below
+    (tiles, number, sees, shown) in
+    refused_with (SomeTiles tiles) k pending at.1 shown waits
+    (hextile_data f before.width before.height rect (body ++ take (k + 1) bytes) flaw.fault (rw whole bad)) at.4
 
 -- with the byte after those pending
 pub byte_refused : (f : PixelFormat) (rect : Rect) (n : ℕ) (seen : Seen) (pending xs : List ℕ) (byte : ℕ)

@@ -122,33 +122,35 @@ record HasBits (mask : ℕ) (background foreground any colored : Bool) : Type 0 
   any_is : any_subrects mask ≡ any
   colored_is : subrects_colored mask ≡ colored
 
-bits_plain : (b g s : Bool) → HasBits (bit_or (bit_or (bit_if 2 b) (bit_if 4 g)) (bit_if 8 s)) b g s false
-bits_plain true true true =
-    record { drawn = refl; background_is = refl; foreground_is = refl; any_is = refl; colored_is = refl }
-bits_plain true true false =
-    record { drawn = refl; background_is = refl; foreground_is = refl; any_is = refl; colored_is = refl }
-bits_plain true false true =
-    record { drawn = refl; background_is = refl; foreground_is = refl; any_is = refl; colored_is = refl }
-bits_plain true false false =
-    record { drawn = refl; background_is = refl; foreground_is = refl; any_is = refl; colored_is = refl }
-bits_plain false true true =
-    record { drawn = refl; background_is = refl; foreground_is = refl; any_is = refl; colored_is = refl }
-bits_plain false true false =
-    record { drawn = refl; background_is = refl; foreground_is = refl; any_is = refl; colored_is = refl }
-bits_plain false false true =
-    record { drawn = refl; background_is = refl; foreground_is = refl; any_is = refl; colored_is = refl }
-bits_plain false false false =
-    record { drawn = refl; background_is = refl; foreground_is = refl; any_is = refl; colored_is = refl }
+-- the five bits of a mask, which are computed where it is a number
+abbrev bits_of : ℕ → Bool × Bool × Bool × Bool × Bool
+bits_of mask =
+    (is_raw mask, background_specified mask, foreground_specified mask, any_subrects mask, subrects_colored mask)
 
-bits_colored : (b s : Bool) → HasBits (bit_or (bit_or (bit_if 2 b) (bit_if 8 s)) 16) b false s true
-bits_colored true true =
-    record { drawn = refl; background_is = refl; foreground_is = refl; any_is = refl; colored_is = refl }
-bits_colored true false =
-    record { drawn = refl; background_is = refl; foreground_is = refl; any_is = refl; colored_is = refl }
-bits_colored false true =
-    record { drawn = refl; background_is = refl; foreground_is = refl; any_is = refl; colored_is = refl }
-bits_colored false false =
-    record { drawn = refl; background_is = refl; foreground_is = refl; any_is = refl; colored_is = refl }
+has_bits : (mask : ℕ) (b g s c : Bool) → bits_of mask ≡ (false, b, g, s, c) → HasBits mask b g s c
+has_bits mask b g s c e = record {
+  drawn = λ i. (e i).0;
+  background_is = λ i. (e i).1;
+  foreground_is = λ i. (e i).2;
+  any_is = λ i. (e i).3;
+  colored_is = λ i. (e i).4;
+}
+
+abbrev PlainBits : Bool → Bool → Bool → Type 0
+PlainBits b g s = bits_of (bit_or (bit_or (bit_if 2 b) (bit_if 4 g)) (bit_if 8 s)) ≡ (false, b, g, s, false)
+
+bits_plain : (b g s : Bool) → PlainBits b g s
+bits_plain true true s = elim s as (λ k. PlainBits true true k) [ true ↦ refl | false ↦ refl ]
+bits_plain true false s = elim s as (λ k. PlainBits true false k) [ true ↦ refl | false ↦ refl ]
+bits_plain false true s = elim s as (λ k. PlainBits false true k) [ true ↦ refl | false ↦ refl ]
+bits_plain false false s = elim s as (λ k. PlainBits false false k) [ true ↦ refl | false ↦ refl ]
+
+abbrev ColoredBits : Bool → Bool → Type 0
+ColoredBits b s = bits_of (bit_or (bit_or (bit_if 2 b) (bit_if 8 s)) 16) ≡ (false, b, false, s, true)
+
+bits_colored : (b s : Bool) → ColoredBits b s
+bits_colored true s = elim s as (λ k. ColoredBits true k) [ true ↦ refl | false ↦ refl ]
+bits_colored false s = elim s as (λ k. ColoredBits false k) [ true ↦ refl | false ↦ refl ]
 
 -- the colour in force after tiles, where a tile specifies this one or none
 abbrev pub IsInForce : Option ℕ → (Tile → Option ℕ) → List Tile → ℕ → Type 0
@@ -172,7 +174,7 @@ plain_good : (before : List Tile) (background foreground : Option ℕ) (subs : L
     (are_some subs ≡ true → (g : ℕ) × IsInForce foreground foreground_of before g) →
     mask_fault before (mask_of (Plain background foreground) subs) ≡ None
 plain_good before background foreground subs b in_force used =
-    let bits = bits_plain (is_there background) (is_there foreground) (are_some subs) in
+    let bits = has_bits _ _ _ _ _ (bits_plain (is_there background) (is_there foreground) (are_some subs)) in
     let one : (not (is_there background) && is_missing (last_of background_of before)) ≡ false =
     there background (last_of background_of before) b in_force in
     let two : (is_there foreground && false) ≡ false = both_false (is_there foreground) in
@@ -188,7 +190,7 @@ plain_good before background foreground subs b in_force used =
 colored_good : (before : List Tile) (background : Option ℕ) (subs : List Subrect) (b : ℕ) →
     IsInForce background background_of before b → mask_fault before (mask_of (Colored background) subs) ≡ None
 colored_good before background subs b in_force =
-    let bits = bits_colored (is_there background) (are_some subs) in
+    let bits = has_bits _ _ _ _ _ (bits_colored (is_there background) (are_some subs)) in
     let one : (not (is_there background) && is_missing (last_of background_of before)) ≡ false =
     there background (last_of background_of before) b in_force in
     let three : (are_some subs && (true && (false && is_missing (last_of foreground_of before)))) ≡ false =
@@ -230,7 +232,7 @@ pub spells_plain : (f : PixelFormat) (w h : ℕ) (before : List Tile) (backgroun
     (are_some subs ≡ true → (g : ℕ) × IsInForce foreground foreground_of before g) → SpellsTile f w h before
     (tile_of f (Plain background foreground) pixels subs) (tile_bytes f (Plain background foreground) pixels subs)
 spells_plain f w h before background foreground pixels subs b small parts one two in_force used =
-    let bits = bits_plain (is_there background) (is_there foreground) (are_some subs) in
+    let bits = has_bits _ _ _ _ _ (bits_plain (is_there background) (is_there foreground) (are_some subs)) in
     record {
       head = mask_of (Plain background foreground) subs ∷ [];
       rest = after_bytes f (Plain background foreground) pixels subs;
@@ -258,7 +260,7 @@ pub spells_colored_tile : (f : PixelFormat) (w h : ℕ)
     IsTileSize w h → AreTileParts f w h subs → IsColourOf f background → IsInForce background background_of before b →
     SpellsTile f w h before (tile_of f (Colored background) pixels subs) (tile_bytes f (Colored background) pixels subs)
 spells_colored_tile f w h before background pixels subs b small parts one in_force =
-    let bits = bits_colored (is_there background) (are_some subs) in
+    let bits = has_bits _ _ _ _ _ (bits_colored (is_there background) (are_some subs)) in
     record {
       head = mask_of (Colored background) subs ∷ [];
       rest = after_bytes f (Colored background) pixels subs;

@@ -11,49 +11,25 @@ use Rattle.rfb_pixel.specs.Format.{PixelFormat, colour_of}
 use Rattle.rfb_picture.specs.declared.rect.Rect.{Rect}
 use Rattle.rfb_picture.specs.Rect.{contains}
 use Rattle.rfb_picture.specs.Grid.{Grid, IsGrid, at_or}
-use Rattle.rfb_picture.proofs.GridLaws.{changed_twice, same_changes, contains_true, same_grid, at-changed}
-use Rattle.rfb_picture.proofs.GridLaws.{whole-changed, width-changed, height-changed}
+use Rattle.rfb_picture.proofs.GridLaws.{changed_twice, same_changes, contains_true}
 use Rattle.rfb_wire.specs.RectHead.{IsOnScreen}
 use Rattle.rfb_codec.specs.Tile.{Tile, RawTile, tile_pixel}
 use Rattle.rfb_codec.specs.Hextile.{across, tile_count, tile_width, tile_height, tile_at, pixel_of_tiles}
 use Rattle.rfb_codec.specs.Painter.{over}
 use Rattle.rfb_codec.specs.Front.{tiles_over}
 use Rattle.rfb_codec.proofs.HextileEncodeLemmas.{column_of, row_of_tiles, in_tile, tile_below}
+use Rattle.rfb_codec.proofs.PaintLemmas.{over_all}
 use Rattle.rfb_codec.proofs.PaintRreLemmas.{moved}
 
 -- ---- what is painted
 
-unchanged : (f : Bool) (n : ℕ) (m : ℕ) (c old : Colour) → n ≡ 0 → (if f && nat_lt m n then c else old) ≡ old
-unchanged true n m c old none = rw none (let off : nat_lt m 0 ≡ false = grind (arith, nat_tests) in rw off refl)
-unchanged false n m c old none = refl
-
--- none
-pub tiles_none : (f : PixelFormat) (rect : Rect) (tiles : List Tile) (g : Grid Colour) → IsGrid g →
-    g ≡ tiles_over f rect 0 tiles g
-tiles_none f rect tiles g whole =
-    let drawing =
-    λ (x y : ℕ) (old : Colour). if contains rect x y && nat_lt (tile_at rect.w (x - rect.x) (y - rect.y)) 0
-    then colour_of f (pixel_of_tiles f rect.w tiles (x - rect.x) (y - rect.y)) else old in
-    same_grid g (tiles_over f rect 0 tiles g) whole (whole-changed drawing g whole) (sym (width-changed drawing g))
-    (sym (height-changed drawing g))
-    (λ x y d p q. sym (at-changed drawing g x y d whole p q
-    ∙ unchanged (contains rect x y) 0 (tile_at rect.w (x - rect.x) (y - rect.y)) _ (at_or g x y d) refl))
-
--- all
+-- all tiles, over the whole rectangle
 pub tiles_all : (f : PixelFormat) (rect : Rect) (tiles : List Tile) (g : Grid Colour) → IsGrid g → tiles_over f rect
     (tile_count rect.w rect.h) tiles g ≡ over rect (λ x y. colour_of f (pixel_of_tiles f rect.w tiles x y)) g
 tiles_all f rect tiles g whole =
-    same_changes _ _ g whole
-    (λ x y d p q. by (contains rect x y) _ (at_or g x y d)
-    (λ e.
-    let h = contains_true rect x y e in
-    let below = tile_below rect.w rect.h (x - rect.x) (y - rect.y) (omega arith) (omega arith) in
-    grind (arith, nat_tests)))
-  where
-    by : (b : Bool) (c old : Colour) {t : Bool} → (b ≡ true → t ≡ true) →
-        (if b && t then c else old) ≡ (if b then c else old)
-    by true c old on = rw (on refl) refl
-    by false c old on = refl
+    over_all rect (λ x y. nat_lt (tile_at rect.w x y) (tile_count rect.w rect.h))
+    (λ x y. colour_of f (pixel_of_tiles f rect.w tiles x y)) g whole
+    (λ x y p q. let below = tile_below rect.w rect.h x y p q in grind (arith, nat_tests))
 
 -- the rectangle of a tile
 pub record IsTileRect (rect tile : Rect) (n : ℕ) : Type 0 where

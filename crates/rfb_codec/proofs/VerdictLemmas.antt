@@ -1,6 +1,7 @@
 -- Whether data have ended, by the stage that they have come to.
 use Rattle.std.proofs.Common.{◌≡◌, ℕ, zero, suc, ◌+◌, ◌*◌, ◌<◌, ◌≤◌, ◌||◌, ◌==◌, nat_le, nat_lt, ◌&&◌, List, [], ◌∷◌}
-use Rattle.std.proofs.Common.{◌++◌, true, false, length, refl, sym, subst, ◌∙◌, ap, append-nil, arith, length-append}
+use Rattle.std.proofs.Common.{◌++◌, true, false, length, take, refl, sym, subst, ◌∙◌, ap, append-nil, arith}
+use Rattle.std.proofs.Common.{length-append}
 use Rattle.std.proofs.Math.Nat.{mul-le-mul_right}
 use Rattle.std.proofs.lemmas.Bool.Decides.{nat_tests}
 use Rattle.rfb_pixel.specs.declared.colour.Colour.{Colour}
@@ -11,12 +12,13 @@ use Rattle.rfb_picture.proofs.GridLaws.{whole_before}
 use Rattle.rfb_wire.specs.declared.encoding.Encoding.{Encoding}
 use Rattle.rfb_wire.specs.declared.encoding.Encoding.TheVariants.{Raw, CopyRect, Rre, Hextile}
 use Rattle.rfb_wire.specs.Fields.{u32_at}
-use Rattle.rfb_wire.specs.stream.Reading.{More, Got, Listed, ListedAfter}
+use Rattle.rfb_wire.specs.stream.Reading.{More, Got, Bad, Listed, ListedAfter}
 use Rattle.rfb_wire.specs.stream.Parts.{continue_with, and_then, done, valued, many, named}
 use Rattle.rfb_wire.proofs.stream_laws.PartLaws.{piece_short}
 use Rattle.rfb_wire.proofs.stream_laws.ReadingLaws.{each_waits, many_waits}
 use Rattle.rfb_wire.proofs.stream_laws.RepeatLaws.{valued_reads}
 use Rattle.rfb_codec.specs.declared.fault.PaintFault.{PaintFault}
+use Rattle.rfb_codec.specs.declared.fault.Flaw.{Flaw}
 use Rattle.rfb_codec.specs.declared.subrect.Subrect.{Subrect}
 use Rattle.rfb_codec.specs.declared.hextile.paint.tile_read.Seen.{Seen}
 use Rattle.rfb_codec.specs.declared.painter.stage.Place.{Place}
@@ -31,7 +33,8 @@ use Rattle.rfb_codec.specs.Hextile.{tile_count, tile_width, tile_height, SpellsN
 use Rattle.rfb_codec.specs.Hextile.{next_tile}
 use Rattle.rfb_codec.specs.inside.TileRead.{all_tiles}
 use Rattle.rfb_codec.specs.RectData.{RectData, Pixels, Source, SpellsData, rect_data, painted, source_in}
-use Rattle.rfb_codec.specs.Front.{SomePixels, SpellsPixels, BeginsTile, tiles_over, Shows}
+use Rattle.rfb_codec.specs.Front.{Front, SomePixels, SpellsPixels, BeginsTile, tiles_over, Shows, encoding_of}
+use Rattle.rfb_codec.specs.inside.Step.{IsRefusedWith}
 use Rattle.rfb_codec.specs.Stage.{places_before, copied_from, encoding_at, is_ended, is_sound, StandsAt}
 use Rattle.rfb_codec.proofs.PixelLaws.{sized-drawn}
 use Rattle.rfb_codec.proofs.PaintLemmas.{over_drawn}
@@ -75,6 +78,27 @@ le_is a b e = grind (arith, nat_tests)
 
 lt_is : (a b : ℕ) → nat_le a b ≡ false → b < a
 lt_is a b e = grind (arith, nat_tests)
+
+-- ---- data that are refused
+
+-- the pieces that the data begin with wait for more, and with byte k of these the data show the fault
+pub refused_with : {f : PixelFormat} {rect : Rect} {before : Grid Colour} {body bytes : List ℕ}
+    {flaw : Flaw} {now : Grid Colour} (front : Front) (k : ℕ) (pending : List ℕ) → k < length bytes →
+    Shows f rect front (pending ++ take k bytes) now before (body ++ take k bytes) →
+    rect_data f before.width before.height rect (encoding_of front) (body ++ take k bytes) ≡ More →
+    rect_data f before.width before.height rect (encoding_of front) (body ++ take (k + 1) bytes) ≡ Bad flaw.fault →
+    flaw.used ≡ k + 1 → IsRefusedWith f rect (encoding_of front) before body bytes flaw now
+refused_with {f} {rect} {before} {body} {bytes} {flaw} {now} front k pending within shown waits bad last = record {
+  refused = record {
+    n = k;
+    pending = pending ++ take k bytes;
+    within = within;
+    bad = bad;
+    shows = record { front = front; encoding_is = refl; shown_is = shown };
+  };
+  last = last;
+  waits = waits;
+}
 
 -- ---- data that have ended
 

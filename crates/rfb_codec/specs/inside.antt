@@ -7,3 +7,4 @@ pub mod TileSpelling
 pub mod Carried
 pub mod TileRead
 pub mod Step
+pub mod Announced

@@ -1,7 +1,7 @@
 -- The background that an encoder chooses, by this project's rule.
 -- No public clause reads these words.
 use Rattle.std.specs.Prelude.{◌≡◌, ◌≢◌, ℕ, zero, suc, ◌+◌, ◌-◌, Bool, nat_le, ◌==◌, if◌then◌else◌, ◌*◌, ◌/◌, ◌%◌, ◌<◌}
-use Rattle.std.specs.Prelude.{◌≤◌, ◌⊎◌, slice_index, List, [], ◌∷◌, length, All}
+use Rattle.std.specs.Prelude.{◌≤◌, ◌⊎◌, slice_index, List, [], ◌∷◌, length, set, All}
 use Rattle.rfb_codec.specs.declared.choice.background.Stop.{Stop}
 use Rattle.rfb_codec.specs.declared.choice.background.Stop.TheVariants.{Pixels, Room}
 use Rattle.rfb_codec.specs.Choice.{IsPixelOf, places_of}
@@ -60,3 +60,16 @@ is_restless pixels = nat_le (length pixels * 3) (changes_in pixels (length pixel
 -- a number that spreads pixels: the remainder by the slots of a table is the slot of the pixel
 unfoldable pub hash_of : ℕ → ℕ
 hash_of pixel = pixel * 2654435761 % 4294967296 / 65536
+
+-- the slot of a pixel in a table of that many slots
+abbrev pub slot_of : ℕ → ℕ → ℕ
+slot_of slots pixel = hash_of pixel % slots
+
+-- the slot belongs to the pixel at place `first`, less 1: if it was vacant, from now on to the one at
+-- `start`, which was still allowed
+abbrev pub Claims : (slot start : ℕ) → List ℕ → List ℕ → ℕ → ℕ → ℕ → Type 0
+Claims slot start firsts firsts' free free' first =
+    ((slice_index firsts slot ≡ 0) × (free ≢ 0) × (firsts' ≡ set firsts slot (start + 1))
+    × (free' ≡ free - 1) × (first ≡ start + 1))
+    ⊎ ((slice_index firsts slot ≢ 0) × (firsts' ≡ firsts) × (free' ≡ free)
+    × (first ≡ slice_index firsts slot))

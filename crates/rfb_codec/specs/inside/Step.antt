@@ -1,7 +1,7 @@
 -- What the parts of a painter promise: a step of it, from one stage to the next. No public clause
 -- reads these words.
 use Rattle.std.specs.Prelude.{◌≡◌, ℕ, ◌+◌, ◌*◌, ◌^◌, ◌<◌, ◌≤◌, ◌==◌, if◌then◌else◌, true, false, List, [], ◌∷◌, ◌++◌}
-use Rattle.std.specs.Prelude.{length, take, Option, None, Result, Ok, Err}
+use Rattle.std.specs.Prelude.{length, take, Option, None, Result, Ok, Err, MatchResult}
 use Rattle.rfb_pixel.specs.declared.colour.Colour.{Colour}
 use Rattle.rfb_pixel.specs.Format.{PixelFormat, size_of, colour_of}
 use Rattle.rfb_picture.specs.declared.rect.Rect.{Rect}
@@ -15,6 +15,7 @@ use Rattle.rfb_codec.specs.declared.subrect.Subrect.{Subrect}
 use Rattle.rfb_codec.specs.declared.fault.PaintFault.{PaintFault}
 use Rattle.rfb_codec.specs.declared.fault.Flaw.{Flaw}
 use Rattle.rfb_codec.specs.declared.fault.PaintFault.TheVariants.{SubrectOutside}
+use Rattle.rfb_codec.specs.declared.hextile.paint.drawing.TileSubs.{TileSubs}
 use Rattle.rfb_codec.specs.declared.hextile.paint.tile_read.Seen.{Seen}
 use Rattle.rfb_codec.specs.declared.hextile.paint.tile_read.TileRead.{TileRead}
 use Rattle.rfb_codec.specs.declared.painter.stage.Place.{Place}
@@ -23,10 +24,13 @@ use Rattle.rfb_codec.specs.declared.painter.stage.Step.{Step}
 use Rattle.rfb_codec.specs.declared.painter.rectangle.Rectangle.{Rectangle}
 use Rattle.rfb_codec.specs.declared.painter.stage.Stage.TheVariants.{BeforeSource, Copied, InPixels, BeforeHead}
 use Rattle.rfb_codec.specs.declared.painter.stage.Stage.TheVariants.{InSubrects, InTiles, InRawTile}
+use Rattle.rfb_codec.specs.Raw.{raw_pixel}
+use Rattle.rfb_codec.specs.Rre.{pixel_at}
 use Rattle.rfb_codec.specs.Tile.{Tile, AreInside, places_of}
 use Rattle.rfb_codec.specs.RectData.{rect_data}
 use Rattle.rfb_codec.specs.Hextile.{tile_width, tile_height, next_tile}
-use Rattle.rfb_codec.specs.inside.TileRead.{LiesIn, TellsTile, tile_of_read, least_size}
+use Rattle.rfb_codec.specs.inside.TileRead.{AreSubsInside, LiesIn, TellsTile, tile_of_read, least_size, subs_in}
+use Rattle.rfb_codec.specs.Painter.{over}
 use Rattle.rfb_codec.specs.Front.{SpellsPixels, pixels_over, tiles_over}
 use Rattle.rfb_codec.specs.Stage.{Sees, StandsAt, IsRefused, encoding_at, is_ended, is_sound, places_before}
 
@@ -56,6 +60,25 @@ StandsPixels f rect at pending now before body =
     × SpellsPixels f (rect.h * rect.w) (places_before rect.w at) pixels pending body
     × (now ≡ pixels_over f rect (places_before rect.w at) pixels before)
 
+-- the picture has these colours over the rectangle, counted from its corner, and keeps its size
+pub record PaintsOver (rect : Rect) (c : ℕ → ℕ → Colour) (old new : Grid Colour) : Type 0 where
+  pub value : new ≡ over rect c old
+  pub width : new.width ≡ old.width
+  pub height : new.height ≡ old.height
+
+-- those of data of Raw
+abbrev pub PaintsRaw : PixelFormat → Rect → List ℕ → Grid Colour → Grid Colour → Type 0
+PaintsRaw f rect bytes old new = PaintsOver rect (λ x y. colour_of f (raw_pixel f rect.w bytes x y)) old new
+
+-- the subrectangles of a tile, which are there and lie in it, and the colours of them over its background
+abbrev pub HasSubs : PixelFormat → Rect → TileSubs → List ℕ → Type 0
+HasSubs f rect s list = AreSubsInside f rect.w rect.h s.foreground s.colored s.count list
+
+abbrev pub PaintsSubs : PixelFormat → Rect → TileSubs → List ℕ → Grid Colour → Grid Colour → Type 0
+PaintsSubs f rect s list old new =
+    PaintsOver rect (λ x y. colour_of f
+    (pixel_at s.background (subs_in f s.foreground s.colored s.count list) x y)) old new
+
 -- how many places stand before the first of a row
 abbrev pub first_of_row : ℕ → ℕ → ℕ
 first_of_row width row = row * width + 0
@@ -66,6 +89,13 @@ PaintsRun f rect from count bytes old new =
     (pixels : List ℕ) (before : Grid Colour) → length pixels ≡ from * size_of f →
     old ≡ pixels_over f rect from pixels before
     → new ≡ pixels_over f rect (from + count) (pixels ++ bytes) before
+
+-- and it keeps its size
+pub record PaintsPixels (f : PixelFormat) (rect : Rect) (from count : ℕ) (bytes : List ℕ)
+    (old new : Grid Colour) : Type 0 where
+  pub value : PaintsRun f rect from count bytes old new
+  pub width : new.width ≡ old.width
+  pub height : new.height ≡ old.height
 
 -- the tile that was read lies in the bytes, and its subrectangles lie in it
 pub record IsGoodTile (f : PixelFormat) (rect : Rect) (n : ℕ) (read : TileRead) (bytes : List ℕ) :
@@ -177,18 +207,16 @@ pub record Breaks (r : Rectangle) (stage : Stage) (pending : List ℕ) (picture 
 -- a step takes some of the bytes, or these show a fault
 abbrev pub Steps : Rectangle → Stage → List ℕ → Grid Colour → List ℕ → Result Step Flaw →
     List ℕ → Grid Colour → Type 0
-Steps r stage pending picture bytes (Ok step) rest now =
-    Takes r stage pending picture bytes step rest now
-Steps r stage pending picture bytes (Err flaw) rest now =
-    Breaks r stage pending picture bytes flaw rest now
+Steps r stage pending picture bytes result rest now =
+    MatchResult result (λ step. Takes r stage pending picture bytes step rest now)
+    (λ flaw. Breaks r stage pending picture bytes flaw rest now)
 
 -- steps take all of the bytes, or these show a fault
 abbrev pub StepsAll : Rectangle → Stage → List ℕ → Grid Colour → List ℕ → Result Step Flaw →
     List ℕ → Grid Colour → Type 0
-StepsAll r stage pending picture bytes (Ok step) rest now =
-    TakesAll r stage pending picture bytes step rest now
-StepsAll r stage pending picture bytes (Err flaw) rest now =
-    Breaks r stage pending picture bytes flaw rest now
+StepsAll r stage pending picture bytes result rest now =
+    MatchResult result (λ step. TakesAll r stage pending picture bytes step rest now)
+    (λ flaw. Breaks r stage pending picture bytes flaw rest now)
 
 -- ---- a byte that only joins those pending
 

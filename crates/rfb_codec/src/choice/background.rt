@@ -1,10 +1,11 @@
 //! The background that an encoder chooses, by this project's rule.
 
 ghost use Rattle.std.specs.Prelude.{◌≡◌, ◌+◌, ◌-◌, ◌<◌, ◌≤◌, ◌++◌, length, replicate, IfOk, IfErr};
-ghost use Rattle.std.specs.Prelude.{IfSome, IfNone};
+ghost use Rattle.std.specs.Prelude.{IfSome, IfNone, slice_index};
 ghost use Rattle.std.specs.Bool.{OnTrue, OnFalse};
 ghost use Rattle.rfb_codec.specs.Choice.{IsBackground};
 ghost use Rattle.rfb_codec.specs.inside.Background.{HasMore, IsStopped, IsLed, IsRun, EndsRun};
+ghost use Rattle.rfb_codec.specs.inside.Background.{Claims};
 ghost use Rattle.rfb_codec.specs.inside.Background.{Leads, hash_of, changes_in, is_restless};
 
 use crate::block::PLACES;
@@ -145,15 +146,9 @@ fn tally<const SLOTS: usize, const ROOM: usize>(
         let end = run_end(pixels, start);
         let pixel = pixels[start];
         let slot = hash(pixel) % SLOTS;
-        let mut first = usize::from(firsts[slot]);
-        if first == 0 {
-            if free == 0 {
-                return Err(Stop::Pixels);
-            }
-            free -= 1;
-            first = start + 1;
-            firsts[slot] = first as u16;
-        }
+        let Some(first) = claim(&mut firsts, slot, start, &mut free) else {
+            return Err(Stop::Pixels);
+        };
         if pixels[first - 1] == pixel {
             let count = counts[slot] + (end - start) as u16;
             counts[slot] = count;
@@ -169,6 +164,33 @@ fn tally<const SLOTS: usize, const ROOM: usize>(
         return Ok(better);
     }
     Ok(with_aside(better, usize::from(most), &mut aside))
+}
+
+// The first place, and 1, of the pixel that a slot belongs to: a vacant one belongs to the pixel at
+// `start` from then on. None where that one is no longer allowed.
+#[inline(always)]
+fn claim<const SLOTS: usize>(
+    firsts: &mut [u16; SLOTS],
+    slot: usize,
+    start: usize,
+    free: &mut usize,
+) -> Option<usize>
+    requires slot { slot < SLOTS }
+    requires start { start < PLACES }
+    ensures some { IfSome result (λ first.
+        Claims slot start firsts.old firsts.new free.old free.new first) }
+    ensures none { IfNone result ((slice_index firsts.old slot ≡ 0) × (free.old ≡ 0)) }
+{
+    let first = usize::from(firsts[slot]);
+    if first != 0 {
+        return Some(first);
+    }
+    if *free == 0 {
+        return None;
+    }
+    *free -= 1;
+    firsts[slot] = (start + 1) as u16;
+    Some(start + 1)
 }
 
 // Puts that many places of a pixel aside, if there is room for them.

@@ -2,8 +2,7 @@
 
 ghost use Rattle.std.specs.Prelude.{◌≡◌, ℕ, ◌+◌, ◌-◌, ◌<◌, ◌≤◌, length, slice_index_or};
 ghost use Rattle.rfb_pixel.specs.declared.colour.Colour.{Colour};
-ghost use Rattle.rfb_picture.specs.Grid.{filled};
-ghost use Rattle.rfb_codec.specs.inside.Step.{IsPaintable};
+ghost use Rattle.rfb_codec.specs.inside.Step.{IsPaintable, PaintsOver};
 
 use rfb_picture::{Picture, Rect};
 use rfb_pixel::Colour;
@@ -15,9 +14,7 @@ use rfb_pixel::Colour;
 #[inline(always)]
 pub fn fill(rect: Rect, colour: Colour, picture: &mut Picture<Colour>)
     requires { IsPaintable picture.old rect }
-    ensures value { picture.new ≡ filled rect colour picture.old }
-    ensures width { picture.new.width ≡ picture.old.width }
-    ensures height { picture.new.height ≡ picture.old.height }
+    ensures { PaintsOver rect (λ x y. colour) picture.old picture.new }
 {
     if rect.w == 1 {
         fill_by::<1>(rect, colour, picture);
@@ -30,9 +27,7 @@ pub fn fill(rect: Rect, colour: Colour, picture: &mut Picture<Colour>)
 #[inline(never)]
 pub fn fill_wide(rect: Rect, colour: Colour, picture: &mut Picture<Colour>)
     requires { IsPaintable picture.old rect }
-    ensures value { picture.new ≡ filled rect colour picture.old }
-    ensures width { picture.new.width ≡ picture.old.width }
-    ensures height { picture.new.height ≡ picture.old.height }
+    ensures { PaintsOver rect (λ x y. colour) picture.old picture.new }
 {
     if rect.w >= 16 {
         fill_by::<16>(rect, colour, picture);
@@ -49,9 +44,7 @@ fn fill_by<const N: usize>(rect: Rect, colour: Colour, picture: &mut Picture<Col
     requires place { IsPaintable picture.old rect }
     requires some { 0 < N }
     requires wide { N ≤ rect.w }
-    ensures value { picture.new ≡ filled rect colour picture.old }
-    ensures width { picture.new.width ≡ picture.old.width }
-    ensures height { picture.new.height ≡ picture.old.height }
+    ensures { PaintsOver rect (λ x y. colour) picture.old picture.new }
 {
     let line = line_of::<N>(colour);
     for row in 0..rect.h {
@@ -62,9 +55,7 @@ fn fill_by<const N: usize>(rect: Rect, colour: Colour, picture: &mut Picture<Col
 // The same of two or three columns, place by place.
 fn fill_narrow(rect: Rect, colour: Colour, picture: &mut Picture<Colour>)
     requires { IsPaintable picture.old rect }
-    ensures value { picture.new ≡ filled rect colour picture.old }
-    ensures width { picture.new.width ≡ picture.old.width }
-    ensures height { picture.new.height ≡ picture.old.height }
+    ensures { PaintsOver rect (λ x y. colour) picture.old picture.new }
 {
     for row in 0..rect.h {
         fill_each(picture.row_mut(rect.x, rect.y + row, rect.w), colour);

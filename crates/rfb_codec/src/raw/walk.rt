@@ -10,7 +10,7 @@ ghost use Rattle.rfb_codec.specs.inside.Step.{IsPaintable};
 ghost use Rattle.rfb_codec.specs.Stage.{places_before};
 ghost use Rattle.rfb_codec.specs.inside.Step.{StandsPixels, Takes};
 
-use super::paint::{paint_lines, paint_run};
+use super::paint::{Lines, Run, paint_lines, paint_run};
 use crate::painter::gather::{Pending, gather};
 use crate::painter::rectangle::Rectangle;
 use crate::painter::stage::{Place, Stage, Step};
@@ -51,7 +51,11 @@ pub fn take_pixels(
             let high = usize::from(rows);
             let wide = usize::from(rect.w);
             let used = high * (wide * size);
-            paint_lines(format, rect, at.y, rows, &bytes[..used], picture);
+            let lines = Lines {
+                top: at.y,
+                count: rows,
+            };
+            paint_lines(format, rect, lines, &bytes[..used], picture);
             return (
                 used,
                 Place {
@@ -65,14 +69,26 @@ pub fn take_pixels(
         let run = whole_pixels(rect.w - at.x, size, bytes);
         let count = usize::from(run);
         let used = count * size;
-        paint_run(format, rect, at, run, &bytes[..used], picture);
+        paint_run(
+            format,
+            rect,
+            Run { at, count: run },
+            &bytes[..used],
+            picture,
+        );
         return (used, place_after(rect.w, at, run));
     }
     let used = gather(pending, size, bytes);
     if pending.len() < size {
         return (used, at);
     }
-    paint_run(format, rect, at, 1, pending.as_slice(), picture);
+    paint_run(
+        format,
+        rect,
+        Run { at, count: 1 },
+        pending.as_slice(),
+        picture,
+    );
     pending.clear();
     (used, place_after(rect.w, at, 1))
 }

@@ -3,12 +3,11 @@
 ghost use Rattle.std.specs.Prelude.{◌≡◌, ℕ, ◌+◌, ◌*◌, ◌≤◌, ◌<◌, List, [], ◌∷◌, ◌++◌, length, drop};
 ghost use Rattle.std.specs.Prelude.{false, true};
 ghost use Rattle.rfb_pixel.specs.Format.{size_of, colour_of};
-ghost use Rattle.rfb_codec.specs.Rre.{pixel_at};
 ghost use Rattle.rfb_codec.specs.Tile.{Tile, AreInside, places_of, tile_pixel, colored_of};
-ghost use Rattle.rfb_codec.specs.inside.TileRead.{LiesIn, tile_of_read, AreSubsInside, subs_in};
+ghost use Rattle.rfb_codec.specs.inside.TileRead.{LiesIn, tile_of_read};
 ghost use Rattle.rfb_codec.specs.inside.TileRead.{sub_after, sub_size};
 ghost use Rattle.rfb_codec.specs.Stage.{Sees};
-ghost use Rattle.rfb_codec.specs.inside.Step.{IsPaintable};
+ghost use Rattle.rfb_codec.specs.inside.Step.{HasSubs, IsPaintable, PaintsSubs};
 ghost use Rattle.rfb_codec.specs.Painter.{over};
 
 use super::reading::place_of;
@@ -43,88 +42,65 @@ pub fn draw_tile(
 {
     let list = &bytes[read.list..];
     let (background, foreground) = (or_zero(seen.background), or_zero(seen.foreground));
-    let pixels = TilePixels {
+    let plain = TileSubs {
         background,
         foreground,
+        colored: false,
+        count: read.count,
     };
     match read.layout {
         TileLayout::Raw => paint_rows(format, rect, &bytes[read.list..read.used], picture),
-        TileLayout::Plain { .. } => {
-            draw_subs(format, rect, pixels, false, read.count, list, picture);
-        }
+        TileLayout::Plain { .. } => draw_subs(format, rect, plain, list, picture),
         TileLayout::Colored { .. } => {
-            draw_subs(format, rect, pixels, true, read.count, list, picture);
+            let colored = TileSubs {
+                colored: true,
+                ..plain
+            };
+            draw_subs(format, rect, colored, list, picture);
         }
     }
 }
 
-// The two pixels that a tile is painted in, but for subrectangles that have their own.
+// What a tile is painted in: a background, and so many subrectangles, which have pixels of their
+// own or else the foreground.
 #[derive(Clone, Copy)]
-struct TilePixels {
+struct TileSubs {
     background: u32,
     foreground: u32,
-}
-
-// Paints the background over the rectangle, and then `count` subrectangles, which lie inside it.
-// Those without a pixel of their own have the foreground. Inlined, so that its loop is made anew
-// for each of the two calls, which know whether there are such pixels; and for the format that this
-// project announces, which is known before it runs.
-#[inline(always)]
-fn draw_subs(
-    format: Format,
-    rect: Rect,
-    pixels: TilePixels,
     colored: bool,
     count: usize,
-    list: &[u8],
-    picture: &mut Picture<Colour>,
-)
+}
+
+// Paints the background over the rectangle, and then the subrectangles, which lie inside it.
+// Inlined, so that its loop is made anew for each of the two calls, which know whether they have
+// pixels of their own; and for the format that this project announces, which is known before it
+// runs.
+#[inline(always)]
+fn draw_subs(format: Format, rect: Rect, subs: TileSubs, list: &[u8], picture: &mut Picture<Colour>)
     requires place { IsPaintable picture.old rect }
-    requires inside { AreSubsInside format rect.w rect.h pixels.foreground colored count list.now }
-    ensures value { picture.new ≡ over rect (λ x y. colour_of format (pixel_at pixels.background
-        (subs_in format pixels.foreground colored count list.now) x y)) picture.old }
-    ensures width { picture.new.width ≡ picture.old.width }
-    ensures height { picture.new.height ≡ picture.old.height }
+    requires inside { HasSubs format rect subs list.now }
+    ensures { PaintsSubs format rect subs list.now picture.old picture.new }
 {
     if format == Format::rgb888() {
-        draw_each(
-            Format::rgb888(),
-            rect,
-            pixels,
-            colored,
-            count,
-            list,
-            picture,
-        );
+        draw_each(Format::rgb888(), rect, subs, list, picture);
     } else {
-        draw_each(format, rect, pixels, colored, count, list, picture);
+        draw_each(format, rect, subs, list, picture);
     }
 }
 
 // The same, by one loop for every format. The background is filled by a call: with that inlined
 // too, this would be too large to be inlined itself.
 #[inline(always)]
-fn draw_each(
-    format: Format,
-    rect: Rect,
-    pixels: TilePixels,
-    colored: bool,
-    count: usize,
-    list: &[u8],
-    picture: &mut Picture<Colour>,
-)
+fn draw_each(format: Format, rect: Rect, subs: TileSubs, list: &[u8], picture: &mut Picture<Colour>)
     requires place { IsPaintable picture.old rect }
-    requires inside { AreSubsInside format rect.w rect.h pixels.foreground colored count list.now }
-    ensures value { picture.new ≡ over rect (λ x y. colour_of format (pixel_at pixels.background
-        (subs_in format pixels.foreground colored count list.now) x y)) picture.old }
-    ensures width { picture.new.width ≡ picture.old.width }
-    ensures height { picture.new.height ≡ picture.old.height }
+    requires inside { HasSubs format rect subs list.now }
+    ensures { PaintsSubs format rect subs list.now picture.old picture.new }
 {
-    fill_wide(rect, unpacked(format, pixels.background), picture);
-    let own = unpacked(format, pixels.foreground);
-    for n in 0..count {
-        let part = sub_at(format, pixels.foreground, colored, n, list);
-        let colour = colour_at(format, colored, own, part.pixel);
+    fill_wide(rect, unpacked(format, subs.background), picture);
+    let own = unpacked(format, subs.foreground);
+    for n in 0..subs.count {
+        let part = sub_at(format, subs.foreground, subs.colored, n, list);
+        let colour = colour_at(format, subs.colored, own, part.pixel);
         let places = part.rect.moved_by(rect.x, rect.y);
         fill(places, colour, picture);
     }

@@ -1,6 +1,6 @@
-use Rattle.std.proofs.Common.{arith, inl, inr, refl}
-use Rattle.rfb_codec.proofs.CoverLemmas.{covering_none, covering_passed, covering_plain, covering_taken}
-use Rattle.rfb_codec.proofs.RuleLemmas.{choosing_none, choosing_passed, choosing_plain, next_taken, choosing_taken}
+use Rattle.std.proofs.Common.{ℕ, arith, inl, inr, refl}
+use Rattle.rfb_codec.proofs.CoverLemmas.{Covering, covering_none, covering_passed, covering_taken, handed_on}
+use Rattle.rfb_codec.proofs.RuleLemmas.{Choosing, choosing_none, choosing_passed, next_taken, choosing_taken}
 use Rattle.rfb_codec.proofs.RuleLemmas.{none_further}
 use Rattle.rfb_codec.proofs.choice.cover.cover.Goals as goal
 use Rattle.rfb_codec.proofs.choice.cover.cover.Goals.{then-pixel-background+then-until-x+else-len-limit}
@@ -16,15 +16,18 @@ loop-y-init g c = record {
 }
 
 pub loop-x-init : goal.loop-x-init
-loop-x-init g c = record {
-  covering =
-      covering_plain c.args.width c.args.height c.first_other-start.result c.loop-y.y c.args.pixels.now c.loop-y.until
-      c.args.background c.loop-y.subs.items c.first_other-start.ensures.plain c.loop-y.invariant.covering;
-  choosing =
-      choosing_plain c.args.width c.args.height c.first_other-start.result c.loop-y.y c.args.pixels.now c.loop-y.until
-      c.args.background c.loop-y.subs.items c.first_other-start.ensures.plain c.loop-y.invariant.choosing;
-  few = omega arith;
-}
+loop-x-init g c =
+    let row = c.loop-y in
+    let plain = c.first_other-start.ensures.plain in
+    record {
+      covering = handed_on (λ (x : ℕ). Covering c.args.width c.args.height x row.y c.args.pixels.now row.until
+          c.args.background row.subs.items) c.first_other-start.result
+          (λ x below. covering_passed _ _ _ _ _ _ _ _ (inr (plain x below))) row.invariant.covering;
+      choosing = handed_on (λ (x : ℕ). Choosing c.args.width c.args.height x row.y c.args.pixels.now row.until
+          c.args.background row.subs.items) c.first_other-start.result
+          (λ x below. choosing_passed _ _ _ _ _ _ _ _ (inr (plain x below))) row.invariant.choosing;
+      few = omega arith;
+    }
 
 pub loop-x-preserved : goal.loop-x-preserved
 loop-x-preserved g c =

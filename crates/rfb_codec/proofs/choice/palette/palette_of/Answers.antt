@@ -1,5 +1,6 @@
-use Rattle.std.proofs.Common.{◌≡◌, ◌<◌, ◌+◌, ◌-◌, ◌⊎◌, inl, inr, ℕ, arith, length, refl, sym, slice_index}
-use Rattle.rfb_codec.proofs.PaletteLemmas.{first_is_more, second_is_more}
+use Rattle.std.proofs.Common.{◌<◌, ◌-◌, ◌⊎◌, inl, inr, arith, length, refl, sym, slice_index}
+use Rattle.rfb_codec.proofs.PaletteLemmas.{AreTwo, first_is_more, second_is_more}
+use Rattle.rfb_codec.proofs.choice.palette.palette_of.Goals.{After-leads}
 use Rattle.rfb_codec.proofs.choice.palette.palette_of.Goals as goal
 
 swapped : {A B : Type 0} → A ⊎ B → B ⊎ A
@@ -24,33 +25,28 @@ returns-then-has_other c =
       not_second = other.3;
     }
 
+-- where no place has another, each has one of two
+two : (c : After-leads) → AreTwo c.args.pixels.now (slice_index c.args.pixels.now 0)
+    (slice_index c.args.pixels.now c.run_of-start.result) (length c.args.pixels.now - c.places_of-seconds.result)
+    c.places_of-seconds.result
+two c =
+    let within : c.run_of-start.result < length c.args.pixels.now =
+    omega (arith, c.run_of-start.ensures.within, c.if-start-pixels.false) in
+    record {
+      has_first = (0, c.requires.some, refl);
+      has_second = (c.run_of-start.result, within, refl);
+      differ = λ same. c.run_of-start.ensures.other within (sym same);
+      each = c.if-has_other.ensures.none;
+      counted = c.places_of-seconds.ensures.value;
+      both = omega (arith, c.places_of-seconds.ensures.few);
+    }
+
 pub returns-then-leads : goal.returns-then-leads
 returns-then-leads c =
-    let pixels = c.args.pixels.now in
-    let start = c.run_of-start.result in
-    let first = slice_index pixels 0 in
-    let second = slice_index pixels start in
-    let within : start < length pixels = omega (arith, c.run_of-start.ensures.within, c.if-start-pixels.false) in
-    let each : (i : ℕ) → i < length pixels → (slice_index pixels i ≡ first) ⊎ (slice_index pixels i ≡ second) =
-    c.if-has_other.ensures.none in
-    let seconds = c.places_of-seconds.result in
-    let both : (length pixels - seconds) + seconds ≡ length pixels = omega (arith, c.places_of-seconds.ensures.few) in
-    let more = first_is_more first second (length pixels - seconds) seconds pixels (λ same. c.run_of-start.ensures.other
-    within (sym same)) each c.places_of-seconds.ensures.value both c.if-leads.ensures.yes in
-    ((0, c.requires.some, refl), (start, within, refl), each, more)
+    let it = two (goal.at.returns-then-leads c).After-leads in
+    (it.has_first, it.has_second, it.each, first_is_more it c.if-leads.ensures.yes)
 
 pub returns-else-leads : goal.returns-else-leads
 returns-else-leads c =
-    let pixels = c.args.pixels.now in
-    let start = c.run_of-start.result in
-    let first = slice_index pixels 0 in
-    let second = slice_index pixels start in
-    let within : start < length pixels = omega (arith, c.run_of-start.ensures.within, c.if-start-pixels.false) in
-    let each : (i : ℕ) → i < length pixels → (slice_index pixels i ≡ first) ⊎ (slice_index pixels i ≡ second) =
-    c.if-has_other.ensures.none in
-    let seconds = c.places_of-seconds.result in
-    let both : (length pixels - seconds) + seconds ≡ length pixels = omega (arith, c.places_of-seconds.ensures.few) in
-    let less = c.if-leads.ensures.no in
-    let more = second_is_more first second (length pixels - seconds) seconds pixels (λ same.
-    c.run_of-start.ensures.other within (sym same)) each c.places_of-seconds.ensures.value both less.0 less.1 in
-    ((start, within, refl), (0, c.requires.some, refl), λ i below. swapped (each i below), more)
+    let it = two (goal.at.returns-else-leads c).After-leads in
+    (it.has_second, it.has_first, λ i below. swapped (it.each i below), second_is_more it c.if-leads.ensures.no)

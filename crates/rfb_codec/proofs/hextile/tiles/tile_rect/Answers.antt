@@ -6,6 +6,3 @@ overflow_sub-height c = grind arith
 
 pub returns-clause-inside : goal.returns-clause-inside
 returns-clause-inside c = grind arith
-
-pub returns-clause-some : goal.returns-clause-some
-returns-clause-some c = grind arith

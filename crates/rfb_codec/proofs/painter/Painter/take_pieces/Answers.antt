@@ -1,6 +1,9 @@
-use Rattle.std.proofs.Common.{◌≡◌, ◌∙◌, ◌++◌, ap, take, length, true, false, sym, subst, rules}
+use Rattle.std.proofs.Common.{◌≡◌, ◌∙◌, ℕ, List, ◌++◌, ap, take, length, true, false, sym, subst}
+use Rattle.std.proofs.Common.{rules}
 use Rattle.std.proofs.lemmas.Result.{err_from_is_err_and}
 use Rattle.rfb_wire.specs.declared.encoding.Encoding.{Encoding}
+use Rattle.rfb_codec.specs.declared.painter.rectangle.Rectangle.{Rectangle}
+use Rattle.rfb_codec.specs.declared.painter.stage.Stage.{Stage}
 use Rattle.rfb_codec.specs.RectData.{source_in}
 use Rattle.rfb_codec.specs.Stage.{is_ended}
 use Rattle.rfb_codec.specs.inside.Step.{IsPaintable}
@@ -8,6 +11,10 @@ use Rattle.rfb_codec.specs.UnderWay.{UnderWay, Paints, CopiesFrom, Waits, Refuse
 use Rattle.rfb_codec.proofs.FeedLemmas.{feed_paints, feed_waits, feed_refuses, feed_shows}
 use Rattle.rfb_codec.proofs.VerdictLemmas.{ended_source}
 use Rattle.rfb_codec.proofs.painter.Painter.take_pieces.Goals as goal
+
+-- what a painter of that rectangle has under way
+abbrev at_stage : Rectangle → Stage → List ℕ → UnderWay
+at_stage r stage pending = record { rect = r.rect; form = r.format; stage = stage; pending = pending }
 
 pub returns-in_err-step-clause-fault : goal.returns-in_err-step-clause-fault
 returns-in_err-step-clause-fault c =
@@ -50,12 +57,7 @@ returns-clause-done c = λ ended.
     let paints = feed_paints old.rectangle.format old.rectangle.rect old.stage step.stage old.pending.items
     c.feed.new.pending.items c.args.picture.now c.feed.new.picture (take step.used c.args.bytes.now) place.whole
     ended' c.in_ok-step.ensures.reaches.same c.in_ok-step.ensures.reaches.goes_on in
-    let next : UnderWay = record {
-      rect = old.rectangle.rect;
-      form = old.rectangle.format;
-      stage = step.stage;
-      pending = c.feed.new.pending.items;
-    } in
+    let next = at_stage old.rectangle step.stage c.feed.new.pending.items in
     subst (λ (p : UnderWay). Paints p c.args.picture.now (take step.used c.args.bytes.now) next
     c.feed.new.picture) c.self.view_is paints
 
@@ -65,12 +67,7 @@ returns-clause-copied c = λ ended.
     let step = c.in_ok-step.step in
     let ended' : is_ended old.rectangle.rect step.stage ≡ true = sym c.is_ended.ensures ∙ ended in
     let reaches = c.in_ok-step.ensures.reaches in
-    let next : UnderWay = record {
-      rect = old.rectangle.rect;
-      form = old.rectangle.format;
-      stage = step.stage;
-      pending = c.feed.new.pending.items;
-    } in
+    let next = at_stage old.rectangle step.stage c.feed.new.pending.items in
     subst (λ (p : UnderWay). CopiesFrom p c.args.picture.now (take step.used c.args.bytes.now) next) c.self.view_is
     (λ before body stands. ended_source old.rectangle.format old.rectangle.rect step.stage c.feed.new.pending.items
     c.feed.new.picture before
@@ -86,10 +83,5 @@ returns-clause-more c = λ ended.
     let waits = feed_waits old.rectangle.format old.rectangle.rect old.stage step.stage old.pending.items
     c.feed.new.pending.items c.args.picture.now c.feed.new.picture step.used c.args.bytes.now all ended'
     c.in_ok-step.ensures.reaches.sound c.in_ok-step.ensures.reaches.same c.in_ok-step.ensures.reaches.goes_on in
-    let next : UnderWay = record {
-      rect = old.rectangle.rect;
-      form = old.rectangle.format;
-      stage = step.stage;
-      pending = c.feed.new.pending.items;
-    } in
+    let next = at_stage old.rectangle step.stage c.feed.new.pending.items in
     subst (λ (p : UnderWay). Waits p c.args.picture.now c.args.bytes.now next c.feed.new.picture) c.self.view_is waits

@@ -1,10 +1,5 @@
-use Rattle.std.proofs.Common.{◌≡◌}
-use Rattle.rfb_codec.specs.Painter.{over}
+use Rattle.rfb_codec.specs.inside.Step.{PaintsOver}
 use Rattle.rfb_codec.proofs.painter.fill.fill_narrow.Given as goal
 
 abbrev pub invariant-loop-row : goal.invariant-loop-row
-invariant-loop-row l = record {
-  shown : l.picture ≡ over (record l.rect { h = l.row }) (λ x y. l.colour) l.fn.picture;
-  width : l.picture.width ≡ l.fn.picture.width;
-  height : l.picture.height ≡ l.fn.picture.height;
-}
+invariant-loop-row l = PaintsOver (record l.rect { h = l.row }) (λ x y. l.colour) l.fn.picture l.picture

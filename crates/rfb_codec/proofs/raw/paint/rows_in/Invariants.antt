@@ -1,13 +1,8 @@
-use Rattle.std.proofs.Common.{◌≡◌}
+use Rattle.rfb_codec.specs.inside.Step.{PaintsOver}
 use Rattle.rfb_pixel.specs.Format.{colour_of}
 use Rattle.rfb_codec.specs.Raw.{raw_pixel}
-use Rattle.rfb_codec.specs.Painter.{over}
 use Rattle.rfb_codec.proofs.raw.paint.rows_in.Given as goal
 
 abbrev pub invariant-loop-row : goal.invariant-loop-row
-invariant-loop-row l = record {
-  shown : l.picture ≡ over (record l.rect { h = l.row })
-      (λ x y. colour_of l.format (raw_pixel l.format l.rect.w l.bytes x y)) l.fn.picture;
-  width : l.picture.width ≡ l.fn.picture.width;
-  height : l.picture.height ≡ l.fn.picture.height;
-}
+invariant-loop-row l = PaintsOver (record l.rect { h = l.row })
+    (λ x y. colour_of l.format (raw_pixel l.format l.rect.w l.bytes x y)) l.fn.picture l.picture

@@ -4,7 +4,7 @@ use Rattle.rfb_pixel.specs.Format.{size_of}
 use Rattle.rfb_codec.specs.declared.fault.PaintFault.TheVariants.{SubrectOutside}
 use Rattle.rfb_codec.specs.declared.painter.stage.Stage.TheVariants.{InSubrects}
 use Rattle.rfb_codec.specs.inside.Step.{Breaks}
-use Rattle.rfb_codec.proofs.FrontLemmas.{no_items}
+use Rattle.rfb_codec.proofs.FrontLemmas.{no_items, takes_on}
 use Rattle.rfb_codec.proofs.TakePartLemmas.{subrect_taken, subrect_refused, subrect_waits}
 use Rattle.rfb_codec.proofs.rre.paint.take_subrect.Goals as goal
 
@@ -18,20 +18,12 @@ returns-then-len-size c =
     let r = c.args.rectangle.now in
     let rest = c.gather-used.new.pending.items in
     let short : length rest < size_of r.format + 8 = omega (arith, c.size-size.ensures.value) in
-    record {
-      some = omega (arith, c.size-size.ensures.value);
-      used = c.gather-used.ensures.used;
-      reaches = record {
-        sound = grind (arith, nat_tests);
-        same = refl;
-        goes_on = λ before body stands.
-            subrect_waits r.format r.rect c.args.left c.args.pending.now.items
-            (take c.gather-used.result c.args.bytes.now) rest c.args.picture.now before body c.requires.left
-            c.gather-used.ensures.items short stands;
-        width = refl;
-        height = refl;
-      };
-    }
+    takes_on (omega (arith, c.size-size.ensures.value)) c.gather-used.ensures.used (grind (arith, nat_tests)) refl
+    (λ before body stands.
+    subrect_waits r.format r.rect c.args.left c.args.pending.now.items
+    (take c.gather-used.result c.args.bytes.now) rest c.args.picture.now before body c.requires.left
+    c.gather-used.ensures.items short stands)
+    refl refl
 
 pub returns-in-Err : goal.returns-in-Err
 returns-in-Err c =
@@ -70,18 +62,10 @@ returns c =
     ap length c.as_slice.ensures.value ∙ omega (arith, c.size-size.ensures.value) in
     let none : length c.clear.new.self.items ≡ 0 = ap length c.clear.ensures in
     let drawn = c.in-Ok.ensures in
-    record {
-      some = omega (arith, c.size-size.ensures.value);
-      used = c.gather-used.ensures.used;
-      reaches = record {
-        sound = grind (arith, nat_tests);
-        same = refl;
-        goes_on = λ before body stands.
-            subrect_taken r.format r.rect c.args.left (c.args.left - 1) c.args.pending.now.items (take used
-            c.args.bytes.now) xs c.clear.new.self.items c.args.picture.now c.draw_subrect-drawn.new.picture before
-            body c.requires.left refl (c.as_slice.ensures.value ∙ c.gather-used.ensures.items) whole c.clear.ensures
-            drawn.inside c.requires.place.whole drawn.value stands;
-        width = drawn.width;
-        height = drawn.height;
-      };
-    }
+    takes_on (omega (arith, c.size-size.ensures.value)) c.gather-used.ensures.used (grind (arith, nat_tests)) refl
+    (λ before body stands.
+    subrect_taken r.format r.rect c.args.left (c.args.left - 1) c.args.pending.now.items (take used
+    c.args.bytes.now) xs c.clear.new.self.items c.args.picture.now c.draw_subrect-drawn.new.picture before
+    body c.requires.left refl (c.as_slice.ensures.value ∙ c.gather-used.ensures.items) whole c.clear.ensures
+    drawn.inside c.requires.place.whole drawn.value stands)
+    drawn.width drawn.height

@@ -18,11 +18,11 @@ loop-n-init c =
     let rect = c.args.rect in
     let before = c.args.picture.now in
     record {
-      shown =
+      value =
           c.fill_wide.ensures.value
           ∙ ap (λ k. filled rect k before) c.unpacked.ensures
-          ∙ ap (λ (all : List Subrect). over rect (λ x y. colour_of f (pixel_at c.args.pixels.background all x y))
-          before) (subs_in-none f c.args.pixels.foreground c.args.colored c.args.list.now);
+          ∙ ap (λ (all : List Subrect). over rect (λ x y. colour_of f (pixel_at c.args.subs.background all x y))
+          before) (subs_in-none f c.args.subs.foreground c.args.subs.colored c.args.list.now);
       width = c.fill_wide.ensures.width;
       height = c.fill_wide.ensures.height;
     }
@@ -36,7 +36,7 @@ fill-requires c =
     let screen : IsOnScreen c.loop-n.picture.width c.loop-n.picture.height rect =
     rw (c.loop-n.invariant.width, c.loop-n.invariant.height) c.requires.place.inside in
     record {
-      whole = rw c.loop-n.invariant.shown (whole-changed _ c.args.picture.now c.requires.place.whole);
+      whole = rw c.loop-n.invariant.value (whole-changed _ c.args.picture.now c.requires.place.whole);
       inside = rw c.moved_by-places.ensures
           (moved_inside rect c.sub_at-part.result.rect c.loop-n.picture.width c.loop-n.picture.height screen on);
       columns = rw c.loop-n.invariant.width c.requires.place.columns;
@@ -47,7 +47,7 @@ pub colour_at-colour-requires : goal.colour_at-colour-requires
 colour_at-colour-requires c =
     let f = c.args.format in
     λ plain.
-    let is : c.sub_at-part.result ≡ sub_after f c.args.pixels.foreground false c.loop-n.n c.args.list.now =
+    let is : c.sub_at-part.result ≡ sub_after f c.args.subs.foreground false c.loop-n.n c.args.list.now =
     rw plain at c.sub_at-part.ensures in
     c.unpacked-own.ensures ∙ ap (colour_of f) (sym (ap (λ (s : Subrect). s.pixel) is))
 
@@ -58,29 +58,29 @@ loop-n-preserved c =
     let n = c.loop-n.n in
     let s = c.sub_at-part.result in
     let before = c.args.picture.now in
-    let subs = subs_in f c.args.pixels.foreground c.args.colored n c.args.list.now in
+    let subs = subs_in f c.args.subs.foreground c.args.subs.colored n c.args.list.now in
     let is = c.sub_at-part.ensures in
     let on : IsOnScreen rect.w rect.h s.rect = subst (λ (s : Subrect). IsOnScreen rect.w rect.h s.rect) (sym is)
     (c.requires.inside.inside n c.loop-n-test.true) in
     record {
-      shown =
+      value =
           c.fill.ensures.value
           ∙ ap (λ (r : Rect). filled r c.colour_at-colour.result c.loop-n.picture) c.moved_by-places.ensures
           ∙ ap (λ k. filled (moved rect s.rect) k c.loop-n.picture) c.colour_at-colour.ensures
-          ∙ ap (λ g. filled (moved rect s.rect) (colour_of f s.pixel) g) c.loop-n.invariant.shown
-          ∙ over_filled f rect c.args.pixels.background subs s before c.requires.place.whole on
+          ∙ ap (λ g. filled (moved rect s.rect) (colour_of f s.pixel) g) c.loop-n.invariant.value
+          ∙ over_filled f rect c.args.subs.background subs s before c.requires.place.whole on
           ∙ ap (λ (t : Subrect). over rect
-          (λ x y. colour_of f (pixel_at c.args.pixels.background (subs ++ t ∷ []) x y)) before) is
-          ∙ ap (λ (all : List Subrect). over rect (λ x y. colour_of f (pixel_at c.args.pixels.background all x y))
-          before) (subs_in-more f c.args.pixels.foreground c.args.colored n c.args.list.now);
+          (λ x y. colour_of f (pixel_at c.args.subs.background (subs ++ t ∷ []) x y)) before) is
+          ∙ ap (λ (all : List Subrect). over rect (λ x y. colour_of f (pixel_at c.args.subs.background all x y))
+          before) (subs_in-more f c.args.subs.foreground c.args.subs.colored n c.args.list.now);
       width = c.fill.ensures.width ∙ c.loop-n.invariant.width;
       height = c.fill.ensures.height ∙ c.loop-n.invariant.height;
     }
 
-pub returns-clause-value : goal.returns-clause-value
-returns-clause-value c =
-    let end : c.loop-n.n ≡ c.args.count = omega (arith, c.loop-n-test.false) in
-    rw end at c.loop-n.invariant.shown
+pub returns : goal.returns
+returns c =
+    let end : c.loop-n.n ≡ c.args.subs.count = omega (arith, c.loop-n-test.false) in
+    rw end at c.loop-n.invariant
 
 pub moved_by-places-requires-clause-columns : goal.moved_by-places-requires-clause-columns
 moved_by-places-requires-clause-columns c = grind arith

@@ -1,28 +1,19 @@
-use Rattle.std.proofs.Common.{◌≡◌, ◌-◌, arith, length, drop, length-drop}
 use Rattle.std.proofs.lemmas.List.{take_rest}
-use Rattle.rfb_codec.proofs.TileReadLemmas.{plain_inside, colored_inside}
+use Rattle.rfb_codec.proofs.TileReadLemmas.{colored_inside, list_left, plain_inside}
 use Rattle.rfb_codec.proofs.PaintHextileLemmas.{drawn_plain, drawn_colored}
 use Rattle.rfb_codec.proofs.hextile.paint.drawing.draw_tile.Goals as goal
 
 pub draw_subs-requires-clause-inside : goal.draw_subs-requires-clause-inside
 draw_subs-requires-clause-inside c =
-    let read = c.args.read in
-    let bytes = c.args.bytes.now in
-    let end = rw c.in-Plain.is at c.requires.lies.end in
-    let left : length (drop read.list bytes) ≡ length bytes - read.list = length-drop read.list bytes in
-    let all = rw c.in-Plain.is at c.requires.inside in
-    rw (take_rest bytes read.list) (plain_inside c.args.format c.args.rect.w c.args.rect.h c.or_zero-foreground.result
-    read.count (drop read.list bytes) (omega (arith, end, left, c.requires.lies.within)) all)
+    rw (take_rest c.args.bytes.now c.args.read.list) (plain_inside _ _ _ _ _ _ (list_left c.args.read.list _ _
+    c.args.bytes.now (rw c.in-Plain.is at c.requires.lies.end) c.requires.lies.within)
+    (rw c.in-Plain.is at c.requires.inside))
 
 pub draw_subs-requires-in-Colored-clause-inside : goal.draw_subs-requires-in-Colored-clause-inside
 draw_subs-requires-in-Colored-clause-inside c =
-    let read = c.args.read in
-    let bytes = c.args.bytes.now in
-    let end = rw c.in-Colored.is at c.requires.lies.end in
-    let left : length (drop read.list bytes) ≡ length bytes - read.list = length-drop read.list bytes in
-    let all = rw c.in-Colored.is at c.requires.inside in
-    rw (take_rest bytes read.list) (colored_inside c.args.format c.args.rect.w c.args.rect.h c.or_zero-foreground.result
-    read.count (drop read.list bytes) (omega (arith, end, left, c.requires.lies.within)) all)
+    rw (take_rest c.args.bytes.now c.args.read.list) (colored_inside _ _ _ _ _ _ (list_left c.args.read.list _ _
+    c.args.bytes.now (rw c.in-Colored.is at c.requires.lies.end) c.requires.lies.within)
+    (rw c.in-Colored.is at c.requires.inside))
 
 pub returns-in-Plain-clause-value : goal.returns-in-Plain-clause-value
 returns-in-Plain-clause-value c = λ before sees.

@@ -9,30 +9,25 @@ use Rattle.rfb_codec.proofs.hextile.paint.reading.read_tile.Goals as goal
 
 pub returns-then-fits-clause-told : goal.returns-then-fits-clause-told
 returns-then-fits-clause-told c = λ before sees.
-    let w = c.args.width in
-    let h = c.args.height in
-    let read = c.in-Some-find.read in
-    let tile = tile_of_read c.args.format w h read c.args.bytes.now in
-    let inside : are_inside w h (places_of tile) ≡ true = sym c.fits.ensures ∙ c.if-fits.true in
     let found = c.in-Some-find.ensures.told in
+    let tile = tile_of_read c.args.format c.args.width c.args.height c.in-Some-find.read c.args.bytes.now in
+    let fit = are_inside c.args.width c.args.height (places_of tile) in
+    let inside : fit ≡ true = sym c.fits.ensures ∙ c.if-fits.true in
     let some : 1 ≤ length c.args.bytes.now = grind (arith, nat_tests, c.is_empty.ensures) in (
-      tile_got c.args.format w h before c.args.bytes.now (slice_index c.args.bytes.now 0) tile _ some refl
-          (sym (c.in-None.ensures before sees)) found.0 inside,
+      tile_got c.args.format c.args.width c.args.height before c.args.bytes.now (slice_index c.args.bytes.now 0) tile _
+          some refl (sym (c.in-None.ensures before sees)) found.0 inside,
       found.1,
-      inside_true w h (places_of tile) inside,
+      inside_true c.args.width c.args.height (places_of tile) inside,
     )
 
 pub returns-else-fits-clause-with : goal.returns-else-fits-clause-with
 returns-else-fits-clause-with c = λ before sees.
-    let w = c.args.width in
-    let h = c.args.height in
+    let (after, lies) = c.in-Some-find.ensures.told in
     let read = c.in-Some-find.read in
-    let tile = tile_of_read c.args.format w h read c.args.bytes.now in
-    let outside : are_inside w h (places_of tile) ≡ false = sym c.fits.ensures ∙ c.if-fits.false in
-    let found = c.in-Some-find.ensures.told in
-    let lies = found.1 in
-    let end = lies.end in
-    let begun = lies.some in
-    let some : 1 ≤ length c.args.bytes.now = grind (arith, nat_tests, c.is_empty.ensures) in
-    outside_faults c.args.format w h before c.args.bytes.now (slice_index c.args.bytes.now 0) tile read.used some
-    refl (sym (c.in-None.ensures before sees)) found.0 (omega (arith, end, begun)) lies.within outside
+    let bytes = c.args.bytes.now in
+    let tile = tile_of_read c.args.format c.args.width c.args.height read bytes in
+    let fit = are_inside c.args.width c.args.height (places_of tile) in
+    let outside : fit ≡ false = sym c.fits.ensures ∙ c.if-fits.false in
+    let some : 1 ≤ length bytes = grind (arith, nat_tests, c.is_empty.ensures) in
+    outside_faults c.args.format c.args.width c.args.height before bytes (slice_index bytes 0) tile read.used some
+    refl (sym (c.in-None.ensures before sees)) after (omega (arith, lies.end, lies.some)) lies.within outside

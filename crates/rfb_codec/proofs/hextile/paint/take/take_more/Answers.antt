@@ -3,6 +3,7 @@ use Rattle.std.proofs.lemmas.Bool.Decides.{nat_tests}
 use Rattle.rfb_codec.specs.inside.TileRead.{least_size}
 use Rattle.rfb_codec.proofs.TileRefusalLemmas.{first_steps}
 use Rattle.rfb_codec.proofs.JoinLemmas.{tile_waits}
+use Rattle.rfb_codec.proofs.FrontLemmas.{takes_on}
 use Rattle.rfb_codec.proofs.hextile.paint.take.take_more.Goals as goal
 
 pub returns-then-len-least : goal.returns-then-len-least
@@ -15,19 +16,11 @@ returns-then-len-least c =
     let short : length xs < least_size r.format pending =
     omega (arith, least, c.gather-used.ensures.within, c.if-len-least.true, c.len.ensures.value) in
     let few : length xs < 1536 = omega (arith, least, short, c.least_size-least.ensures.few) in
-    record {
-      some = omega (arith, c.len.ensures.value);
-      used = c.gather-used.ensures.used;
-      reaches = record {
-        sound = grind (arith, nat_tests);
-        same = refl;
-        goes_on = λ before body stands.
-            tile_waits r.format r.rect c.args.tile c.args.seen pending (take c.gather-used.result c.args.bytes.now) xs
-            c.args.picture.now before body c.requires.pending c.gather-used.ensures.items short stands;
-        width = refl;
-        height = refl;
-      };
-    }
+    takes_on (omega (arith, c.len.ensures.value)) c.gather-used.ensures.used (grind (arith, nat_tests)) refl
+    (λ before body stands.
+    tile_waits r.format r.rect c.args.tile c.args.seen pending (take c.gather-used.result c.args.bytes.now) xs
+    c.args.picture.now before body c.requires.pending c.gather-used.ensures.items short stands)
+    refl refl
 
 pub returns : goal.returns
 returns c =

@@ -2,7 +2,7 @@ use Rattle.std.proofs.Common.{◌≡◌, [], ◌<◌, ◌++◌, length, take, ap
 use Rattle.std.proofs.lemmas.Bool.Decides.{nat_tests}
 use Rattle.rfb_codec.specs.Hextile.{tile_width, tile_height}
 use Rattle.rfb_codec.specs.inside.TileRead.{tile_of_read}
-use Rattle.rfb_codec.proofs.FrontLemmas.{no_items, some_places}
+use Rattle.rfb_codec.proofs.FrontLemmas.{no_items, some_places, takes_on}
 use Rattle.rfb_codec.proofs.TakeTileLemmas.{front_goes_on, front_sound, front_some, tile_goes_on, tile_taken}
 use Rattle.rfb_codec.proofs.TileRefusalLemmas.{slice_refused}
 use Rattle.rfb_codec.proofs.hextile.paint.take.take_tile.Goals as goal
@@ -38,22 +38,14 @@ returns-in-Ok-Some c =
     let begun = lies.some in
     let none : c.args.pending.now.items ≡ [] = no_items c.args.pending.now.items (grind (arith, nat_tests)) in
     let is : take read.used bytes ≡ c.args.pending.now.items ++ take read.used bytes = rw none refl in
-    record {
-      some = omega (arith, end, begun);
-      used = lies.within;
-      reaches = record {
-        sound = grind (arith, nat_tests);
-        same = refl;
-        goes_on = λ before body stands.
-            tile_goes_on f rect n c.args.seen c.draw_next-seen.result t c.args.pending.now.items (take read.used bytes)
-            (take read.used bytes) c.args.pending.now.items c.args.picture.now c.draw_next-seen.new.picture before
-            body c.requires.below is none c.draw_next-seen.ensures.value
-            (λ tiles number sees begins. let here = told tiles number sees in
-            tile_taken f rect.w rect.h tiles bytes t read.used here.1.within here.0) stands;
-        width = c.draw_next-seen.ensures.width;
-        height = c.draw_next-seen.ensures.height;
-      };
-    }
+    takes_on (omega (arith, end, begun)) lies.within (grind (arith, nat_tests)) refl
+    (λ before body stands.
+    tile_goes_on f rect n c.args.seen c.draw_next-seen.result t c.args.pending.now.items (take read.used bytes)
+    (take read.used bytes) c.args.pending.now.items c.args.picture.now c.draw_next-seen.new.picture before
+    body c.requires.below is none c.draw_next-seen.ensures.value
+    (λ tiles number sees begins. let here = told tiles number sees in
+    tile_taken f rect.w rect.h tiles bytes t read.used here.1.within here.0) stands)
+    c.draw_next-seen.ensures.width c.draw_next-seen.ensures.height
 
 pub returns-in-Ok-None : goal.returns-in-Ok-None
 returns-in-Ok-None c =
@@ -66,20 +58,12 @@ returns-in-Ok-None c =
     c.read_next.ensures.rows c.read_next.ensures.columns in
     let some = front_some c.args.tile c.args.seen c.args.pending.now.items c.take_front.new.pending.items
     c.args.bytes.now c.take_front.result c.requires.some front.raw front.other in
-    record {
-      some = some.0;
-      used = some.1;
-      reaches = record {
-        sound = front_sound r.format r.rect c.args.tile c.args.seen c.args.pending.now.items
-            c.take_front.new.pending.items c.args.bytes.now c.take_front.result c.requires.below
-            c.read_next.ensures.columns c.read_next.ensures.rows r.some none short front.raw front.other;
-        same = some.2;
-        goes_on = λ before body stands.
-            front_goes_on r.format r.rect c.args.tile c.args.seen c.args.pending.now.items
-            c.take_front.new.pending.items c.args.bytes.now c.take_front.result c.args.picture.now
-            before body c.requires.place.whole c.requires.below places r.some none c.requires.some
-            front.raw front.other told stands;
-        width = refl;
-        height = refl;
-      };
-    }
+    takes_on some.0 some.1 (front_sound r.format r.rect c.args.tile c.args.seen c.args.pending.now.items
+    c.take_front.new.pending.items c.args.bytes.now c.take_front.result c.requires.below c.read_next.ensures.columns
+    c.read_next.ensures.rows r.some none short front.raw front.other) some.2
+    (λ before body stands.
+    front_goes_on r.format r.rect c.args.tile c.args.seen c.args.pending.now.items
+    c.take_front.new.pending.items c.args.bytes.now c.take_front.result c.args.picture.now
+    before body c.requires.place.whole c.requires.below places r.some none c.requires.some
+    front.raw front.other told stands)
+    refl refl
