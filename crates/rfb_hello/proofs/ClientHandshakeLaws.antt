@@ -12,12 +12,12 @@ use Rattle.rfb_wire.proofs.stream_laws.GrammarLaws.{spelled_grammar}
 use Rattle.rfb_hello.specs.declared.version.Version.{Version}
 use Rattle.rfb_hello.specs.declared.fault.HelloFault.{HelloFault}
 use Rattle.rfb_hello.specs.declared.fault.HelloFault.TheVariants.{BadVersion, VersionTooHigh, BadSecurityChoice}
-use Rattle.rfb_hello.specs.Version.{IsVersionText, SpellsVersion, is_version_text, version_of, minor_of}
+use Rattle.rfb_hello.specs.Version.{SpellsVersion, is_version_text, version_of, minor_of}
 use Rattle.rfb_hello.specs.ClientHandshake.{ClientPoint, AwaitsVersion, AwaitsChoice, AwaitsInit, Begun, ClientItem}
 use Rattle.rfb_hello.specs.ClientHandshake.{ProtocolVersion, SecurityType, ClientInit, SpellsClientItem}
 use Rattle.rfb_hello.specs.ClientHandshake.{FaultsClientItem, client_item_says, client_item_size, choice_fault}
 use Rattle.rfb_hello.specs.ClientHandshake.{client_version_fault, client_item, client_handshake}
-use Rattle.rfb_hello.proofs.VersionLaws.{text_true, text_test}
+use Rattle.rfb_hello.proofs.VersionLaws.{text_true, text_test, text_false}
 
 -- ---- the version
 
@@ -77,16 +77,9 @@ version_same offer = record {
         (h.0.text.size, good v bytes h.0 h.1, ap (λ (w : Version). ProtocolVersion w) h.0.version_is)
     item_back step bytes h = absurd h
 
-    no_text : (bytes : List ℕ) → length bytes ≡ 12 → (IsVersionText bytes → ⊥) → (b : Bool) →
-        is_version_text bytes ≡ b → b ≡ false
-    no_text bytes size none true e = absurd (none (text_true bytes size e))
-    no_text bytes size none false e = refl
-
     fault_back : (f : HelloFault) (bytes : List ℕ) → FaultsClientItem offer AwaitsVersion f bytes →
         (length bytes ≡ 12) × (client_version_fault offer bytes ≡ Some f)
-    fault_back BadVersion bytes h =
-        let text : is_version_text bytes ≡ false = no_text bytes h.0 h.1 (is_version_text bytes) refl in
-        (h.0, rw text refl)
+    fault_back BadVersion bytes h = (h.0, rw (text_false bytes h.0 h.1) refl)
     fault_back VersionTooHigh bytes h =
         let text = text_test bytes h.1.text in
         let high : nat_le (minor_of (version_of bytes)) (minor_of offer) ≡ false =

@@ -12,6 +12,7 @@ pub mod KeptTextLaws
 pub mod ViewerReadingLaws
 pub mod ViewerStepLemmas
 pub mod ViewerReasonLemmas
+pub mod ViewerSecurityLemmas
 pub mod ViewerHelloLemmas
 pub mod ViewerHelloLaws
 pub mod ViewerAnswerLaws

@@ -70,6 +70,15 @@ pub word_alone : (word : ℕ) (bytes front back : List ℕ) → bytes ≡ front 
     (length front ≡ 4) × (word ≡ u32_at 0 front) → back ≡ [] → IsWord word bytes
 word_alone word bytes front back e value none = rw (alone bytes front back e none) (value.0, sym value.1)
 
+-- a fault after a number, by what the number is
+pub fault_after : (size : ℕ) (value : List ℕ → ℕ) (says : ℕ → Says ServerItem HelloFault)
+    (Told : HelloFault → List ℕ → Type 0) →
+    ((n : ℕ) (f : HelloFault) (bytes front back : List ℕ) → bytes ≡ front ++ back →
+    (length front ≡ size) × (n ≡ value front) → (says n).fault f back → Told f bytes) →
+    (f : HelloFault) (bytes : List ℕ) → (then_says (valued_says size value) says).fault f bytes → Told f bytes
+fault_after size value says Told by f bytes (inl none) = absurd none
+fault_after size value says Told by f bytes (inr (n, front, back, e, is, h)) = by n f bytes front back e is h
+
 -- ---- the security type of 3.3
 
 abbrev pub word_says : ℕ → Says ServerItem HelloFault
@@ -90,7 +99,7 @@ words_say = then_says (valued_says 4 (λ bytes. u32_at 0 bytes)) word_says
 pub words_same : (max : ℕ) → Same words_say (server_item_says max (AwaitsSecurity V33))
 words_same max = record {
   item = λ step bytes h. item h.0 step bytes h.1 h.2 h.3 h.4 h.5;
-  fault = fault;
+  fault = fault_after 4 (λ bytes. u32_at 0 bytes) word_says (FaultsServerItem max (AwaitsSecurity V33)) fault_of;
   item_back = item_back;
   fault_back = fault_back;
 }
@@ -115,11 +124,6 @@ words_same max = record {
     fault_of (suc (suc (suc word))) f bytes front back e value h =
         subst (λ (k : HelloFault). FaultsServerItem max (AwaitsSecurity V33) k bytes) (sym h.0)
         (suc (suc (suc word)), word_alone (suc (suc (suc word))) bytes front back e value h.1, omega arith)
-
-    fault : (f : HelloFault) (bytes : List ℕ) → words_say.fault f bytes →
-        FaultsServerItem max (AwaitsSecurity V33) f bytes
-    fault f bytes (inl none) = absurd none
-    fault f bytes (inr (word, front, back, e, value, h)) = fault_of word f bytes front back e value h
 
     item_back : (step : ServerItem) (bytes : List ℕ) → SpellsServerItem max (AwaitsSecurity V33) step bytes →
         words_say.item step bytes
@@ -191,10 +195,16 @@ counted n bytes front back e value size =
       whole = e ∙ ap (λ (ys : List ℕ). ys ++ back) head ∙ ap (λ (k : ℕ). k ∷ back) (sym size);
     }
 
+-- types after their count
+by_count : (types bytes : List ℕ) (Said : ℕ → List ℕ → Type 0) → IsTypes types bytes →
+    Said (length types) types → (count : ℕ) × (front back : List ℕ) × (bytes ≡ front ++ back)
+    × ((length front ≡ 1) × (count ≡ u8_at 0 front)) × Said count back
+by_count types bytes Said t said = (length types, length types ∷ [], types, t.whole, (refl, refl), said)
+
 pub counts_same : Same counts_say types_say
 counts_same = record {
   item = λ step bytes h. item h.0 step bytes h.1 h.2 h.3 h.4 h.5;
-  fault = fault;
+  fault = fault_after 1 (λ bytes. u8_at 0 bytes) count_says FaultOfTypes fault_of;
   item_back = item_back;
   fault_back = fault_back;
 }
@@ -213,25 +223,16 @@ counts_same = record {
         let bad = types_bad back f h.1 in
         inr (bad.1, (back, counted n bytes front back e value h.0, bad.0))
 
-    fault : (f : HelloFault) (bytes : List ℕ) → counts_say.fault f bytes → FaultOfTypes f bytes
-    fault f bytes (inl none) = absurd none
-    fault f bytes (inr (count, front, back, e, value, h)) = fault_of count f bytes front back e value h
-
     after_types : (n : ℕ) (types : List ℕ) → length types ≡ n → 0 < n → has_none types ≡ true →
         (count_says n).item (SecurityTypes types) types
     after_types zero types size some has = absurd (omega (arith, some))
     after_types (suc n) types size some has = (size, rw has refl, refl)
 
     item_back : (step : ServerItem) (bytes : List ℕ) → ItemOfTypes step bytes → counts_say.item step bytes
-    item_back step bytes (types, is, t, has) = (
-      length types,
-      length types ∷ [],
-      types,
-      t.whole,
-      (refl, refl),
-      subst (λ (s : ServerItem). (count_says (length types)).item s types) (sym is)
-          (after_types (length types) types refl t.some has),
-    )
+    item_back step bytes (types, is, t, has) =
+        by_count types bytes (λ n back. (count_says n).item step back) t
+        (subst (λ (s : ServerItem). (count_says (length types)).item s types) (sym is)
+        (after_types (length types) types refl t.some has))
 
     after_bad : (n : ℕ) (types : List ℕ) → length types ≡ n → 0 < n → has_none types ≡ false →
         (count_says n).fault NoneNotOffered types
@@ -240,12 +241,7 @@ counts_same = record {
 
     fault_back : (f : HelloFault) (bytes : List ℕ) → FaultOfTypes f bytes → counts_say.fault f bytes
     fault_back f bytes (inl (n, is, (r, e, reason_is))) = inr (zero, zero ∷ [], r, e, (refl, refl), (n, is, reason_is))
-    fault_back f bytes (inr (is, (types, t, has))) = inr (
-      length types,
-      length types ∷ [],
-      types,
-      t.whole,
-      (refl, refl),
-      subst (λ (k : HelloFault). (count_says (length types)).fault k types) (sym is)
-          (after_bad (length types) types refl t.some has),
-    )
+    fault_back f bytes (inr (is, (types, t, has))) =
+        inr (by_count types bytes (λ n back. (count_says n).fault f back) t
+        (subst (λ (k : HelloFault). (count_says (length types)).fault k types) (sym is)
+        (after_bad (length types) types refl t.some has)))

@@ -1,5 +1,5 @@
 -- The version and the security types of a server's handshake, as they stand in its stream.
-use Rattle.std.proofs.Common.{◌≡◌, ℕ, inl, inr, Bool, true, false, List}
+use Rattle.std.proofs.Common.{◌≡◌, ◌≢◌, ℕ, inl, inr, Bool, true, false, List}
 use Rattle.std.proofs.Common.{Option, Some, None, if◌then◌else◌, length, refl, sym, subst, ap}
 use Rattle.rfb_wire.specs.Fields.{u8_at, u32_at}
 use Rattle.rfb_wire.specs.stream.Reading.{Reads, Same}
@@ -10,13 +10,13 @@ use Rattle.rfb_hello.specs.declared.version.Version.{Version}
 use Rattle.rfb_hello.specs.declared.version.Version.TheVariants.{V33, V37, V38}
 use Rattle.rfb_hello.specs.declared.fault.HelloFault.{HelloFault}
 use Rattle.rfb_hello.specs.declared.fault.HelloFault.TheVariants.{BadVersion, NoneNotOffered, Refused}
-use Rattle.rfb_hello.specs.Version.{IsVersionText, is_version_text, version_of}
+use Rattle.rfb_hello.specs.Version.{is_version_text, version_of}
 use Rattle.rfb_hello.specs.ServerHandshake.{AwaitsVersion, AwaitsSecurity}
 use Rattle.rfb_hello.specs.ServerHandshake.{ServerItem, ProtocolVersion, SecurityTypes}
 use Rattle.rfb_hello.specs.ServerHandshake.{SpellsServerItem, FaultsServerItem}
-use Rattle.rfb_hello.specs.ServerHandshake.{server_item_says}
+use Rattle.rfb_hello.specs.ServerHandshake.{server_item_says, has_none, IsTypes, IsWithoutNone, IsRefusal}
 use Rattle.rfb_hello.specs.ServerItems.{after_word, after_count, security}
-use Rattle.rfb_hello.proofs.VersionLaws.{text_true, text_test}
+use Rattle.rfb_hello.proofs.VersionLaws.{text_true, text_test, text_false}
 use Rattle.rfb_hello.proofs.ServerHandshakeLaws.{word_says, words_say}
 use Rattle.rfb_hello.proofs.ServerHandshakeLaws.{word_reads, words_same, ItemOfTypes, FaultOfTypes, types_say}
 use Rattle.rfb_hello.proofs.ServerHandshakeLaws.{count_says, counts_say, count_reads, counts_same}
@@ -61,67 +61,64 @@ version_same max = record {
         (h.text.size, rw text refl, ap (λ (w : Version). ProtocolVersion w) h.version_is)
     item_back step bytes h = absurd h
 
-    no_text : (bytes : List ℕ) → length bytes ≡ 12 → (IsVersionText bytes → ⊥) → (b : Bool) →
-        is_version_text bytes ≡ b → b ≡ false
-    no_text bytes size none true e = absurd (none (text_true bytes size e))
-    no_text bytes size none false e = refl
-
     fault_back : (f : HelloFault) (bytes : List ℕ) → FaultsServerItem max AwaitsVersion f bytes →
         (length bytes ≡ 12) × (text_fault bytes ≡ Some f)
-    fault_back BadVersion bytes h =
-        let text : is_version_text bytes ≡ false = no_text bytes h.0 h.1 (is_version_text bytes) refl in
-        (h.0, rw text refl)
+    fault_back BadVersion bytes h = (h.0, rw (text_false bytes h.0 h.1) refl)
     fault_back f bytes h = absurd h
 
 -- ---- security
 
-types_37 : (max : ℕ) → Same types_say (server_item_says max (AwaitsSecurity V37))
-types_37 max = record {
-  item = λ step bytes h. subst (λ (s : ServerItem). SpellsServerItem max (AwaitsSecurity V37) s bytes)
-      (sym h.1) (h.2, h.3);
+-- a list of types is the same under 3.7 and 3.8
+types_same : (max : ℕ) (v : Version) → v ≢ V33 → Same types_say (server_item_says max (AwaitsSecurity v))
+types_same max v later = record {
+  item = λ step bytes h. subst (λ (s : ServerItem). SpellsServerItem max (AwaitsSecurity v) s bytes) (sym h.1)
+      (spelled v later h.0 bytes (h.2, h.3));
   fault = fault;
-  item_back = item_back;
-  fault_back = fault_back;
+  item_back = item_back v later;
+  fault_back = fault_back v later;
 }
   where
-    fault : (f : HelloFault) (bytes : List ℕ) → FaultOfTypes f bytes → FaultsServerItem max (AwaitsSecurity V37) f bytes
-    fault f bytes (inl h) = subst (λ (k : HelloFault). FaultsServerItem max (AwaitsSecurity V37) k bytes) (sym h.1) h.2
-    fault f bytes (inr h) = subst (λ (k : HelloFault). FaultsServerItem max (AwaitsSecurity V37) k bytes) (sym h.0) h.1
+    spelled : (v : Version) → v ≢ V33 → (types bytes : List ℕ) →
+        IsTypes types bytes × (has_none types ≡ true) →
+        SpellsServerItem max (AwaitsSecurity v) (SecurityTypes types) bytes
+    spelled V33 later types bytes h = absurd (later refl)
+    spelled V37 later types bytes h = h
+    spelled V38 later types bytes h = h
 
-    item_back : (step : ServerItem) (bytes : List ℕ) → SpellsServerItem max (AwaitsSecurity V37) step bytes →
-        ItemOfTypes step bytes
-    item_back (SecurityTypes types) bytes h = (types, refl, h.0, h.1)
-    item_back step bytes h = absurd h
+    refused : (v : Version) → v ≢ V33 → (n : ℕ) (bytes : List ℕ) → IsRefusal n bytes →
+        FaultsServerItem max (AwaitsSecurity v) (Refused n) bytes
+    refused V33 later n bytes h = absurd (later refl)
+    refused V37 later n bytes h = h
+    refused V38 later n bytes h = h
 
-    fault_back : (f : HelloFault) (bytes : List ℕ) →
-        FaultsServerItem max (AwaitsSecurity V37) f bytes → FaultOfTypes f bytes
-    fault_back (Refused n) bytes h = inl (n, refl, h)
-    fault_back NoneNotOffered bytes h = inr (refl, h)
-    fault_back f bytes h = absurd h
+    without : (v : Version) → v ≢ V33 → (bytes : List ℕ) → IsWithoutNone bytes →
+        FaultsServerItem max (AwaitsSecurity v) NoneNotOffered bytes
+    without V33 later bytes h = absurd (later refl)
+    without V37 later bytes h = h
+    without V38 later bytes h = h
 
-types_38 : (max : ℕ) → Same types_say (server_item_says max (AwaitsSecurity V38))
-types_38 max = record {
-  item = λ step bytes h. subst (λ (s : ServerItem). SpellsServerItem max (AwaitsSecurity V38) s bytes)
-      (sym h.1) (h.2, h.3);
-  fault = fault;
-  item_back = item_back;
-  fault_back = fault_back;
-}
-  where
-    fault : (f : HelloFault) (bytes : List ℕ) → FaultOfTypes f bytes → FaultsServerItem max (AwaitsSecurity V38) f bytes
-    fault f bytes (inl h) = subst (λ (k : HelloFault). FaultsServerItem max (AwaitsSecurity V38) k bytes) (sym h.1) h.2
-    fault f bytes (inr h) = subst (λ (k : HelloFault). FaultsServerItem max (AwaitsSecurity V38) k bytes) (sym h.0) h.1
+    fault : (f : HelloFault) (bytes : List ℕ) → FaultOfTypes f bytes →
+        FaultsServerItem max (AwaitsSecurity v) f bytes
+    fault f bytes (inl h) = subst (λ (k : HelloFault). FaultsServerItem max (AwaitsSecurity v) k bytes) (sym h.1)
+        (refused v later h.0 bytes h.2)
+    fault f bytes (inr h) = subst (λ (k : HelloFault). FaultsServerItem max (AwaitsSecurity v) k bytes) (sym h.0)
+        (without v later bytes h.1)
 
-    item_back : (step : ServerItem) (bytes : List ℕ) → SpellsServerItem max (AwaitsSecurity V38) step bytes →
-        ItemOfTypes step bytes
-    item_back (SecurityTypes types) bytes h = (types, refl, h.0, h.1)
-    item_back step bytes h = absurd h
+    item_back : (v : Version) → v ≢ V33 → (step : ServerItem) (bytes : List ℕ) →
+        SpellsServerItem max (AwaitsSecurity v) step bytes → ItemOfTypes step bytes
+    item_back V33 later step bytes h = absurd (later refl)
+    item_back V37 later (SecurityTypes types) bytes h = (types, refl, h.0, h.1)
+    item_back V38 later (SecurityTypes types) bytes h = (types, refl, h.0, h.1)
+    item_back v later step bytes h = absurd h
 
-    fault_back : (f : HelloFault) (bytes : List ℕ) →
-        FaultsServerItem max (AwaitsSecurity V38) f bytes → FaultOfTypes f bytes
-    fault_back (Refused n) bytes h = inl (n, refl, h)
-    fault_back NoneNotOffered bytes h = inr (refl, h)
-    fault_back f bytes h = absurd h
+    fault_back : (v : Version) → v ≢ V33 → (f : HelloFault) (bytes : List ℕ) →
+        FaultsServerItem max (AwaitsSecurity v) f bytes → FaultOfTypes f bytes
+    fault_back V33 later f bytes h = absurd (later refl)
+    fault_back V37 later (Refused n) bytes h = inl (n, refl, h)
+    fault_back V38 later (Refused n) bytes h = inl (n, refl, h)
+    fault_back V37 later NoneNotOffered bytes h = inr (refl, h)
+    fault_back V38 later NoneNotOffered bytes h = inr (refl, h)
+    fault_back v later f bytes h = absurd h
 
 counts_read : Reads (and_then (valued 1 (λ bytes. u8_at 0 bytes)) after_count) types_say
 counts_read = same_reads (and_then (valued 1 (λ bytes. u8_at 0 bytes)) after_count) counts_say types_say counts_same
@@ -134,6 +131,8 @@ security_reads max V33 = same_reads (security V33) words_say (server_item_says m
     (words_same max) (then_reads (valued 4 (λ bytes. u32_at 0 bytes)) after_word
     (valued_says 4 (λ bytes. u32_at 0 bytes)) word_says (valued_reads 4 (λ bytes. u32_at 0 bytes)) word_reads)
 security_reads max V37 =
-    same_reads (security V37) types_say (server_item_says max (AwaitsSecurity V37)) (types_37 max) counts_read
+    same_reads (security V37) types_say (server_item_says max (AwaitsSecurity V37)) (types_same max V37 (λ e. cc))
+    counts_read
 security_reads max V38 =
-    same_reads (security V38) types_say (server_item_says max (AwaitsSecurity V38)) (types_38 max) counts_read
+    same_reads (security V38) types_say (server_item_says max (AwaitsSecurity V38)) (types_same max V38 (λ e. cc))
+    counts_read

@@ -1,5 +1,6 @@
 -- The stream of a server's handshake, point by point.
-use Rattle.std.proofs.Common.{◌≡◌, ◌≢◌, ℕ, zero, suc, ◌+◌, ◌*◌, ◌<◌, ◌==◌, inl, inr, nat_lt, Bool, true, false, List}
+use Rattle.std.proofs.Common.{◌≡◌, ◌≢◌, ℕ, zero, suc, ◌+◌, ◌*◌, ◌<◌, ◌==◌, inr, nat_lt}
+use Rattle.std.proofs.Common.{Bool, true, false, List}
 use Rattle.std.proofs.Common.{[], ◌++◌, Option, Some, None, if◌then◌else◌, length, refl, sym, subst, ◌∙◌, ap}
 use Rattle.std.proofs.Common.{append-nil, length-append, arith}
 use Rattle.std.proofs.lemmas.Bool.Decides.{nat_tests}
@@ -24,7 +25,7 @@ use Rattle.rfb_hello.specs.ServerHandshake.{SpellsServerInit, IsAdmitted, Spells
 use Rattle.rfb_hello.specs.ServerHandshake.{server_item_says, server_item_size}
 use Rattle.rfb_hello.specs.ServerItems.{after_result, screen_fault, name}
 use Rattle.rfb_hello.specs.ServerItems.{server_item, server_handshake}
-use Rattle.rfb_hello.proofs.ServerHandshakeLaws.{reason_says, reason_reads, word_alone}
+use Rattle.rfb_hello.proofs.ServerHandshakeLaws.{reason_says, reason_reads, word_alone, fault_after}
 use Rattle.rfb_hello.proofs.ServerSecurityLaws.{text_fault, version_same, security_reads}
 
 -- ---- SecurityResult
@@ -43,7 +44,7 @@ results_say = then_says (valued_says 4 (λ bytes. u32_at 0 bytes)) result_says
 results_same : (max : ℕ) (v : Version) → Same results_say (server_item_says max (AwaitsResult v))
 results_same max v = record {
   item = λ step bytes h. item h.0 step bytes h.1 h.2 h.3 h.4 h.5;
-  fault = fault;
+  fault = fault_after 4 (λ bytes. u32_at 0 bytes) result_says (FaultsServerItem max (AwaitsResult v)) fault_of;
   item_back = item_back;
   fault_back = fault_back;
 }
@@ -66,11 +67,6 @@ results_same max v = record {
       (λ none. omega arith),
       record { head = front; reason = back; whole = e; head_is = (value.0, sym value.1); reason_is = r },
     )
-
-    fault : (f : HelloFault) (bytes : List ℕ) → results_say.fault f bytes →
-        FaultsServerItem max (AwaitsResult v) f bytes
-    fault f bytes (inl none) = absurd none
-    fault f bytes (inr (word, front, back, e, value, h)) = fault_of word f bytes front back e value h
 
     item_back : (step : ServerItem) (bytes : List ℕ) → SpellsServerItem max (AwaitsResult v) step bytes →
         results_say.item step bytes

@@ -89,3 +89,12 @@ text_test bytes t =
     (and_true (has_letters bytes && are_digits 4 bytes) (u8_at 7 bytes == 46)
     (and_true (has_letters bytes) (are_digits 4 bytes) (letters_test bytes t.letters) (digits_test 4 bytes t.major))
     (same_test (u8_at 7 bytes) 46 t.point)) (digits_test 8 bytes t.minor)) (same_test (u8_at 11 bytes) 10 t.end)
+
+-- bytes that are no text of a version are told apart
+pub text_false : (bytes : List ℕ) → length bytes ≡ 12 → (IsVersionText bytes → ⊥) →
+    is_version_text bytes ≡ false
+text_false bytes size not = by (is_version_text bytes) refl
+  where
+    by : (b : Bool) → is_version_text bytes ≡ b → b ≡ false
+    by true e = absurd (not (text_true bytes size e))
+    by false e = refl

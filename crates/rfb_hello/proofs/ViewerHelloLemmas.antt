@@ -1,7 +1,7 @@
 -- The viewer's end, step by step.
-use Rattle.std.proofs.Common.{◌≡◌, ◌≢◌, ℕ, zero, suc, ◌+◌, ◌<◌, if◌then◌else◌, Bool, true, false, List, [], ◌∷◌, ◌++◌}
-use Rattle.std.proofs.Common.{Option, Some, None, Result, Ok, Err, length, take, drop, refl, sym, subst, ◌∙◌, ap}
-use Rattle.std.proofs.Common.{append-nil, length-append, arith}
+use Rattle.std.proofs.Common.{◌≡◌, ◌≢◌, ℕ, zero, suc, ◌+◌, ◌<◌, ◌≤◌, if◌then◌else◌}
+use Rattle.std.proofs.Common.{true, List, [], ◌∷◌, ◌++◌, Option, Some, None, Result, Ok, length, take, drop}
+use Rattle.std.proofs.Common.{refl, sym, subst, ◌∙◌, ap, append-nil, arith}
 use Rattle.rfb_wire.specs.Fields.{u16_at, u32_at}
 use Rattle.rfb_wire.specs.stream.Reading.{More, Got}
 use Rattle.rfb_wire.specs.stream.End.{FedBy, RunsOutBy, StepsBy}
@@ -22,164 +22,21 @@ use Rattle.rfb_hello.specs.declared.viewer_hello.progress.Progress.TheVariants.{
 use Rattle.rfb_hello.specs.declared.viewer_hello.progress.Progress.TheVariants.{Failed}
 use Rattle.arrayvec.specs.ArrayVec.{ArrayVec}
 use Rattle.rfb_hello.specs.Version.{is_version_text, version_of, version_text, lower}
-use Rattle.rfb_hello.specs.TypesSoFar.{TypesSoFar}
-use Rattle.rfb_hello.specs.Offer.{offered_of, IsOfferedAt, LeadsToOffer, KeepsOffer, IsOfferOn, TakesOffer}
+use Rattle.rfb_hello.specs.Offer.{offered_of, IsOfferedAt, KeepsOffer, IsOfferOn, TakesOffer}
 use Rattle.rfb_hello.specs.declared.offered.Offered.{Offered}
-use Rattle.rfb_hello.specs.declared.offered.Offered.TheVariants.{Chosen, Listed}
 use Rattle.rfb_hello.specs.KeptText.{KeptText}
 use Rattle.rfb_hello.specs.ServerHandshake.{ServerPoint, AwaitsVersion, AwaitsSecurity, AwaitsInit, ProtocolVersion}
-use Rattle.rfb_hello.specs.ServerHandshake.{SecurityTypes, ServerInit, IsWord, IsTypes, has_none, after_types}
-use Rattle.rfb_hello.specs.ServerHandshake.{after_init}
+use Rattle.rfb_hello.specs.ServerHandshake.{ServerInit, after_init}
 use Rattle.rfb_hello.specs.ServerItems.{name, security, screen_fault, server_item}
 use Rattle.rfb_hello.specs.ServerEnd.{as_reply}
-use Rattle.rfb_hello.specs.ViewerEnd.{ViewerSetup, viewer_end, choice_bytes, told_of_init, AsksMemory}
+use Rattle.rfb_hello.specs.ViewerEnd.{ViewerSetup, viewer_end, told_of_init, AsksMemory}
 use Rattle.rfb_hello.specs.inside.ViewerPiece.{fault_for}
 use Rattle.rfb_hello.specs.ViewerProgress.{ProgressStandsFor, fault_in}
-use Rattle.rfb_hello.specs.inside.ViewerPiece.{progress_after_version, progress_after_types, progress_after_init}
-use Rattle.rfb_hello.specs.ViewerModel.{StandsFor, setup_of}
+use Rattle.rfb_hello.specs.inside.ViewerPiece.{progress_after_version, progress_after_init}
+use Rattle.rfb_hello.specs.ViewerModel.{StandsFor}
 use Rattle.rfb_hello.proofs.ServerStreamLaws.{screen_admitted}
-use Rattle.rfb_hello.proofs.ViewerReadingLaws.{opened, reason_short, reason_more, types_next, types_more, types_good}
-use Rattle.rfb_hello.proofs.ViewerReadingLaws.{types_bad}
-use Rattle.rfb_hello.proofs.ViewerStepLemmas.{viewer_machine, more_step, bad_step, got_new, got_step, asks_step, joined}
-
--- ---- security types
-
-pub count_of_types : (setup : ViewerSetup) (old : ViewerHello) (version : Version) (more : ℕ) →
-    old.progress ≡ Count version → StepsBy (viewer_end setup) (StandsFor setup) old ((more + 1) ∷ []) (Ok None)
-    (record old { progress = Types version (record { types = []; more = more }) })
-count_of_types setup old version more was =
-    more_step setup old (Count version) (Types version (record { types = []; more = more })) ((more + 1) ∷ []) was
-    (λ s prefix h.
-    rw (h.0, h.2) (
-      types_next version (more + 1) [] h.1 ∙ types_more (more + 1) [] (omega arith),
-      (refl, h.1, ap (λ (k : ℕ). k ∷ []) (omega arith)),
-    ))
-
--- types after those that came before
-types_joined : (prefix seen unit types : List ℕ) (n : ℕ) → prefix ≡ n ∷ seen → types ≡ seen ++ unit →
-    prefix ++ unit ≡ n ∷ types
-types_joined prefix seen unit types n is all = ap (λ (ys : List ℕ). ys ++ unit) is ∙
-    ap (λ (ys : List ℕ). n ∷ ys) (sym all)
-
-pub types_part : (setup : ViewerSetup) (old : ViewerHello) (version : Version) (list now : TypesSoFar) (unit : List ℕ) →
-    old.progress ≡ Types version list → now.types ≡ list.types ++ unit → length unit + now.more ≡ list.more →
-    StepsBy (viewer_end setup) (StandsFor setup) old unit (Ok None) (record old { progress = Types version now })
-types_part setup old version list now unit was is count =
-    more_step setup old (Types version list) (Types version now) unit was (λ s prefix h.
-    let n = length list.types + (list.more + 1) in
-    let came : length now.types ≡ length list.types + length unit = ap length is ∙ length-append list.types unit in
-    let few : length now.types < n = omega (arith, count, came) in
-    let size : n ≡ length now.types + (now.more + 1) = omega (arith, count, came) in
-    rw (h.0, types_joined prefix list.types unit now.types n h.2 is) (
-      types_next version n now.types h.1 ∙ types_more n now.types few,
-      (refl, h.1, ap (λ (k : ℕ). k ∷ now.types) size),
-    ))
-
--- all of them have come
-types_whole : (list : TypesSoFar) (unit types : List ℕ) → types ≡ list.types ++ unit → length unit ≡ list.more + 1 →
-    length types ≡ length list.types + (list.more + 1)
-types_whole list unit types is count = ap length is ∙ length-append list.types unit ∙
-    ap (λ (k : ℕ). length list.types + k) count
-
-pub types_told : (setup : ViewerSetup) (old new : ViewerHello) (version : Version) (list : TypesSoFar)
-    (unit types : List ℕ) (reply : ArrayVec ℕ) → old.progress ≡ Types version list → types ≡ list.types ++ unit →
-    length unit ≡ list.more + 1 → has_none types ≡ true → reply.items ≡ choice_bytes version old.shared →
-    new.progress ≡ progress_after_types version → setup_of new ≡ setup_of old →
-    StepsBy (viewer_end setup) (StandsFor setup) old unit (Ok (Some (Reply reply))) new
-types_told setup old new version list unit types reply was is count has bytes after made =
-    got_new setup old new (Types version list) (progress_after_types version) unit (Some (Reply reply)) was after made
-    (λ s prefix same h.
-    let n = length list.types + (list.more + 1) in
-    let size : length types ≡ n = types_whole list unit types is count in
-    let shared : old.shared ≡ setup.shared = ap (λ (x : ViewerSetup). x.shared) same in
-    let told : as_reply (choice_bytes version setup.shared) ≡ reply =
-    ap as_reply (ap (λ (b : Bool). choice_bytes version b) (sym shared) ∙ sym bytes) in
-    rw (h.0, types_joined prefix list.types unit types n h.2 is) (
-      SecurityTypes types,
-      types_next version n types h.1 ∙
-          types_good n types size (omega arith) has,
-      ap (λ (r : ArrayVec ℕ). Some (Reply r)) told,
-      stands version,
-    ))
-  where
-    stands : (v : Version) → ProgressStandsFor setup.text_limit (progress_after_types v) (after_types v) []
-    stands V33 = (refl, refl, omega arith)
-    stands V37 = (refl, refl, omega arith)
-    stands V38 = (refl, refl, omega arith)
-
-pub types_refused : (setup : ViewerSetup) (old new : ViewerHello) (version : Version) (list : TypesSoFar)
-    (unit types : List ℕ) → old.progress ≡ Types version list → types ≡ list.types ++ unit →
-    length unit ≡ list.more + 1 → has_none types ≡ false → StepsBy (viewer_end setup) (StandsFor setup) old unit
-    (Err NoneNotOffered) new
-types_refused setup old new version list unit types was is count has =
-    bad_step setup old new (Types version list) unit NoneNotOffered was (λ s prefix h.
-    let n = length list.types + (list.more + 1) in
-    let size : length types ≡ n = types_whole list unit types is count in
-    rw (h.0, types_joined prefix list.types unit types n h.2 is)
-    (types_next version n types h.1 ∙ types_bad n types size (omega arith) has))
-
--- ---- what is kept of them
-
-listed_there : (version : Version) (types : ArrayVec ℕ) (bytes : List ℕ) → version ≢ V33 → IsTypes types.items bytes →
-    IsOfferedAt (Listed types) (AwaitsSecurity version) bytes
-listed_there V33 types bytes not is = absurd (not refl)
-listed_there V37 types bytes not is = is
-listed_there V38 types bytes not is = is
-
-types_there : (version : Version) (list : TypesSoFar) (prefix unit : List ℕ) (types : ArrayVec ℕ) → version ≢ V33 →
-    prefix ≡ (length list.types + (list.more + 1)) ∷ list.types → types.items ≡ list.types ++ unit →
-    length unit ≡ list.more + 1 → IsOfferedAt (Listed types) (AwaitsSecurity version) (prefix ++ unit)
-types_there version list prefix unit types not front is count =
-    let n = length list.types + (list.more + 1) in
-    let size : length types.items ≡ n = types_whole list unit types.items is count in
-    listed_there version types (prefix ++ unit) not (record {
-      some = omega (arith, size);
-      whole =
-          types_joined prefix list.types unit types.items n front is ∙ ap (λ (k : ℕ). k ∷ types.items) (sym size);
-    })
-
--- after a fault of theirs, and after the answer to them
-module _ (old new : ViewerHello) (version : Version) (list : TypesSoFar) (unit : List ℕ) (types : ArrayVec ℕ)
-    (was : old.progress ≡ Types version list) (is : types.items ≡ list.types ++ unit)
-    (count : length unit ≡ list.more + 1) (kept : offered_of new ≡ Listed types) where
-  pub types_offered : LeadsToOffer (offered_of new) old unit
-  types_offered setup = rw kept (asks_step (IsOfferedAt (Listed types)) setup old (Types version list) unit was
-      (λ s prefix h. rw h.0 (types_there version list prefix unit types h.1 h.2 is count)))
-
-  pub types_kept : (reply : ArrayVec ℕ) → TakesOffer (Some (Reply reply)) old unit new
-  types_kept reply setup = rw kept (asks_step (IsOfferOn (offered_of old) (Listed types)) setup old
-      (Types version list) unit was
-      (λ s prefix h. rw h.0 (types_there version list prefix unit types h.1 h.2 is count)))
-
-module _ (old new : ViewerHello) (part : ArrayVec ℕ) (unit whole : List ℕ) (word : ℕ)
-    (was : old.progress ≡ Word part) (is : whole ≡ part.items ++ unit)
-    (at_word : IsWord word whole) (kept : offered_of new ≡ Chosen word) where
-  pub word_offered : LeadsToOffer (offered_of new) old unit
-  word_offered setup = rw kept (asks_step (IsOfferedAt (Chosen word)) setup old (Word part) unit was
-      (λ s prefix h. rw (h.0, joined prefix part.items unit whole h.1 is) at_word))
-
-  pub word_kept : (reply : ArrayVec ℕ) → TakesOffer (Some (Reply reply)) old unit new
-  word_kept reply setup = rw kept (asks_step (IsOfferOn (offered_of old) (Chosen word)) setup old (Word part) unit
-      was (λ s prefix h. rw (h.0, joined prefix part.items unit whole h.1 is) at_word))
-
--- an answer to another item
-pub version_keeps : (old new : ViewerHello) (part : ArrayVec ℕ) (unit : List ℕ) (reply : ArrayVec ℕ) →
-    old.progress ≡ VersionPart part → offered_of new ≡ offered_of old → TakesOffer (Some (Reply reply)) old unit new
-version_keeps old new part unit reply was same setup =
-    asks_step (IsOfferOn (offered_of old) (offered_of new)) setup old (VersionPart part) unit was
-    (λ s prefix h. rw h.0 same)
-
-pub result_keeps : (old new : ViewerHello) (version : Version) (part : ArrayVec ℕ) (unit : List ℕ) (reply : ArrayVec ℕ)
-    → old.progress ≡ ResultPart version part → offered_of new ≡ offered_of old →
-    TakesOffer (Some (Reply reply)) old unit new
-result_keeps old new version part unit reply was same setup =
-    asks_step (IsOfferOn (offered_of old) (offered_of new)) setup old (ResultPart version part) unit was
-    (λ s prefix h. rw h.0 same)
-
-pub init_keeps : (old new : ViewerHello) (unit : List ℕ) (limit : ℕ) (version : Version) (width height n : ℕ) →
-    offered_of new ≡ offered_of old → TakesOffer (Some (told_of_init limit version width height n)) old unit new
-init_keeps old new unit limit version width height zero same = same
-init_keeps old new unit limit version width height (suc n) same = same
+use Rattle.rfb_hello.proofs.ViewerReadingLaws.{opened, reason_short, reason_more, types_next, types_more}
+use Rattle.rfb_hello.proofs.ViewerStepLemmas.{viewer_machine, got_step, asks_step, becomes, joined}
 
 -- ---- the version
 
@@ -189,42 +46,64 @@ stands_after_version limit V33 = (refl, refl, omega arith)
 stands_after_version limit V37 = (refl, (λ (e : V37 ≡ V33). cc), refl)
 stands_after_version limit V38 = (refl, (λ (e : V38 ≡ V33). cc), refl)
 
-pub version_told : (setup : ViewerSetup) (old : ViewerHello) (part reply : ArrayVec ℕ) (unit whole : List ℕ) →
-    old.progress ≡ VersionPart part → whole ≡ part.items ++ unit →
-    length whole ≡ 12 → is_version_text whole ≡ true → reply.items ≡ version_text (lower old.limit (version_of whole)) →
-    StepsBy (viewer_end setup) (StandsFor setup) old unit (Ok (Some (Reply reply)))
-    (record old { progress = progress_after_version (lower old.limit (version_of whole)) })
-version_told setup old part reply unit whole was is size text bytes =
-    got_step setup old (VersionPart part) (progress_after_version (lower old.limit (version_of whole))) unit
-    (Some (Reply reply)) was (λ s prefix same h.
-    let limit : old.limit ≡ setup.limit = ap (λ (x : ViewerSetup). x.limit) same in
-    let v = version_of whole in
+-- the types that are kept stay
+pub version_keeps : (old new : ViewerHello) (part : ArrayVec ℕ) (unit : List ℕ) (reply : ArrayVec ℕ) →
+    old.progress ≡ VersionPart part → offered_of new ≡ offered_of old →
+    TakesOffer (Some (Reply reply)) old unit new
+version_keeps old new part unit reply was same setup =
+    asks_step (IsOfferOn (offered_of old) (offered_of new)) setup old (VersionPart part) unit was
+    (λ s prefix h. rw h.0 same)
+
+-- a version, and the answer to it
+pub version_told : (setup : ViewerSetup) (old : ViewerHello) (part reply : ArrayVec ℕ) (unit whole : List ℕ)
+    (v low : Version) (next : Progress) → old.progress ≡ VersionPart part → whole ≡ part.items ++ unit →
+    length whole ≡ 12 → (is_version_text whole ≡ true) × (v ≡ version_of whole) →
+    low ≡ lower old.limit v →
+    reply ≡ as_reply (version_text low) → next ≡ progress_after_version low →
+    StepsBy (viewer_end setup) (StandsFor setup) old unit (Ok (Some (Reply reply))) (record old { progress = next })
+version_told setup old part reply unit whole v low next was is size text low_is reply_is next_is =
+    becomes setup old unit (Ok (Some (Reply reply))) (progress_after_version low) next next_is
+    (got_step setup old (VersionPart part) (progress_after_version low) unit (Some (Reply reply)) was
+    (λ s prefix same h.
     let fault : List ℕ → Option HelloFault = λ zs. if is_version_text zs then None else Some BadVersion in
     let read : server_item setup.max_places AwaitsVersion (whole ++ []) ≡ Got (ProtocolVersion v) [] = (checked_reads 12
-    fault (λ zs. ProtocolVersion (version_of zs))).only (ProtocolVersion v) whole [] (size, rw text refl, refl) in
-    let told : as_reply (version_text (lower setup.limit v)) ≡ reply =
-    ap as_reply (ap (λ (l : Version). version_text (lower l v)) (sym limit) ∙ sym bytes) in
-    let stands : ProgressStandsFor setup.text_limit (progress_after_version (lower old.limit v))
-    (AwaitsSecurity (lower setup.limit v)) [] =
-    subst (λ (l : Version). ProgressStandsFor setup.text_limit (progress_after_version (lower old.limit v))
-    (AwaitsSecurity (lower l v)) []) limit (stands_after_version setup.text_limit (lower old.limit v)) in
+    fault (λ zs. ProtocolVersion (version_of zs))).only (ProtocolVersion v) whole []
+    (size, rw text.0 refl, ap (λ (l : Version). ProtocolVersion l) text.1) in
+    let limit : low ≡ lower setup.limit v =
+    low_is ∙ ap (λ (l : Version). lower l v) (ap (λ (x : ViewerSetup). x.limit) same) in
     rw (h.0, joined prefix part.items unit whole h.1 is) (
       ProtocolVersion v,
       subst (λ (zs : List ℕ). server_item setup.max_places AwaitsVersion zs ≡ Got (ProtocolVersion v) [])
           (append-nil whole) read,
-      ap (λ (r : ArrayVec ℕ). Some (Reply r)) told,
-      stands,
-    ))
+      ap (λ (r : ArrayVec ℕ). Some (Reply r)) (rw limit at (sym reply_is)),
+      rw limit (stands_after_version setup.text_limit (lower setup.limit v)),
+    )))
 
 -- ---- ServerInit
 
+-- neither does ServerInit change them
+pub init_keeps : (old new : ViewerHello) (unit : List ℕ) (limit : ℕ) (version : Version) (w h n : ℕ)
+    (step : ViewerStep) → step ≡ told_of_init limit version w h n → offered_of new ≡ offered_of old →
+    TakesOffer (Some step) old unit new
+init_keeps old new unit limit version w h n step is same = rw is (by n)
+  where
+    by : (k : ℕ) → TakesOffer (Some (told_of_init limit version w h k)) old unit new
+    by zero = same
+    by (suc k) = same
+
+-- a screen that is admitted
 pub init_told : (setup : ViewerSetup) (old : ViewerHello) (version : Version) (part : ArrayVec ℕ)
-    (unit whole : List ℕ) → old.progress ≡ Init version part → whole ≡ part.items ++ unit → length whole ≡ 24 →
-    screen_fault old.max_places whole ≡ None → StepsBy (viewer_end setup) (StandsFor setup) old unit (Ok
-    (Some (told_of_init old.text_limit version (u16_at 0 whole) (u16_at 2 whole) (u32_at 20 whole)))) (record old
-    { progress = progress_after_init old.text_limit version (u16_at 0 whole) (u16_at 2 whole) (u32_at 20 whole) })
-init_told setup old version part unit whole was is size good =
-    got_step setup old (Init version part)
+    (unit whole : List ℕ) (w h k : ℕ) (step : ViewerStep) (next : Progress) →
+    old.progress ≡ Init version part → whole ≡ part.items ++ unit → length whole ≡ 24 →
+    screen_fault old.max_places whole ≡ None → w ≡ u16_at 0 whole → h ≡ u16_at 2 whole →
+    k ≡ u32_at 20 whole →
+    step ≡ told_of_init old.text_limit version w h k → next ≡ progress_after_init old.text_limit version w h k →
+    StepsBy (viewer_end setup) (StandsFor setup) old unit (Ok (Some step)) (record old { progress = next })
+init_told setup old version part unit whole w h k step next was is size good w_is h_is k_is step_is next_is =
+    rw (step_is, w_is, h_is, k_is) (becomes setup old unit
+    (Ok (Some (told_of_init old.text_limit version (u16_at 0 whole) (u16_at 2 whole) (u32_at 20 whole))))
+    (progress_after_init old.text_limit version (u16_at 0 whole) (u16_at 2 whole) (u32_at 20 whole)) next
+    (rw (w_is, h_is, k_is) at next_is) (got_step setup old (Init version part)
     (progress_after_init old.text_limit version (u16_at 0 whole) (u16_at 2 whole) (u32_at 20 whole))
     unit (Some (told_of_init old.text_limit version (u16_at 0 whole) (u16_at 2 whole) (u32_at 20 whole)))
     was (λ s prefix same h.
@@ -247,13 +126,14 @@ init_told setup old version part unit whole was is size good =
       ap (λ (e : ViewerStep). Some e) told,
       subst (λ (k : ℕ). ProgressStandsFor setup.text_limit (progress_after_init k version width height n)
           (after_init version width height n) []) (sym limit) (stands width height n),
-    ))
+    ))))
   where
     stands : (width height n : ℕ) → ProgressStandsFor setup.text_limit
         (progress_after_init setup.text_limit version width height n) (after_init version width height n) []
     stands width height zero = (version, width, height, refl, refl)
     stands width height (suc n) = (refl, omega arith, refl)
 
+-- where memory is asked for its name
 pub init_asks : (setup : ViewerSetup) (old : ViewerHello) (version : Version)
     (part : ArrayVec ℕ) (unit whole : List ℕ) → old.progress ≡ Init version part → whole ≡ part.items ++ unit →
     length whole ≡ 24 → screen_fault old.max_places whole ≡ None → 0 < u32_at 20 whole →
@@ -319,17 +199,8 @@ viewer_starts setup v = fed_start (viewer_end setup) (StandsFor setup) v
 
 pub not_failed : (p : Progress) → ((fault : HelloFault) (kept : KeptText) → p ≡ Failed fault kept → ⊥) →
     fault_in p ≡ None
-not_failed (VersionPart part) not = refl
-not_failed (Word part) not = refl
-not_failed (Count version) not = refl
-not_failed (Types version list) not = refl
-not_failed (ResultPart version part) not = refl
-not_failed (ReasonLength cause part) not = refl
-not_failed (Reason cause n more kept) not = refl
-not_failed (Init version part) not = refl
-not_failed (Name version width height n more kept) not = refl
-not_failed Done not = refl
 not_failed (Failed fault kept) not = absurd (not fault kept refl)
+not_failed p not = refl
 
 -- the same step of the same slice
 pub step_there : (setup : ViewerSetup) (old new : ViewerHello)

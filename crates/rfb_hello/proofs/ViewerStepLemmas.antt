@@ -1,17 +1,22 @@
--- The three answers of a step of the viewer's end.
-use Rattle.std.proofs.Common.{◌≡◌, ℕ, List, [], ◌++◌, Option, None, Result, Ok, Err, refl, sym, subst, ◌∙◌, ap}
-use Rattle.std.proofs.Common.{append-nil}
+-- The three answers of a step of the viewer's end, and what it promises by each.
+use Rattle.std.proofs.Common.{◌≡◌, ◌≢◌, ℕ, ◌<◌, ◌≤◌, List, [], ◌++◌, Option, Some, None}
+use Rattle.std.proofs.Common.{Result, Ok, Err, length, take, refl, sym, subst, ◌∙◌, ap, append-nil}
 use Rattle.rfb_wire.specs.stream.Reading.{More, Got, Bad}
 use Rattle.rfb_wire.specs.stream.End.{IsMachine, RunsOutBy, StepsBy}
 use Rattle.rfb_hello.specs.declared.fault.HelloFault.{HelloFault}
+use Rattle.rfb_hello.specs.declared.fault.HelloFault.TheVariants.{NoMemory}
 use Rattle.rfb_hello.specs.declared.step.ViewerStep.{ViewerStep}
 use Rattle.rfb_hello.specs.declared.viewer_hello.ViewerHello.{ViewerHello}
 use Rattle.rfb_hello.specs.declared.viewer_hello.progress.Progress.{Progress}
+use Rattle.rfb_hello.specs.declared.viewer_hello.progress.Progress.TheVariants.{Failed}
+use Rattle.rfb_hello.specs.KeptText.{no_text}
+use Rattle.rfb_hello.specs.Offer.{KeepsOffer, TakesOffer}
 use Rattle.rfb_hello.specs.ServerHandshake.{ServerPoint, ServerItem, past_server_item}
 use Rattle.rfb_hello.specs.ServerItems.{server_item}
-use Rattle.rfb_hello.specs.ViewerEnd.{ViewerSetup, viewer_end, viewer_tells}
+use Rattle.rfb_hello.specs.ViewerEnd.{ViewerSetup, viewer_end, viewer_tells, AsksMemory}
 use Rattle.rfb_hello.specs.ViewerProgress.{ProgressStandsFor}
-use Rattle.rfb_hello.specs.ViewerModel.{StandsFor, setup_of}
+use Rattle.rfb_hello.specs.ViewerModel.{KeepsReason, StandsFor, fault_of, goes_on_after, is_open, setup_of}
+use Rattle.rfb_hello.specs.inside.ViewerPiece.{TakesPiece}
 use Rattle.rfb_hello.proofs.ServerStreamLaws.{server_handshake_laws}
 
 pub viewer_machine : (setup : ViewerSetup) → IsMachine (viewer_end setup)
@@ -83,16 +88,76 @@ asks_step asks setup old p unit was asked s prefix stands =
       asked = asked s prefix (here setup old p s prefix was stands);
     }
 
--- the same step, where the unit and the progress are equal to others
-pub becomes : (setup : ViewerSetup) (old : ViewerHello)
-    (unit there : List ℕ) (result : Result (Option ViewerStep) HelloFault) (p q : Progress) →
-    there ≡ unit → q ≡ p → StepsBy (viewer_end setup) (StandsFor setup) old unit result (record old { progress = p }) →
-    StepsBy (viewer_end setup) (StandsFor setup) old there result (record old { progress = q })
-becomes setup old unit there result p q same is steps =
-    subst (λ (x : Progress). StepsBy (viewer_end setup) (StandsFor setup) old there result
-    (record old { progress = x })) (sym is) (subst (λ (u : List ℕ). StepsBy (viewer_end setup) (StandsFor setup) old
-    u result (record old { progress = p })) (sym same) steps)
+-- a step to a progress that is equal to another
+pub becomes : (setup : ViewerSetup) (old : ViewerHello) (unit : List ℕ)
+    (result : Result (Option ViewerStep) HelloFault)
+    (p q : Progress) → q ≡ p →
+    StepsBy (viewer_end setup) (StandsFor setup) old unit result (record old { progress = p }) →
+    StepsBy (viewer_end setup) (StandsFor setup) old unit result (record old { progress = q })
+becomes setup old unit result p q is steps =
+    subst (λ (x : Progress). StepsBy (viewer_end setup) (StandsFor setup) old unit result
+    (record old { progress = x })) (sym is) steps
 
 -- bytes of one piece after a part of it
 pub joined : (prefix part unit whole : List ℕ) → prefix ≡ part → whole ≡ part ++ unit → prefix ++ unit ≡ whole
 joined prefix part unit whole is whole_is = ap (λ (ys : List ℕ). ys ++ unit) is ∙ sym whole_is
+
+-- ---- what bytes of one item promise
+
+module _ {old new : ViewerHello} {bytes : List ℕ} {used : ℕ} (some : (0 < used) × (used ≤ length bytes)) where
+  -- where they are no fault
+  pub takes : {event : Option ViewerStep} →
+      ((setup : ViewerSetup) → StepsBy (viewer_end setup) (StandsFor setup) old (take used bytes) (Ok event) new) →
+      is_open new ≡ goes_on_after event → fault_of new ≡ None → TakesOffer event old (take used bytes) new →
+      setup_of new ≡ setup_of old → TakesPiece old bytes used (Ok event) new
+  takes steps goes going offered setup = record {
+    some = some.0;
+    within = some.1;
+    steps = λ _. steps;
+    memory = λ e. absurd cc;
+    goes = goes;
+    going = going;
+    fails = tt;
+    reason = tt;
+    offer = tt;
+    offered = offered;
+    setup = setup;
+  }
+
+  -- where they are one
+  pub refuses : {result : HelloFault} (fault : HelloFault) → result ≡ fault → fault ≢ NoMemory →
+      ((setup : ViewerSetup) → StepsBy (viewer_end setup) (StandsFor setup) old (take used bytes) (Err fault) new) →
+      fault_of new ≡ Some fault → KeepsReason fault old (take used bytes) new →
+      KeepsOffer fault old (take used bytes) new → setup_of new ≡ setup_of old →
+      TakesPiece old bytes used (Err result) new
+  refuses fault is other steps fails reason offer setup = rw is (record {
+    some = some.0;
+    within = some.1;
+    steps = λ _. steps;
+    memory = λ e. absurd (other cc);
+    goes = tt;
+    going = tt;
+    fails = fails;
+    reason = reason;
+    offer = offer;
+    offered = tt;
+    setup = setup;
+  })
+
+  -- where memory is wanting
+  pub starves : {result : HelloFault} → result ≡ NoMemory → ((setup : ViewerSetup) →
+      RunsOutBy (viewer_end setup) (AsksMemory setup) (StandsFor setup) old (take used bytes)) →
+      new ≡ record old { progress = Failed NoMemory no_text } → TakesPiece old bytes used (Err result) new
+  starves is asks after = rw (is, after) (record {
+    some = some.0;
+    within = some.1;
+    steps = λ other. absurd (other refl);
+    memory = λ _. asks;
+    goes = tt;
+    going = tt;
+    fails = refl;
+    reason = refl;
+    offer = refl;
+    offered = tt;
+    setup = refl;
+  })

@@ -18,19 +18,14 @@ ProgressStandsFor (Failed fault) point prefix = ⊥
 
 -- the fault that it has failed with, if it has
 abbrev pub fault_in : Progress → Option HelloFault
-fault_in (VersionPart text) = None
-fault_in (Choice version) = None
-fault_in (Init version) = None
-fault_in (Done version shared) = None
 fault_in (Failed fault) = Some fault
+fault_in progress = None
 
 -- the client's bytes go on in the handshake
 abbrev pub is_open : Progress → Bool
-is_open (VersionPart text) = true
-is_open (Choice version) = true
-is_open (Init version) = true
 is_open (Done version shared) = false
 is_open (Failed fault) = false
+is_open progress = true
 
 -- how many bytes the client sends at least before its handshake is done: what its version lacks and
 -- ClientInit, since version 3.3 has no choice; its choice and ClientInit; ClientInit; or none

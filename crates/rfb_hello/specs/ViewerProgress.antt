@@ -44,42 +44,16 @@ ProgressStandsFor limit (Failed fault kept) point prefix = ⊥
 
 -- the fault that it has failed with, if it has
 abbrev pub fault_in : Progress → Option HelloFault
-fault_in (VersionPart part) = None
-fault_in (Word part) = None
-fault_in (Count version) = None
-fault_in (Types version list) = None
-fault_in (ResultPart version part) = None
-fault_in (ReasonLength cause part) = None
-fault_in (Reason cause n more kept) = None
-fault_in (Init version part) = None
-fault_in (Name version width height n more kept) = None
-fault_in Done = None
 fault_in (Failed fault kept) = Some fault
+fault_in progress = None
 
 -- what is kept of the reason that it has failed for; without one nothing
 abbrev pub reason_in : Progress → KeptText
-reason_in (VersionPart part) = no_text
-reason_in (Word part) = no_text
-reason_in (Count version) = no_text
-reason_in (Types version list) = no_text
-reason_in (ResultPart version part) = no_text
-reason_in (ReasonLength cause part) = no_text
-reason_in (Reason cause n more kept) = no_text
-reason_in (Init version part) = no_text
-reason_in (Name version width height n more kept) = no_text
-reason_in Done = no_text
 reason_in (Failed fault kept) = kept
+reason_in progress = no_text
 
 -- the server's bytes go on in the handshake
 abbrev pub is_open : Progress → Bool
-is_open (VersionPart part) = true
-is_open (Word part) = true
-is_open (Count version) = true
-is_open (Types version list) = true
-is_open (ResultPart version part) = true
-is_open (ReasonLength cause part) = true
-is_open (Reason cause n more kept) = true
-is_open (Init version part) = true
-is_open (Name version width height n more kept) = true
 is_open Done = false
 is_open (Failed fault kept) = false
+is_open progress = true

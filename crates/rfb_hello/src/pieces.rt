@@ -1,13 +1,15 @@
-//! Texts that come in slices, and the bytes of short answers.
+//! Words and texts that come in slices, and the bytes of short answers.
 
-ghost use Rattle.std.specs.Prelude.{◌≡◌, ◌≤◌, ◌<◌, ◌+◌, ◌++◌, length, take, true, false};
+ghost use Rattle.std.specs.Prelude.{◌≡◌, ◌≤◌, ◌<◌, ◌+◌, ◌++◌, length, take, true, false, IfSome};
+ghost use Rattle.std.specs.Prelude.{None};
 ghost use Rattle.rfb_hello.specs.ServerEnd.{as_reply};
-ghost use Rattle.rfb_hello.specs.ServerHandshake.{has_none};
+ghost use Rattle.rfb_hello.specs.ServerHandshake.{IsWord, has_none};
 
 use crate::step::INIT_SIZE;
 use crate::text::Text;
 use arrayvec::ArrayVec;
-use rfb_wire::pieces::append;
+use byteorder::{BigEndian, ByteOrder};
+use rfb_wire::pieces::{append, gather};
 
 /// The security type None, as 3.3 sends it and as a list has it, sections 7.1.2 and 7.2.1.
 pub const SECURITY_NONE: u8 = 1;
@@ -19,6 +21,24 @@ pub const WORD_SIZE: usize = 4;
 pub const WORD_PART: usize = WORD_SIZE - 1;
 
 pub const INIT_PART: usize = INIT_SIZE - 1;
+
+/// Takes bytes of a word, of which a part has come. Returns how many these were, and the word, if it
+/// is whole now.
+pub fn gather_word(part: &mut ArrayVec<u8, WORD_PART>, bytes: &[u8]) -> (usize, Option<u32>)
+    requires some { 0 < length bytes.now }
+    ensures used { (0 < result.0) × (result.0 ≤ length bytes.now) }
+    ensures more { result.1 ≡ None
+        → (part.new.items ≡ part.old.items ++ take result.0 bytes.now)
+        × (length part.new.items < WORD_SIZE) }
+    ensures whole { IfSome result.1
+        (λ word. IsWord word (part.old.items ++ take result.0 bytes.now)) }
+{
+    let (used, whole) = gather::<WORD_PART, WORD_SIZE>(part, bytes);
+    let Some(whole) = whole else {
+        return (used, None);
+    };
+    (used, Some(BigEndian::read_u32(whole.as_slice())))
+}
 
 /// Takes bytes of a text, of which `more` come after the next one. Returns how many these were, and
 /// whether the text is whole now.

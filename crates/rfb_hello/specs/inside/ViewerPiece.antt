@@ -14,9 +14,8 @@ use Rattle.rfb_hello.specs.declared.viewer_hello.progress.Cause.{Cause}
 use Rattle.rfb_hello.specs.declared.viewer_hello.progress.Cause.TheVariants.{Refused, SecurityFailed}
 use Rattle.rfb_hello.specs.declared.viewer_hello.progress.Progress.{Progress}
 use Rattle.rfb_hello.specs.declared.viewer_hello.progress.Progress.TheVariants.{Version as VersionPart, Word, Count}
-use Rattle.rfb_hello.specs.declared.viewer_hello.progress.Progress.TheVariants.{Types, Result as ResultPart}
-use Rattle.rfb_hello.specs.declared.viewer_hello.progress.Progress.TheVariants.{ReasonLength, Reason, Init, Name, Done}
-use Rattle.rfb_hello.specs.declared.viewer_hello.progress.Progress.TheVariants.{Failed}
+use Rattle.rfb_hello.specs.declared.viewer_hello.progress.Progress.TheVariants.{Result as ResultPart}
+use Rattle.rfb_hello.specs.declared.viewer_hello.progress.Progress.TheVariants.{ReasonLength, Init, Name, Done}
 use Rattle.rfb_hello.specs.KeptText.{kept_of}
 use Rattle.rfb_hello.specs.ViewerEnd.{ViewerSetup, AsksMemory, viewer_end}
 use Rattle.rfb_hello.specs.Offer.{KeepsOffer, TakesOffer}
@@ -62,15 +61,10 @@ fault_for SecurityFailed reason_length = FailedFault reason_length
 abbrev pub part_in : Progress → ℕ
 part_in (VersionPart part) = length part.items
 part_in (Word part) = length part.items
-part_in (Count version) = 0
-part_in (Types version list) = 0
 part_in (ResultPart version part) = length part.items
 part_in (ReasonLength cause part) = length part.items
-part_in (Reason cause n more kept) = 0
 part_in (Init version part) = length part.items
-part_in (Name version width height n more kept) = 0
-part_in Done = 0
-part_in (Failed fault kept) = 0
+part_in progress = 0
 
 -- what comes next of a server with which a version is used
 abbrev pub progress_after_version : Version → Progress

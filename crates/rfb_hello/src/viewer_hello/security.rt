@@ -16,14 +16,13 @@ ghost use Rattle.rfb_hello.specs.declared.viewer_hello.progress.Progress.{Progre
 
 use crate::fault::HelloFault;
 use crate::offered::Offered;
-use crate::pieces::{SECURITY_NONE, WORD_PART, WORD_SIZE, has_none, reply_of};
+use crate::pieces::{SECURITY_NONE, gather_word, has_none, reply_of};
 use crate::step::{MAX_ANSWER, ViewerStep};
 use crate::version::{VERSION_PART, VERSION_SIZE, Version};
 use crate::viewer_hello::progress::{Cause, Progress};
 use crate::viewer_hello::type_list::TypeList;
 use crate::viewer_hello::{Taken, ViewerHello};
 use arrayvec::ArrayVec;
-use byteorder::{BigEndian, ByteOrder};
 use rfb_wire::pieces::gather;
 
 impl ViewerHello {
@@ -57,11 +56,10 @@ impl ViewerHello {
         let Progress::Word(part) = &mut self.progress else {
             unreachable!()
         };
-        let (used, whole) = gather::<WORD_PART, WORD_SIZE>(part, bytes);
-        let Some(whole) = whole else {
+        let (used, whole) = gather_word(part, bytes);
+        let Some(word) = whole else {
             return (used, Ok(None));
         };
-        let word = BigEndian::read_u32(whole.as_slice());
         if word == 0 {
             self.progress = before_reason(Cause::Refused);
             return (used, Ok(None));
@@ -131,11 +129,11 @@ impl ViewerHello {
         let Progress::Result(version, part) = &mut self.progress else {
             unreachable!()
         };
-        let (used, whole) = gather::<WORD_PART, WORD_SIZE>(part, bytes);
-        let Some(whole) = whole else {
+        let (used, whole) = gather_word(part, bytes);
+        let Some(word) = whole else {
             return (used, Ok(None));
         };
-        if BigEndian::read_u32(whole.as_slice()) != 0 {
+        if word != 0 {
             self.progress = before_reason(Cause::SecurityFailed);
             return (used, Ok(None));
         }

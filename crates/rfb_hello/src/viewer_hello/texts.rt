@@ -14,7 +14,7 @@ ghost use Rattle.rfb_hello.specs.declared.viewer_hello.progress.Progress.{Progre
 ghost use Rattle.rfb_hello.specs.declared.viewer_hello.progress.Cause.{Cause};
 
 use crate::fault::HelloFault;
-use crate::pieces::{INIT_PART, WORD_PART, WORD_SIZE, read_text};
+use crate::pieces::{INIT_PART, gather_word, read_text};
 use crate::step::{INIT_SIZE, ViewerStep};
 use crate::text::Text;
 use crate::version::Version;
@@ -36,12 +36,11 @@ impl ViewerHello {
         let Progress::ReasonLength { cause, part } = &mut self.progress else {
             unreachable!()
         };
-        let (used, whole) = gather::<WORD_PART, WORD_SIZE>(part, bytes);
-        let Some(whole) = whole else {
+        let (used, whole) = gather_word(part, bytes);
+        let Some(length) = whole else {
             return (used, Ok(None));
         };
         let cause = *cause;
-        let length = BigEndian::read_u32(whole.as_slice());
         let Some(more) = length.checked_sub(1) else {
             return (used, Err(self.fail(cause.fault(0))));
         };
