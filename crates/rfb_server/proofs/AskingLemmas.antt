@@ -17,6 +17,7 @@ use Rattle.rfb_server.specs.KnownScreen.{IsCaughtUp}
 use Rattle.rfb_server.specs.Record.{forgotten}
 use Rattle.rfb_server.specs.declared.session.Session.{Session}
 use Rattle.rfb_server.specs.inside.Sessions.{IsAskedFor}
+use Rattle.rfb_server.proofs.KeptLemmas.{alike_sent}
 use Rattle.rfb_server.proofs.MarksLemmas.{unmarked, contained}
 
 -- a rectangle, and its part that lies in the grid, fill the same
@@ -113,32 +114,22 @@ all_marked marks w h whole wide high x y p q =
 -- a session that forgets what it sent keeps its places
 pub alike_forgotten : (known now : Grid (Option ℕ)) (area : Places) (marks : Grid Bool) →
     AreAlike known area marks → now ≡ forgotten known → AreAlike now area marks
-alike_forgotten known now area marks alike e = rw e (record {
-  known_whole = whole-uniform _ _ _;
-  area_is = alike.area_is;
-  marks_whole = alike.marks_whole;
-  area_wide = alike.area_wide ∙ sym (width-uniform known.width known.height _);
-  area_high = alike.area_high ∙ sym (height-uniform known.width known.height _);
-  marks_wide = alike.marks_wide ∙ sym (width-uniform known.width known.height _);
-  marks_high = alike.marks_high ∙ sym (height-uniform known.width known.height _);
-  columns = rw width-uniform alike.columns;
-  rows = rw height-uniform alike.rows;
-})
+alike_forgotten known now area marks alike e =
+    rw e
+    (alike_sent known _ area marks (whole-uniform _ _ _) (record {
+      columns = sym (width-uniform known.width known.height _);
+      rows = sym (height-uniform known.width known.height _);
+    }) alike)
 
 -- what was asked for a rectangle's part on the screen was asked for the rectangle
 pub asked_part : (old new : Session) (rect part : Rect) (whole : Bool) →
     ((x y : ℕ) → x < old.known.width → y < old.known.height → contains part x y ≡ contains rect x y) →
     IsAskedFor part whole old new → IsAskedFor rect whole old new
 asked_part old new rect part whole same asked = record {
-  hello = asked.hello;
-  progress = asked.progress;
-  text_limit = asked.text_limit;
-  format = asked.format;
-  encodings = asked.encodings;
+  setting = asked.setting;
   known = asked.known;
   hints = asked.hints;
   area = asked.area ∙ added_part old.area rect part whole old.alike.area_is
       (λ x y p q. same x y (rw (← old.alike.area_wide) p) (rw (← old.alike.area_high) q));
-  caught_up = asked.caught_up;
   claim = asked.claim;
 }

@@ -1,19 +1,17 @@
 -- A copy of what a copy brought: what was claimed of its source is claimed of it.
-use Rattle.std.proofs.Common.{◌≡◌, ℕ, ◌+◌, ◌-◌, ◌<◌, ◌≤◌, true, false, Some, None, refl, ◌∙◌, arith}
+use Rattle.std.proofs.Common.{◌≡◌, ℕ, ◌+◌, ◌-◌, ◌<◌, ◌≤◌, true, false, Some, None, arith}
 use Rattle.rfb_pixel.specs.declared.colour.Colour.{Colour}
 use Rattle.rfb_picture.specs.Rect.{contains}
 use Rattle.rfb_picture.specs.Grid.{Grid, Holds, at_or, copied}
 use Rattle.rfb_codec.specs.RectData.{moved_to}
-use Rattle.rfb_picture.proofs.CopyLaws.{at-copied}
 use Rattle.rfb_picture.proofs.GridLaws.{contains_row}
 use Rattle.rfb_server.specs.declared.claim.Claim.{Claim}
 use Rattle.rfb_server.specs.declared.session.Session.{Session}
 use Rattle.rfb_server.specs.declared.hint.Hint.{Hint}
 use Rattle.rfb_server.specs.Claims.{IsTrue, IsCopiedOn, is_stale, is_claimed}
 use Rattle.rfb_server.specs.Request.{wanted_at}
-use Rattle.rfb_server.specs.Server.{black}
 use Rattle.rfb_server.specs.KnownScreen.{Follows}
-use Rattle.rfb_server.proofs.ClaimLemmas.{claimed_row, row_claimed}
+use Rattle.rfb_server.proofs.ClaimLemmas.{claimed_row, row_claimed, drawn_there}
 
 module _ (session : Session) (before after : Grid Colour) (copy : Hint) (claim next : Claim)
     (follows : Follows before session) (is : after ≡ copied copy.to copy.sx copy.sy before)
@@ -27,7 +25,6 @@ module _ (session : Session) (before after : Grid Colour) (copy : Hint) (claim n
       let (above, below, fresh) = claimed_row next y counts in
       let wide = on.columns in
       let high = on.rows in
-      let size = follows.alike in
       let far : copy.to.x ≤ x = omega (arith, wide) in
       let near : x < copy.to.x + copy.to.w = omega (arith, wide) in
       let top : copy.to.y ≤ y = omega (arith, high) in
@@ -35,12 +32,7 @@ module _ (session : Session) (before after : Grid Colour) (copy : Hint) (claim n
       let u = copy.sx + (x - copy.to.x) in
       let v = copy.sy + (y - copy.to.y) in
       let inside : contains copy.to x y ≡ true = contains_row copy.to x y far near top bottom in
-      let drawn : at_or after x y black ≡ at_or before u v black =
-      rw is
-      (at-copied copy.to copy.sx copy.sy before x y black follows.whole
-      (rw (size.columns) source.0, rw (size.rows) source.1)
-      (omega (arith, target.0, near, size.columns)) (omega (arith, target.1, bottom, size.rows))
-      ∙ (rw inside refl)) in
+      let drawn = drawn_there session before after copy x y follows is target source inside in
       let low : y < 65535 = omega (arith, target.1, bottom, session.alike.rows) in
       let was : is_stale claim.stale v ≡ false = on.fresh v y (omega (arith, top)) low fresh in
       let a : claim.to.x ≤ u = omega (arith, on.left) in

@@ -92,6 +92,40 @@ row_claimed claim y above below fresh =
     let b : nat_lt y (claim.to.y + claim.to.h) ≡ true = grind (arith, nat_tests) in
     rw (a, b, fresh) refl
 
+-- the places of a rectangle in rows that are not stale show what is known of those as far from (sx, sy)
+abbrev ShowsIn : Grid Colour → Grid (Option ℕ) → PixelFormat → Rect → ℕ → ℕ → Claim → Type 0
+ShowsIn screen known form to sx sy claim = (x y : ℕ) → to.x ≤ x → x < to.x + to.w → to.y ≤ y → y < to.y + to.h →
+    is_stale claim.stale y ≡ false →
+    at_or known (sx + (x - to.x)) (sy + (y - to.y)) None ≡ Some (wanted_at screen form x y)
+
+-- what is true of a rectangle and its source is true of a claim that names these
+told_claim : (screen : Grid Colour) (known : Grid (Option ℕ)) (form : PixelFormat) (to : Rect) (sx sy : ℕ)
+    (claim : Claim) → claim.to ≡ to → claim.sx ≡ sx → claim.sy ≡ sy → Holds known to →
+    Holds known (moved_to sx sy to) → ShowsIn screen known form to sx sy claim → IsTrue screen known form claim
+told_claim screen known form to sx sy claim same column row target source shown = record {
+  target = rw same target;
+  source = rw (same, column, row) source;
+  shown = λ x y left right is.
+      let (above, below, fresh) = claimed_row claim y is in
+      rw (same, column, row)
+      (shown x y (rw same at left) (rw same at right) (rw same at above) (rw same at below) fresh);
+}
+
+-- where a copy was drawn the screen shows what its source showed
+pub drawn_there : (session : Session) (before after : Grid Colour) (copy : Hint) (x y : ℕ) →
+    Follows before session →
+    after ≡ copied copy.to copy.sx copy.sy before → Holds session.known copy.to →
+    Holds session.known (moved_to copy.sx copy.sy copy.to) → contains copy.to x y ≡ true →
+    at_or after x y black ≡ at_or before (copy.sx + (x - copy.to.x)) (copy.sy + (y - copy.to.y)) black
+drawn_there session before after copy x y follows is target source inside =
+    let size = follows.alike in
+    let (left, right, top, bottom) = contains_true copy.to x y inside in
+    rw is
+    (at-copied copy.to copy.sx copy.sy before x y black follows.whole
+    (rw (size.columns) source.0, rw (size.rows) source.1)
+    (omega (arith, target.0, right, size.columns)) (omega (arith, target.1, bottom, size.rows))
+    ∙ (rw inside refl))
+
 -- what lies in a copy's source was known, where it has no mark: so the copy's place shows that
 pub copy_claimed : (session : Session) (before after : Grid Colour) (copy : Hint) (claim : Claim) →
     Follows before session → after ≡ copied copy.to copy.sx copy.sy before →
@@ -100,20 +134,12 @@ pub copy_claimed : (session : Session) (before after : Grid Colour) (copy : Hint
     ((x y : ℕ) → contains copy.to x y ≡ true → is_stale claim.stale y ≡ false →
     is_in session.marks (copy.sx + (x - copy.to.x)) (copy.sy + (y - copy.to.y)) ≡ false) →
     IsTrue after session.known session.format claim
-copy_claimed session before after copy claim follows is target source of unmarked = record {
-  target = rw of.to target;
-  source = rw (of.to, of.column, of.row) source;
-  shown = λ x y left right claimed.
-      rw (of.to, of.column, of.row) (shown x y (rw of.to at left) (rw of.to at right) claimed);
-}
+copy_claimed session before after copy claim follows is target source of unmarked =
+    told_claim after session.known session.format copy.to copy.sx copy.sy claim of.to of.column of.row target source
+    shown
   where
-    shown : (x y : ℕ) → copy.to.x ≤ x → x < copy.to.x + copy.to.w → is_claimed claim y ≡ true →
-        at_or session.known (copy.sx + (x - copy.to.x)) (copy.sy + (y - copy.to.y)) None
-        ≡ Some (wanted_at after session.format x y)
-    shown x y left right claimed =
-        let (above, below, fresh) = claimed_row claim y claimed in
-        let top : copy.to.y ≤ y = rw of.to at above in
-        let bottom : y < copy.to.y + copy.to.h = rw of.to at below in
+    shown : ShowsIn after session.known session.format copy.to copy.sx copy.sy claim
+    shown x y left right top bottom fresh =
         let inside : contains copy.to x y ≡ true = contains_row copy.to x y left right top bottom in
         let u = copy.sx + (x - copy.to.x) in
         let v = copy.sy + (y - copy.to.y) in
@@ -122,14 +148,7 @@ copy_claimed session before after copy claim follows is target source of unmarke
         let known : at_or session.known u v None ≡ Some (wanted_at before session.format u v) =
         follows.caught_up.right u v (rw session.alike.marks_wide wide) (rw session.alike.marks_high high)
         (unmarked x y inside fresh) in
-        let size = follows.alike in
-        let drawn : at_or after x y black ≡ at_or before u v black =
-        rw is
-        (at-copied copy.to copy.sx copy.sy before x y black follows.whole
-        (rw (size.columns) source.0, rw (size.rows) source.1)
-        (omega (arith, target.0, right, size.columns)) (omega (arith, target.1, bottom, size.rows))
-        ∙ (rw inside refl)) in
-        rw drawn known
+        rw (drawn_there session before after copy x y follows is target source inside) known
 
 -- what is drawn elsewhere, or makes its rows stale, leaves a claim true
 pub hit_claimed : (session : Session) (before after : Grid Colour) (area : Rect) (old new : Claim) →
@@ -138,19 +157,12 @@ pub hit_claimed : (session : Session) (before after : Grid Colour) (area : Rect)
     ((x y : ℕ) → contains old.to x y ≡ true → is_stale new.stale y ≡ false →
     (is_stale old.stale y ≡ false) × (contains area x y ≡ false)) →
     IsTrue after session.known session.format new
-hit_claimed session before after area old new follows outside claimed to column row fresh = record {
-  target = rw to claimed.target;
-  source = rw (to, column, row) claimed.source;
-  shown = λ x y left right is. rw (to, column, row) (shown x y (rw to at left) (rw to at right) is);
-}
+hit_claimed session before after area old new follows outside claimed to column row fresh =
+    told_claim after session.known session.format old.to old.sx old.sy new to column row claimed.target claimed.source
+    shown
   where
-    shown : (x y : ℕ) → old.to.x ≤ x → x < old.to.x + old.to.w → is_claimed new y ≡ true →
-        at_or session.known (old.sx + (x - old.to.x)) (old.sy + (y - old.to.y)) None
-        ≡ Some (wanted_at after session.format x y)
-    shown x y left right is =
-        let (above, below, clear) = claimed_row new y is in
-        let top : old.to.y ≤ y = rw to at above in
-        let bottom : y < old.to.y + old.to.h = rw to at below in
+    shown : ShowsIn after session.known session.format old.to old.sx old.sy new
+    shown x y left right top bottom clear =
         let both = fresh x y (contains_row old.to x y left right top bottom) clear in
         let was : is_claimed old y ≡ true = row_claimed old y top bottom both.0 in
         let size = follows.alike in

@@ -120,27 +120,30 @@ module _ (p q : ℕ → ℕ → Bool) (chosen : ℕ → Bool) (r : Rect) (before
     (before_is : before ≡ sum_where (λ row. not (chosen row)) (counts p r) r.h)
     (after_is : after ≡ sum_where (λ row. not (chosen row)) (counts q r) r.h)
     (few : won ≤ sum_where chosen (won_by p r) r.h) where
+  -- how many more there are of each kind is told by the rows that are not chosen, and by what is won
+  counted : count_in q r + before ≡ count_in p r + after + sum_where chosen (won_by p r) r.h
+  counted =
+      omega (
+        arith,
+        before_is,
+        after_is,
+        rows_apart p chosen r r.h,
+        rows_apart q chosen r r.h,
+        sum_won p q chosen r r.h full,
+      )
+
   -- the second kind has, if the others do by what is won
-  pub more_by_won : OnTrue (nat_lt before (after + won)) (count_in p r < count_in q r)
+  more_by_won : OnTrue (nat_lt before (after + won)) (count_in p r < count_in q r)
   more_by_won = by (nat_lt before (after + won)) refl
     where
       by : (b : Bool) → nat_lt before (after + won) ≡ b → OnTrue b (count_in p r < count_in q r)
       by true e =
           let more : before < after + won = grind (arith, nat_tests) in
-          omega (
-            arith,
-            more,
-            before_is,
-            after_is,
-            few,
-            rows_apart p chosen r r.h,
-            rows_apart q chosen r r.h,
-            sum_won p q chosen r r.h full,
-          )
+          omega (arith, more, few, counted)
       by false e = tt
 
   -- and only if, where all that is won is counted up to as many as the others lose
-  pub no_more_by_won : before ≤ most + after →
+  no_more_by_won : before ≤ most + after →
       (won ≤ most → won ≡ sum_where chosen (won_by p r) r.h) →
       OnFalse (nat_lt before (after + won)) (count_in p r < count_in q r → ⊥)
   no_more_by_won lost all = by (nat_lt before (after + won)) refl
@@ -151,14 +154,10 @@ module _ (p q : ℕ → ℕ → Bool) (chosen : ℕ → Bool) (r : Rect) (before
       by false e = λ more.
           let none : after + won ≤ before = grind (arith, nat_tests) in
           let is : won ≡ sum_where chosen (won_by p r) r.h = all (omega arith) in
-          omega (
-            arith,
-            more,
-            none,
-            is,
-            before_is,
-            after_is,
-            rows_apart p chosen r r.h,
-            rows_apart q chosen r r.h,
-            sum_won p q chosen r r.h full,
-          )
+          omega (arith, more, none, is, counted)
+
+  -- so it is told whether it has
+  pub told_by_won : before ≤ most + after → (won ≤ most → won ≡ sum_where chosen (won_by p r) r.h) →
+      OnTrue (nat_lt before (after + won)) (count_in p r < count_in q r)
+      × OnFalse (nat_lt before (after + won)) (count_in p r < count_in q r → ⊥)
+  told_by_won lost all = (more_by_won, no_more_by_won lost all)

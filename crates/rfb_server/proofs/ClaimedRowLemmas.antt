@@ -21,8 +21,7 @@ use Rattle.rfb_server.specs.Request.{wanted_at, differs}
 use Rattle.rfb_server.specs.Server.{black}
 use Rattle.rfb_server.specs.inside.Gains.{IsKnownRow, line, claims_row, counts}
 use Rattle.rfb_server.specs.inside.Gains.{right_before, right_after, sum_where, won_by}
-use Rattle.rfb_server.proofs.CountLemmas.{row_same}
-use Rattle.rfb_server.proofs.RightRowsLemmas.{same_source}
+use Rattle.rfb_server.proofs.RightRowsLemmas.{line_same}
 use Rattle.rfb_server.proofs.ClaimedCountLemmas.{row_full, each_in_row, none_missing}
 
 -- ---- the places of one row are counted in the copy of it alone
@@ -31,20 +30,12 @@ module _ (screen : Grid Colour) (s : Session) (copy : Hint) (row : ℕ) where
   pub before_line :
       count_row (right_before screen s (line copy row)) copy.to.x (copy.to.y + row) copy.to.w
       ≡ counts (right_before screen s copy) copy.to row
-  before_line =
-      row_same (right_before screen s (line copy row)) (right_before screen s copy) copy.to.x
-      (copy.to.y + row) copy.to.w
-      (λ i l. same_source screen s.known s.format copy.to (line copy row).to copy.to.x copy.to.y
-      copy.to.x (copy.to.y + row) (copy.to.x + i) (copy.to.y + row) refl (omega arith))
+  before_line = line_same screen s copy.to copy.to.x copy.to.y row
 
   pub after_line :
       count_row (right_after screen s (line copy row)) copy.to.x (copy.to.y + row) copy.to.w
       ≡ counts (right_after screen s copy) copy.to row
-  after_line =
-      row_same (right_after screen s (line copy row)) (right_after screen s copy) copy.to.x
-      (copy.to.y + row) copy.to.w
-      (λ i l. same_source screen s.known s.format copy.to (line copy row).to copy.sx copy.sy
-      copy.sx (copy.sy + row) (copy.to.x + i) (copy.to.y + row) refl (omega arith))
+  after_line = line_same screen s copy.to copy.sx copy.sy row
 
 -- ---- a row that is claimed
 

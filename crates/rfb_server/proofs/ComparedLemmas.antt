@@ -11,10 +11,11 @@ use Rattle.std.proofs.lemmas.List.{take_all, take_more_same}
 use Rattle.rfb_pixel.specs.declared.channel.Channel.{Channel}
 use Rattle.rfb_pixel.specs.Format.{PixelFormat, pixel_format}
 use Rattle.rfb_wire.specs.declared.encoding.Encoding.{Encoding}
-use Rattle.rfb_wire.specs.declared.encoding.Encoding.TheVariants.{Raw, CopyRect, Rre, Hextile}
+use Rattle.rfb_wire.specs.declared.encoding.Encoding.TheVariants.{Raw}
 use Rattle.rfb_server.specs.declared.hint.Hint.{Hint}
 use Rattle.rfb_server.specs.Encodings.{is_same}
 use Rattle.rfb_picture.specs.declared.rect.Rect.{Rect}
+use Rattle.rfb_server.proofs.EncodingLemmas.{same_is}
 
 -- ---- what derived comparisons say
 
@@ -81,30 +82,12 @@ same_format f g is =
     same_formats f g (eqb-true _ _ bits) (eqb-true _ _ depth) (same_flag f.big_endian g.big_endian order)
     (same_channel f.red g.red red) (same_channel f.green g.green green) (same_channel f.blue g.blue blue)
 
-pub same_encoding : (a b : Encoding) → is_same a b ≡ true → a ≡ b
-same_encoding Raw Raw e = refl
-same_encoding CopyRect CopyRect e = refl
-same_encoding Rre Rre e = refl
-same_encoding Hextile Hextile e = refl
-same_encoding Raw CopyRect e = absurd cc
-same_encoding Raw Rre e = absurd cc
-same_encoding Raw Hextile e = absurd cc
-same_encoding CopyRect Raw e = absurd cc
-same_encoding CopyRect Rre e = absurd cc
-same_encoding CopyRect Hextile e = absurd cc
-same_encoding Rre Raw e = absurd cc
-same_encoding Rre CopyRect e = absurd cc
-same_encoding Rre Hextile e = absurd cc
-same_encoding Hextile Raw e = absurd cc
-same_encoding Hextile CopyRect e = absurd cc
-same_encoding Hextile Rre e = absurd cc
-
 -- an encoding more is the same in both lists
 pub encoding_more : (list others : List Encoding) (i : ℕ) → i < length list → length list ≡ length others →
     is_same (slice_index_or list i Raw) (slice_index_or others i Raw) ≡ true → take i list ≡ take i others →
     take (i + 1) list ≡ take (i + 1) others
 encoding_more list others i below sizes same so_far =
-    take_more_same list others i Raw below (rw (← sizes) below) so_far (same_encoding _ _ same)
+    take_more_same list others i Raw below (rw (← sizes) below) so_far (same_is _ _ same)
 
 pub encodings_same : (list others : List Encoding) (n : ℕ) → length list ≡ length others → n ≡ length list →
     take n list ≡ take n others → list ≡ others

@@ -28,32 +28,11 @@ use Rattle.rfb_server.specs.inside.Copies.{IsFree, IsUseful, SendsHint, KeepsMar
 use Rattle.rfb_server.specs.inside.Copies.{usable_hints}
 use Rattle.rfb_server.proofs.UsingLemmas.{used_next, left_next}
 use Rattle.rfb_server.proofs.ClaimLemmas.{nothing_claimed}
+use Rattle.rfb_server.proofs.KeptLemmas.{alike_sent}
 use Rattle.rfb_server.proofs.MarksLemmas.{caught_drawn}
 use Rattle.rfb_server.proofs.CopyingLemmas.{copies_start, copies_more}
 
 -- ---- marks
-
-pub same_then : (a b c : Session) → IsSame a b → IsSame b c → IsSame a c
-same_then a b c one two = record {
-  hello = two.hello ∙ one.hello;
-  progress = two.progress ∙ one.progress;
-  text_limit = two.text_limit ∙ one.text_limit;
-  format = two.format ∙ one.format;
-  encodings = two.encodings ∙ one.encodings;
-  known = two.known ∙ one.known;
-  area = two.area ∙ one.area;
-}
-
-pub same_self : (a : Session) → IsSame a a
-same_self a = record {
-  hello = refl;
-  progress = refl;
-  text_limit = refl;
-  format = refl;
-  encodings = refl;
-  known = refl;
-  area = refl;
-}
 
 -- a session with more marks is about the same screen
 pub about_marked : (screen : Grid Colour) (old new : Session) (rect : Rect) → Follows screen old →
@@ -61,10 +40,10 @@ pub about_marked : (screen : Grid Colour) (old new : Session) (rect : Rect) → 
 about_marked screen old new rect about marked = record {
   whole = about.whole;
   alike = rw (marked.same.known) about.alike;
-  caught_up = rw (marked.same.known, marked.same.area, marked.same.format)
+  caught_up = rw (marked.same.known, marked.same.area, marked.same.setting.format)
       (caught_drawn screen screen old.known old.area old.format old.marks new.marks rect old.alike about.alike
       (record { columns = refl; rows = refl; same = λ x y p q e. refl }) marked.marks about.caught_up);
-  claimed = rw (marked.same.known, marked.same.format, marked.claim) about.claimed;
+  claimed = rw (marked.same.known, marked.same.setting.format, marked.claim) about.claimed;
 }
 
 either : (here was : Bool) → was ≡ true → (if here then true else was) ≡ true
@@ -100,7 +79,7 @@ marked_on screen old new hint about keeps marked = λ on x y c.
 
 -- what it knows of itself is the same
 pub state_same : (screen : Grid Colour) (old new : Session) → IsSame old new → state_of screen new ≡ state_of screen old
-state_same screen old new same = rw (same.known, same.area, same.format, same.encodings) refl
+state_same screen old new same = rw (same.known, same.area, same.setting.format, same.setting.encodings) refl
 
 -- ---- one copy
 
@@ -115,7 +94,8 @@ about_copied screen old new to sx sy about free unclaimed kept e = record {
     rows = about.alike.rows ∙ sym (height-changed _ old.known);
   });
   caught_up =
-      rw (e, kept.area, kept.format, kept.marks) (record { right = right; not_whole = about.caught_up.not_whole });
+      rw (e, kept.area, kept.setting.format, kept.marks)
+      (record { right = right; not_whole = about.caught_up.not_whole });
   claimed = nothing_claimed screen new.known new.format new.claim (kept.claim ∙ unclaimed);
 }
   where
@@ -137,17 +117,9 @@ pub alike_copied : (known : Grid (Option ℕ)) (session : Session) (to : Rect) (
     AreAlike known session.area session.marks
 alike_copied known session to sx sy e =
     rw e
-    (record {
-      known_whole = whole-changed _ session.known session.alike.known_whole;
-      area_is = session.alike.area_is;
-      marks_whole = session.alike.marks_whole;
-      area_wide = session.alike.area_wide ∙ sym (width-changed _ session.known);
-      area_high = session.alike.area_high ∙ sym (height-changed _ session.known);
-      marks_wide = session.alike.marks_wide ∙ sym (width-changed _ session.known);
-      marks_high = session.alike.marks_high ∙ sym (height-changed _ session.known);
-      columns = rw (width-changed _ session.known) session.alike.columns;
-      rows = rw (height-changed _ session.known) session.alike.rows;
-    })
+    (alike_sent session.known _ session.area session.marks (whole-changed _ session.known session.alike.known_whole)
+    (record { columns = sym (width-changed _ session.known); rows = sym (height-changed _ session.known) })
+    session.alike)
 
 -- ---- copies one after another
 
@@ -162,7 +134,7 @@ listed_usable session n l = by (is_listed CopyRect session.encodings) l
 -- the state after copies
 pub state_copied : (screen : Grid Colour) (first old : Session) → IsKept first old →
     state_of screen old ≡ record (state_of screen first) { known = old.known }
-state_copied screen first old kept = rw (kept.area, kept.format, kept.encodings) refl
+state_copied screen first old kept = rw (kept.area, kept.setting.format, kept.setting.encodings) refl
 
 pub copies_begin : (screen : Grid Colour) (session : Session) (bytes : List ℕ) →
     AppendsCopies screen 0 session session bytes bytes 0

@@ -4,21 +4,21 @@ use Rattle.std.proofs.Common.{map, Option, None, if◌then◌else◌, refl, sym,
 use Rattle.std.proofs.lemmas.Bool.{or_cases, or_left}
 use Rattle.rfb_pixel.specs.declared.colour.Colour.{Colour}
 use Rattle.rfb_picture.specs.Rect.{contains}
-use Rattle.rfb_picture.specs.Grid.{Grid, IsGrid, Holds, at_or, copied}
+use Rattle.rfb_picture.specs.Grid.{Grid, IsGrid, at_or, copied}
 use Rattle.rfb_picture.proofs.GridLaws.{at-changed, width-changed, height-changed, whole-changed, contains_row}
 use Rattle.rfb_wire.specs.stream.Sequel.{Second}
 use Rattle.rfb_wire.specs.declared.encoding.Encoding.TheVariants.{CopyRect}
-use Rattle.rfb_codec.specs.RectData.{Source, moved_to}
+use Rattle.rfb_codec.specs.RectData.{Source}
 use Rattle.rfb_codec.specs.Effect.{effects, IsAlike, Agrees}
 use Rattle.rfb_codec.specs.WholeUpdate.{item_of}
-use Rattle.rfb_codec.proofs.EffectLaws.{effect_painted, effects_picture, agrees_copied}
+use Rattle.rfb_codec.proofs.EffectLaws.{agrees_copied}
 use Rattle.rfb_server.specs.Encodings.{is_listed}
 use Rattle.rfb_server.specs.Server.{ServerState}
 use Rattle.rfb_server.specs.Request.{wanted, recorded, is_asked, is_whole, differs}
 use Rattle.rfb_server.specs.Composition.{Part, Move, sent_as, between, moved, all_moved, is_right, IsGain, AllGain}
 use Rattle.rfb_server.specs.Composition.{IsCopy, AreCopies, HasItsData, IsPlace, is_in_some, IsDue}
 use Rattle.rfb_server.specs.inside.Copies.{Copies, IsCopied}
-use Rattle.rfb_server.proofs.SendsPushLemmas.{effects_push, spelled_push, data_push, in_push}
+use Rattle.rfb_server.proofs.SendsPushLemmas.{spelled_push, data_push, agrees_push, in_push}
 use Rattle.rfb_server.proofs.CountLemmas.{missing_in_rows}
 
 moved_push : (moves : List Move) (move : Move) (s : ServerState) →
@@ -132,23 +132,11 @@ module _ (s : ServerState) (moves : List Move) (copies : List Part) (known : Gri
       agrees : (picture : Grid Colour) → IsGrid picture → IsAlike picture s.known → Agrees s.form picture s.known →
           Agrees s.form (effects (between s) (map item_of (map sent_as (copies ++ part ∷ []))) picture)
           (copied move.to move.sx move.sy known)
-      agrees picture whole alike before =
-          let shown : Grid Colour = effects (between s) (map item_of (map sent_as copies)) picture in
-          let kept = effects_picture (between s) (map item_of (map sent_as copies)) picture in
-          let fits : IsAlike shown known = record {
-            columns = kept.columns ∙ (alike.columns ∙ taken.alike.columns);
-            rows = kept.rows ∙ (alike.rows ∙ taken.alike.rows);
-          } in
-          let held : Holds known (moved_to move.sx move.sy move.to) = (
+      agrees = agrees_push s copies part known _ taken.alike data_is taken.agrees (λ shown whole fits before.
+          agrees_copied s.form move.to shown known move.sx move.sy whole taken.whole fits (
             rw (← taken.alike.columns, ← size.columns) gain.source_on_screen.0,
             rw (← taken.alike.rows, ← size.rows) gain.source_on_screen.1,
-          ) in
-          rw (
-            effects_push s copies part picture,
-            effect_painted (between s) part.head part.contents part.body shown data_is,
-          )
-          (agrees_copied s.form move.to shown known move.sx move.sy (kept.whole whole) taken.whole fits held
-          (taken.agrees picture whole alike before))
+          ) before)
 
 -- ---- whether an update is due
 

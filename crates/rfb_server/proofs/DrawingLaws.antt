@@ -41,25 +41,22 @@ whole_drawn (Scroll area dx dy) screen whole = whole-changed _ screen whole
 whole_drawn (Hint area sx sy) screen whole = whole
 
 -- and it keeps its size
+size_drawn : (s : Stroke) (screen : Grid Colour) →
+    ((drawn_by s screen).width ≡ screen.width) × ((drawn_by s screen).height ≡ screen.height)
+size_drawn (Fill area colour) screen = (width-changed _ screen, height-changed _ screen)
+size_drawn (Put x y row) screen = (width-changed _ screen, height-changed _ screen)
+size_drawn (Rows area rows) screen = (width-changed _ screen, height-changed _ screen)
+size_drawn (Pixels area form bytes) screen = (width-changed _ screen, height-changed _ screen)
+size_drawn (Bytes area bytes) screen = (width-changed _ screen, height-changed _ screen)
+size_drawn (Copy area sx sy) screen = (width-changed _ screen, height-changed _ screen)
+size_drawn (Scroll area dx dy) screen = (width-changed _ screen, height-changed _ screen)
+size_drawn (Hint area sx sy) screen = (refl, refl)
+
 pub width_drawn : (s : Stroke) (screen : Grid Colour) → (drawn_by s screen).width ≡ screen.width
-width_drawn (Fill area colour) screen = width-changed _ screen
-width_drawn (Put x y row) screen = width-changed _ screen
-width_drawn (Rows area rows) screen = width-changed _ screen
-width_drawn (Pixels area form bytes) screen = width-changed _ screen
-width_drawn (Bytes area bytes) screen = width-changed _ screen
-width_drawn (Copy area sx sy) screen = width-changed _ screen
-width_drawn (Scroll area dx dy) screen = width-changed _ screen
-width_drawn (Hint area sx sy) screen = refl
+width_drawn s screen = (size_drawn s screen).0
 
 pub height_drawn : (s : Stroke) (screen : Grid Colour) → (drawn_by s screen).height ≡ screen.height
-height_drawn (Fill area colour) screen = height-changed _ screen
-height_drawn (Put x y row) screen = height-changed _ screen
-height_drawn (Rows area rows) screen = height-changed _ screen
-height_drawn (Pixels area form bytes) screen = height-changed _ screen
-height_drawn (Bytes area bytes) screen = height-changed _ screen
-height_drawn (Copy area sx sy) screen = height-changed _ screen
-height_drawn (Scroll area dx dy) screen = height-changed _ screen
-height_drawn (Hint area sx sy) screen = refl
+height_drawn s screen = (size_drawn s screen).1
 
 -- outside of its rectangle the screen is as it was
 pub drawn_outside : (s : Stroke) (screen : Grid Colour) → IsGrid screen → IsSameOutside (area_of s) screen

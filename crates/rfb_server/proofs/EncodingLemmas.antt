@@ -7,7 +7,8 @@ use Rattle.rfb_wire.specs.declared.encoding.Encoding.TheVariants.{Raw, CopyRect,
 use Rattle.rfb_server.specs.Composition.{may_send}
 use Rattle.rfb_server.specs.Encodings.{is_same, is_listed, times_listed, IsEachOnce}
 
-same_is : (a b : Encoding) → is_same a b ≡ true → a ≡ b
+-- encodings that are told to be the same are
+pub same_is : (a b : Encoding) → is_same a b ≡ true → a ≡ b
 same_is Raw Raw h = refl
 same_is CopyRect CopyRect h = refl
 same_is Rre Rre h = refl

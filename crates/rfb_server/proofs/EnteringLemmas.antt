@@ -19,10 +19,14 @@ use Rattle.rfb_hello.specs.declared.fed.Fed.{Fed}
 use Rattle.rfb_server.specs.declared.event.ServerEvent.{ServerEvent}
 use Rattle.rfb_server.specs.declared.fault.ServerFault.{ServerFault}
 use Rattle.rfb_server.specs.declared.session.Session.{Session}
-use Rattle.rfb_server.specs.KnownScreen.{IsCaughtUp}
+use Rattle.rfb_server.specs.declared.drawing.notice.Notice.{Notice}
+use Rattle.rfb_server.specs.declared.late.entrance.Entrance.{Entrance}
+use Rattle.rfb_server.specs.KnownScreen.{IsCaughtUp, Follows, IsTold}
+use Rattle.rfb_server.specs.Late.{entered}
 use Rattle.rfb_server.specs.Intake.{Takes}
 use Rattle.rfb_server.specs.inside.Marks.{AreAlike, none_known, all_marked}
 use Rattle.rfb_server.specs.inside.Slice.{FeedsAs}
+use Rattle.rfb_server.proofs.ClaimLemmas.{nothing_claimed}
 use Rattle.rfb_server.proofs.MarksLemmas.{in_all, caught_unseen}
 
 -- the places of a screen of which nothing is known or asked, and each is marked, are of one screen
@@ -48,6 +52,21 @@ caught_untouched w h screen known area form =
     in_all w h x y
     (subst (λ (n : ℕ). x < n) (width-changed _ _ ∙ width-uniform _ _ _) p)
     (subst (λ (n : ℕ). y < n) (height-changed _ _ ∙ height-uniform _ _ _) q))
+
+-- whatever is drawn, one that enters follows it
+pub follows_entering : (old new : Entrance) (notice : Notice) → new.width ≡ old.width →
+    new.height ≡ old.height →
+    (before after : Grid Colour) → Follows before (entered old) → IsTold notice before after →
+    Follows after (entered new)
+follows_entering old new notice wide high before after follows told = record {
+  whole = told.whole;
+  alike = record {
+    columns = rw (wide, high) (told.outside.columns ∙ follows.alike.columns);
+    rows = rw (wide, high) (told.outside.rows ∙ follows.alike.rows);
+  };
+  caught_up = caught_untouched new.width new.height after _ _ _;
+  claimed = nothing_claimed _ _ _ _ refl;
+}
 
 -- a handshake of which something is left goes on
 left_goes : (progress : Progress) → 0 < least_left progress → goes_on progress ≡ true

@@ -28,23 +28,23 @@ use Rattle.rfb_server.specs.Told.{ServerTold, message_told}
 use Rattle.rfb_server.specs.Server.{Serving, ServerState, server, serves, message_acts, item_told, AsksMemory}
 use Rattle.rfb_server.specs.Progress.{ProgressStandsFor}
 use Rattle.rfb_server.specs.Model.{SessionStandsFor}
-use Rattle.rfb_server.specs.inside.Sessions.{KeepsUp, BeginsMessage, BeginsList, IsAskedFor, HasFormat}
+use Rattle.rfb_server.specs.inside.Sessions.{KeepsUp, KeepsRest, StaysCaughtUp, BeginsMessage, BeginsList}
+use Rattle.rfb_server.specs.inside.Sessions.{IsAskedFor, HasFormat}
 use Rattle.rfb_server.proofs.ClaimLemmas.{nothing_claimed}
 
 -- ---- what is kept
 
-pub up_same : (old new : Session) → setup_of new.hello ≡ setup_of old.hello → new.text_limit ≡ old.text_limit →
-    new.format ≡ old.format → new.known ≡ old.known → new.area ≡ old.area →
-    new.marks ≡ old.marks → new.hints ≡ old.hints →
-    new.claim ≡ old.claim → KeepsUp old new
-up_same old new setup limit format known area marks hints claim = record {
+-- a session that keeps all but its handshake, its progress and its list has caught up still
+pub up_same : (old new : Session) → setup_of new.hello ≡ setup_of old.hello → KeepsRest old new →
+    KeepsUp old new
+up_same old new setup rest = record {
   setup = setup;
-  text_limit = limit;
-  columns = ap (λ (g : Grid (Option ℕ)). g.width) known;
-  rows = ap (λ (g : Grid (Option ℕ)). g.height) known;
-  hints = hints;
-  caught_up = λ screen size caught. rw (known, area, format, marks) caught;
-  claimed = λ screen claimed. rw (known, format, claim) claimed;
+  text_limit = rest.text_limit;
+  columns = ap (λ (g : Grid (Option ℕ)). g.width) rest.known;
+  rows = ap (λ (g : Grid (Option ℕ)). g.height) rest.known;
+  hints = rest.hints;
+  caught_up = λ screen size caught. rw (rest.known, rest.area, rest.format, rest.marks) caught;
+  claimed = λ screen claimed. rw (rest.known, rest.format, rest.claim) claimed;
 }
 
 pub up_then : (old mid new : Session) → KeepsUp old mid → KeepsUp mid new → KeepsUp old new
@@ -61,32 +61,32 @@ up_then old mid new one two = record {
 }
 
 pub up_begun : (old new : Session) → BeginsMessage old new → KeepsUp old new
-up_begun old new begun = up_same old new (ap setup_of begun.hello) begun.text_limit begun.format begun.known begun.area
-    begun.marks begun.hints begun.claim
+up_begun old new begun = up_same old new (ap setup_of begun.hello) begun.rest
 
 pub up_list : (count : ℕ) (old new : Session) → BeginsList count old new → KeepsUp old new
-up_list count old new begun = up_same old new (ap setup_of begun.hello) begun.text_limit begun.format begun.known
-    begun.area begun.marks begun.hints begun.claim
+up_list count old new begun = up_same old new (ap setup_of begun.hello) begun.rest
 
-pub up_asked : (rect : Rect) (whole : Bool) (old new : Session) → IsAskedFor rect whole old new → KeepsUp old new
-up_asked rect whole old new asked = record {
-  setup = ap setup_of asked.hello;
-  text_limit = asked.text_limit;
+pub up_asked : (rect : Rect) (whole : Bool) (old new : Session) → IsAskedFor rect whole old new →
+    StaysCaughtUp old new → KeepsUp old new
+up_asked rect whole old new asked caught = record {
+  setup = ap setup_of asked.setting.hello;
+  text_limit = asked.setting.text_limit;
   columns = ap (λ (g : Grid (Option ℕ)). g.width) asked.known;
   rows = ap (λ (g : Grid (Option ℕ)). g.height) asked.known;
   hints = asked.hints;
-  caught_up = asked.caught_up;
-  claimed = λ screen claimed. rw (asked.known, asked.format, asked.claim) claimed;
+  caught_up = caught;
+  claimed = λ screen claimed. rw (asked.known, asked.setting.format, asked.claim) claimed;
 }
 
-pub up_format : (format : PixelFormat) (old new : Session) → HasFormat format old new → KeepsUp old new
-up_format format old new has = record {
+pub up_format : (format : PixelFormat) (old new : Session) → HasFormat format old new → StaysCaughtUp old new →
+    KeepsUp old new
+up_format format old new has caught = record {
   setup = ap setup_of has.hello;
   text_limit = has.text_limit;
   columns = ap (λ (g : Grid (Option ℕ)). g.width) has.known ∙ width-uniform old.known.width old.known.height None;
   rows = ap (λ (g : Grid (Option ℕ)). g.height) has.known ∙ height-uniform old.known.width old.known.height None;
   hints = has.hints;
-  caught_up = has.caught_up;
+  caught_up = caught;
   claimed = λ screen claimed. nothing_claimed screen new.known new.format new.claim has.claim;
 }
 

@@ -225,12 +225,12 @@ greets serving screen old new bytes told handshake greeted fed = λ s prefix now
       after.1,
       record {
         setup_is = greeted.setup ∙ now.setup_is;
-        limit_is = greeted.text_limit ∙ now.limit_is;
+        limit_is = greeted.rest.text_limit ∙ now.limit_is;
         progress_is = comes.0;
         screen_is = same.screen ∙ now.screen_is;
-        known_is = same.known ∙ (now.known_is ∙ sym greeted.known);
-        area_is = same.area ∙ (now.area_is ∙ sym greeted.area);
-        form_is = same.form ∙ (now.form_is ∙ sym greeted.format);
+        known_is = same.known ∙ (now.known_is ∙ sym greeted.rest.known);
+        area_is = same.area ∙ (now.area_is ∙ sym greeted.rest.area);
+        form_is = same.form ∙ (now.form_is ∙ sym greeted.rest.format);
         encodings_are = same.encodings ∙ (now.encodings_are ∙ sym greeted.encodings);
       },
       record {

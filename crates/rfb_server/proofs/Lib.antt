@@ -11,6 +11,7 @@ pub mod ChainLemmas
 pub mod LedOnLemmas
 pub mod UnclaimedLemmas
 pub mod MarksLemmas
+pub mod KeptLemmas
 pub mod EnteringLemmas
 pub mod GreetLemmas
 pub mod AskingLemmas

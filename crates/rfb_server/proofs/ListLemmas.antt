@@ -127,6 +127,17 @@ number_part serving screen old new left number longer list unit was is still ite
       stands_on serving screen old new s prefix (prefix ++ unit) now still (rw (is, in_it.0) begun),
     ))
 
+-- a whole number more: the list has it, and as many are missing as follow
+number_added : (left more : ℕ) (number unit prefix : List ℕ) (list : List Encoding)
+    (b : IsListBegun left number list prefix) → length (number ++ unit) ≡ 4 → left ≡ more + 1 →
+    Listed SpellsNumber (b.numbers ++ s32_at 0 (number ++ unit) ∷ []) (b.units ++ (number ++ unit))
+    × (length b.numbers + left ≡ length (b.numbers ++ s32_at 0 (number ++ unit) ∷ []) + more)
+number_added left more number unit prefix list b size count =
+    let value = s32_at 0 (number ++ unit) in (
+      listed_more b.numbers b.units value (number ++ unit) b.listed (record { size = size; number_is = refl }),
+      omega (arith, length-append b.numbers (value ∷ []), count),
+    )
+
 -- the last byte of a number, and others follow
 pub number_more : (serving : Serving) (screen : Grid Colour) (old new : Session) (left more : ℕ)
     (number none : ArrayVec ℕ) (list now_list : List Encoding) (unit : List ℕ) →
@@ -142,10 +153,8 @@ number_more serving screen old new left more number none list now_list unit was 
     let value = s32_at 0 piece in
     let numbers = b.numbers ++ value ∷ [] in
     let units = b.units ++ piece in
-    let units_are = listed_more b.numbers b.units value piece b.listed (record { size = size; number_is = refl }) in
+    let (units_are, total) = number_added left more number.items unit prefix list b size count in
     let long = numbers_long numbers units units_are in
-    let number_count : length numbers ≡ length b.numbers + 1 = length-append b.numbers (value ∷ []) in
-    let total : length b.numbers + left ≡ length numbers + more = omega (arith, number_count, count) in
     let all : prefix ++ unit ≡ b.head ++ (units ++ none.items) =
     after_numbers prefix b.head b.units number.items unit b.prefix_is
     ∙ ap (λ (ys : List ℕ). b.head ++ ys) (sym (append-nil units) ∙ ap (λ (ys : List ℕ). units ++ ys) (sym empty)) in
@@ -184,18 +193,14 @@ number_last serving screen old new left number list unit was is up format known 
     steps_told serving screen old new unit None up is (λ s prefix now.
     let in_it = in_list serving screen old left number list s prefix was now in
     let b = in_it.1 in
-    let piece = number.items ++ unit in
-    let value = s32_at 0 piece in
-    let numbers = b.numbers ++ value ∷ [] in
-    let units = b.units ++ piece in
-    let units_are = listed_more b.numbers b.units value piece b.listed (record { size = size; number_is = refl }) in
-    let number_count : length numbers ≡ length b.numbers + 1 = length-append b.numbers (value ∷ []) in
-    let total : length b.numbers + left ≡ length numbers = omega (arith, number_count, count) in (
-      SetEncodings numbers,
+    let value = s32_at 0 (number.items ++ unit) in
+    let (units_are, all) = number_added left 0 number.items unit prefix list b size count in
+    let total : length b.numbers + left ≡ length (b.numbers ++ value ∷ []) = omega (arith, all) in (
+      SetEncodings (b.numbers ++ value ∷ []),
       in_it.0,
       record {
         head = b.head;
-        list = units;
+        list = b.units ++ (number.items ++ unit);
         whole = after_numbers prefix b.head b.units number.items unit b.prefix_is;
         head_is = rw (sym total) b.head_is;
         listed = units_are;

@@ -115,10 +115,10 @@ follows_drawn old new before after rect same marks follows whole outside claimed
         columns = outside.columns ∙ (follows.alike.columns ∙ (rw same.known refl));
         rows = outside.rows ∙ (follows.alike.rows ∙ (rw same.known refl));
       };
-      caught_up = rw (same.known, same.area, same.format)
+      caught_up = rw (same.known, same.area, same.setting.format)
           (caught_drawn before after old.known old.area old.format old.marks new.marks rect old.alike follows.alike
           outside marks follows.caught_up);
-      claimed = rw (same.known, same.format) claimed;
+      claimed = rw (same.known, same.setting.format) claimed;
     }
 
 -- so does one that was given a hint beside
@@ -131,8 +131,8 @@ follows_hinted old new hint screen hinted follows =
         columns = follows.alike.columns ∙ (rw (hinted.same.known) refl);
         rows = follows.alike.rows ∙ (rw (hinted.same.known) refl);
       };
-      caught_up = rw (hinted.same.known, hinted.same.area, hinted.same.format, hinted.marks) follows.caught_up;
-      claimed = rw (hinted.same.known, hinted.same.format, hinted.claim) follows.claimed;
+      caught_up = rw (hinted.same.known, hinted.same.area, hinted.same.setting.format, hinted.marks) follows.caught_up;
+      claimed = rw (hinted.same.known, hinted.same.setting.format, hinted.claim) follows.claimed;
     }
 
 -- whatever it is fed, it follows

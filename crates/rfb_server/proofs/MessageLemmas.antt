@@ -33,7 +33,7 @@ use Rattle.rfb_server.specs.ClientBytes.{ClientAt}
 use Rattle.rfb_server.specs.Progress.{ProgressStandsFor, IsHeadBegun, is_head_begun}
 use Rattle.rfb_server.proofs.HeadLemmas.{begun_is, begun_misses}
 use Rattle.rfb_server.specs.Model.{SessionStandsFor}
-use Rattle.rfb_server.specs.inside.Sessions.{BeginsMessage, BeginsList, IsAskedFor, HasFormat, KeepsUp}
+use Rattle.rfb_server.specs.inside.Sessions.{BeginsMessage, BeginsList, IsAskedFor, HasFormat, KeepsUp, StaysCaughtUp}
 use Rattle.rfb_server.proofs.FeedingLemmas.{IsStill, IsActed, in_head, stands_on, steps_more, steps_told, steps_bad}
 use Rattle.rfb_server.proofs.FeedingLemmas.{up_begun, up_then, up_asked, up_format, up_list}
 
@@ -59,9 +59,9 @@ unchanged : (serving : Serving) (screen : Grid Colour) (old new : Session) (s : 
     message_acts s m ≡ s → BeginsMessage old new → SessionStandsFor serving screen old s prefix → IsActed s m new
 unchanged serving screen old new s prefix m same begun now = record {
   screen = ap (λ (t : ServerState). t.screen) same;
-  known = ap (λ (t : ServerState). t.known) same ∙ now.known_is ∙ sym begun.known;
-  area = ap (λ (t : ServerState). t.area) same ∙ now.area_is ∙ sym begun.area;
-  form = ap (λ (t : ServerState). t.form) same ∙ now.form_is ∙ sym begun.format;
+  known = ap (λ (t : ServerState). t.known) same ∙ now.known_is ∙ sym begun.rest.known;
+  area = ap (λ (t : ServerState). t.area) same ∙ now.area_is ∙ sym begun.rest.area;
+  form = ap (λ (t : ServerState). t.form) same ∙ now.form_is ∙ sym begun.rest.format;
   encodings = ap (λ (t : ServerState). t.encodings) same ∙ now.encodings_are ∙ sym begun.encodings;
 }
 
@@ -86,34 +86,37 @@ pointer_told serving screen old new part unit buttons x y was s begun =
 pub request_taken : (serving : Serving) (screen : Grid Colour) (old mid new : Session) (part : ArrayVec ℕ)
     (unit : List ℕ) (incremental : Bool) (rect : Rect) →
     old.progress ≡ Head part → SpellsRequest incremental rect (part.items ++ unit) →
-    IsAskedFor rect (not incremental) old mid → BeginsMessage mid new →
+    IsAskedFor rect (not incremental) old mid → StaysCaughtUp old mid → BeginsMessage mid new →
     StepsBy (server serving) (SessionStandsFor serving screen) old unit (Ok None) new
-request_taken serving screen old mid new part unit incremental rect was s asked begun =
+request_taken serving screen old mid new part unit incremental rect was s asked caught begun =
     whole_head serving screen old new part unit (FramebufferUpdateRequest incremental rect) None was s
-    (up_then old mid new (up_asked rect (not incremental) old mid asked) (up_begun mid new begun)) begun.progress refl
+    (up_then old mid new (up_asked rect (not incremental) old mid asked caught) (up_begun mid new begun))
+    begun.progress refl
     (λ st prefix now. record {
       screen = refl;
-      known = now.known_is ∙ sym (begun.known ∙ asked.known);
-      area = ap (λ (area : Places). added rect (not incremental) area) now.area_is ∙ sym (begun.area ∙ asked.area);
-      form = now.form_is ∙ sym (begun.format ∙ asked.format);
-      encodings = now.encodings_are ∙ sym (begun.encodings ∙ asked.encodings);
+      known = now.known_is ∙ sym (begun.rest.known ∙ asked.known);
+      area = ap (λ (area : Places). added rect (not incremental) area) now.area_is
+          ∙ sym (begun.rest.area ∙ asked.area);
+      form = now.form_is ∙ sym (begun.rest.format ∙ asked.setting.format);
+      encodings = now.encodings_are ∙ sym (begun.encodings ∙ asked.setting.encodings);
     })
 
 pub format_taken : (serving : Serving) (screen : Grid Colour) (old mid new : Session) (part : ArrayVec ℕ)
     (unit bytes : List ℕ) (format : PixelFormat) →
     old.progress ≡ Head part → SpellsSetPixelFormat bytes (part.items ++ unit) →
     Spells format bytes → first_fault bytes ≡ None →
-    HasFormat format old mid → BeginsMessage mid new →
+    HasFormat format old mid → StaysCaughtUp old mid → BeginsMessage mid new →
     StepsBy (server serving) (SessionStandsFor serving screen) old unit (Ok None) new
-format_taken serving screen old mid new part unit bytes format was s spelled passes has begun =
+format_taken serving screen old mid new part unit bytes format was s spelled passes has caught begun =
     whole_head serving screen old new part unit (SetPixelFormat format) None was
     (record { pixel_format = bytes; head = s; spelled = spelled; passes = passes })
-    (up_then old mid new (up_format format old mid has) (up_begun mid new begun)) begun.progress refl
+    (up_then old mid new (up_format format old mid has caught) (up_begun mid new begun)) begun.progress refl
     (λ st prefix now. record {
       screen = refl;
-      known = ap (λ (known : Grid (Option ℕ)). forgotten known) now.known_is ∙ sym (begun.known ∙ has.known);
-      area = now.area_is ∙ sym (begun.area ∙ has.area);
-      form = sym (begun.format ∙ has.format);
+      known = ap (λ (known : Grid (Option ℕ)). forgotten known) now.known_is
+          ∙ sym (begun.rest.known ∙ has.known);
+      area = now.area_is ∙ sym (begun.rest.area ∙ has.area);
+      form = sym (begun.rest.format ∙ has.format);
       encodings = now.encodings_are ∙ sym (begun.encodings ∙ has.encodings);
     })
 
@@ -191,20 +194,20 @@ list_begins serving screen old new part unit zero was s begun =
     (up_list zero old new begun) begun.progress refl
     (λ st prefix now. record {
       screen = refl;
-      known = now.known_is ∙ sym begun.known;
-      area = now.area_is ∙ sym begun.area;
-      form = now.form_is ∙ sym begun.format;
+      known = now.known_is ∙ sym begun.rest.known;
+      area = now.area_is ∙ sym begun.rest.area;
+      form = now.form_is ∙ sym begun.rest.format;
       encodings = sym begun.encodings;
     })
 list_begins serving screen old new part unit (suc n) was s begun =
     let whole = part.items ++ unit in
     let still : IsStill old new = record {
       setup = ap setup_of begun.hello;
-      text_limit = begun.text_limit;
-      format = begun.format;
+      text_limit = begun.rest.text_limit;
+      format = begun.rest.format;
       encodings = begun.encodings;
-      known = begun.known;
-      area = begun.area;
+      known = begun.rest.known;
+      area = begun.rest.area;
     } in
     let waits : client_message (whole ++ []) ≡ More = encodings_wait (suc n) whole [] s (omega arith) in
     let count : suc n ≡ length {A = ℤ} [] + suc n = omega arith in

@@ -1,6 +1,6 @@
 -- Places of a row that need sending, as bits of a word.
 use Rattle.std.proofs.Common.{◌≡◌, ◌∙◌, ℕ, ◌+◌, ◌-◌, ◌*◌, ◌/◌, ◌%◌, ◌^◌, ◌<◌, ◌≤◌, ◌&&◌, Bool, true, false, not, nat_eq}
-use Rattle.std.proofs.Common.{nat_le, nat_lt, sym, ap, refl, arith, inl, inr}
+use Rattle.std.proofs.Common.{nat_le, nat_lt, min, max, sym, ap, refl, arith, inl, inr}
 use Rattle.std.specs.Int.{w64, bit_at, trailing_zeros, leading_zeros}
 use Rattle.std.proofs.Math.Nat.{div-add-mod'}
 use Rattle.std.proofs.lemmas.Bool.{both_ways, cases_lt}
@@ -77,10 +77,21 @@ set_marked p y from to word i told low some =
     let (a, b, m) = some_place (nat_le from x) (nat_lt x to) (p x y) (sym some ∙ told i low) in
     (from_le from x a, from_lt x to b, m)
 
-pub none_between : (p : ℕ → ℕ → Bool) (y from to : ℕ) → HasBitsBetween p y from to 0 →
+-- a word without a bit tells of no place
+pub none_between : (p : ℕ → ℕ → Bool) (y from to word : ℕ) → HasBitsBetween p y from to word →
+    word ≡ 0 →
     to ≤ from / 64 * 64 + 64 → NoneInRow p y from to
-none_between p y from to told cell =
-    λ x a b. unset_quiet p y from to 0 x told cell a b (has_bit-zero (x - from / 64 * 64))
+none_between p y from to word told zero cell =
+    λ x a b. unset_quiet p y from to word x told cell a b (rw zero (has_bit-zero (x - from / 64 * 64)))
+
+-- no place up to a column and none from it on is none at all
+pub none_joined : (p : ℕ → ℕ → Bool) (y from at to : ℕ) → NoneInRow p y from at → NoneInRow p y at to →
+    NoneInRow p y from to
+none_joined p y from at to before after x a b =
+    elim (cases_lt x at) [
+      | inl less ↦ before x a less
+      | inr more ↦ after x more b
+    ]
 
 pub first_between : (p : ℕ → ℕ → Bool) (y from to word : ℕ) → HasBitsBetween p y from to word →
     to ≤ from / 64 * 64 + 64 →
@@ -148,10 +159,11 @@ none_right p y from to end none order within = record {
 
 -- the first one is left of a column, or it is that column
 pub first_left : (p : ℕ → ℕ → Bool) (y from to word first column : ℕ) → HasBitsBetween p y from to word →
-    to ≤ from / 64 * 64 + 64 → 0 < word → word < 2 ^ 64 → from ≤ first → column ≤ first →
-    column ≤ from / 64 * 64 + trailing_zeros w64 word →
-    (column < first → column ≡ from / 64 * 64 + trailing_zeros w64 word) → IsFirst p y from first column
-first_left p y from to word first column told cell some small order least near is =
+    to ≤ from / 64 * 64 + 64 → 0 < word → word < 2 ^ 64 → from ≤ first →
+    column ≡ min first (from / 64 * 64 + trailing_zeros w64 word) → IsFirst p y from first column
+first_left p y from to word first column told cell some small order least =
+    let is : column < first → column ≡ from / 64 * 64 + trailing_zeros w64 word =
+    λ less. omega (arith, less, least) in
     let (reached, within, here, none) = first_between p y from to word told cell some small in
     record {
       order = (
@@ -159,27 +171,28 @@ first_left p y from to word first column told cell some small order least near i
           | inl less ↦ omega (arith, is less, reached)
           | inr more ↦ omega (arith, more, order)
         ],
-        least,
+        omega (arith, least),
       );
-      none = λ x a b. none x a (omega (arith, b, near));
+      none = λ x a b. none x a (omega (arith, b, least));
       here = λ less. rw (is less) here;
     }
 
 -- and so it is with the last one
 pub last_right : (p : ℕ → ℕ → Bool) (y from to word end column : ℕ) → HasBitsBetween p y from to word →
-    to ≤ from / 64 * 64 + 64 → 0 < word → word < 2 ^ 64 → end ≤ to → end ≤ column →
-    from / 64 * 64 + 64 - leading_zeros w64 word ≤ column →
-    (end < column → column ≡ from / 64 * 64 + 64 - leading_zeros w64 word) → IsEnd p y end to column
-last_right p y from to word end column told cell some small order most near is =
+    to ≤ from / 64 * 64 + 64 → 0 < word → word < 2 ^ 64 → end ≤ to →
+    column ≡ max end (from / 64 * 64 + 64 - leading_zeros w64 word) → IsEnd p y end to column
+last_right p y from to word end column told cell some small order most =
     let (few, reached, within, here, none) = last_between p y from to word told cell some small in
+    let is : end < column → column ≡ from / 64 * 64 + 64 - leading_zeros w64 word =
+    λ more. omega (arith, more, most) in
     record {
       order = (
-        most,
+        omega (arith, most),
         elim (cases_lt end column) [
           | inl more ↦ omega (arith, is more, within)
           | inr less ↦ omega (arith, less, order)
         ],
       );
-      none = λ x a b. none x (omega (arith, a, near)) b;
+      none = λ x a b. none x (omega (arith, a, most)) b;
       here = λ more. rw (is more) here;
     }

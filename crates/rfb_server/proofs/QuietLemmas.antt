@@ -136,7 +136,7 @@ quiet_nowhere screen known area form x y p q c =
 -- what is known stays, and so does all else
 pub quiet_kept : (screen : Grid Colour) (old new : Session) (r : Quiet) → IsKept old new → new.known ≡ old.known →
     IsQuiet screen old r → IsQuiet screen new r
-quiet_kept screen old new r kept known quiet = rw (known, kept.area, kept.format) quiet
+quiet_kept screen old new r kept known quiet = rw (known, kept.area, kept.setting.format) quiet
 
 settled_by : (asked whole before : Bool) (wanted : ℕ) → (asked && (whole || before)) ≡ false →
     (asked && (whole || false)) ≡ false
@@ -156,7 +156,7 @@ quiet_sent screen old new rect r before after kept appends quiet x y p q c =
     let was : needs_of screen old x y ≡ false = quiet x y (rw size.columns p) (rw size.rows q) c in
     let is = noted_at screen old.format rect appends.sent.block old.known new.known x y
     appends.sent.packed appends.sent.noted p q in
-    rw (kept.area, kept.format, is) (by (contains rect x y) was)
+    rw (kept.area, kept.setting.format, is) (by (contains rect x y) was)
   where
     by : (here : Bool) → needs_of screen old x y ≡ false →
         (asked_at old.area x y && (whole_at old.area x y || differs (wanted_at screen old.format x y)

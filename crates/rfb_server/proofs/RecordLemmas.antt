@@ -16,7 +16,8 @@ use Rattle.rfb_picture.proofs.GridLaws.{contains_more, contains_true, at-with_ro
 use Rattle.rfb_codec.specs.Effect.{IsRecorded}
 use Rattle.rfb_picture.specs.Area.{Places, IsArea, added}
 use Rattle.rfb_picture.specs.Places.{AllMarked}
-use Rattle.rfb_server.specs.Record.{AreKnown, ShowsKnown, TellsKnown, is_known, forgotten, record_of}
+use Rattle.rfb_picture.proofs.AreaLaws.{area-added}
+use Rattle.rfb_server.specs.Record.{IsRecord, AreKnown, ShowsKnown, TellsKnown, is_known, forgotten, record_of}
 
 -- the size of a record is that of its pixels
 pub width-record_of : (pixels : Grid ℕ) (known : Grid Bool) → (record_of pixels known).width ≡ pixels.width
@@ -30,6 +31,9 @@ height-record_of pixels known = height-changed _ (forgotten pixels) ∙ height-u
 pub whole-record_of : (pixels : Grid ℕ) (known : Grid Bool) → IsGrid (record_of pixels known)
 unfolding record_of
 whole-record_of pixels known = whole-changed _ (forgotten pixels) (whole-uniform pixels.width pixels.height None)
+
+-- what is told of a record's size by its name alone
+pub ruleset record_sizes = (width-record_of, height-record_of, whole-record_of)
 
 -- what stands at a place
 pub at-record_of : (pixels : Grid ℕ) (known : Grid Bool) (x y : ℕ) (d : Option ℕ) →
@@ -97,11 +101,32 @@ record-forgotten pixels known e f =
     (record-none pixels pixels.width pixels.height refl refl)
 
 -- what stands at a place of a grid does not depend on the value for places that it has not
-at_any : (g : Grid ℕ) (x y d e : ℕ) → IsGrid g → x < g.width → y < g.height →
+at_any : {A : Type 0} (g : Grid A) (x y : ℕ) (d e : A) → IsGrid g → x < g.width → y < g.height →
     at_or g x y d ≡ at_or g x y e
 at_any g x y d e whole p q =
     let below = place_below g.width g.height x y p q in
     get_or_default g.places (y * g.width + x) d e (rw whole below)
+
+-- so grids of one size with the same at each place are the same
+pub same_values : {A : Type 0} (v : A) (g k : Grid A) → IsGrid g → IsGrid k → g.width ≡ k.width →
+    g.height ≡ k.height → ((x y : ℕ) → x < g.width → y < g.height → at_or g x y v ≡ at_or k x y v) →
+    g ≡ k
+same_values v g k whole whole_too wide high same =
+    same_grid g k whole whole_too wide high (λ x y d p q.
+    at_any g x y d v whole p q
+    ∙ (same x y p q ∙ at_any k x y v d whole_too (rw (← wide) p) (rw (← high) q)))
+
+-- a record whose pixels keep their size, and of which more places are known, is one still
+pub still_record : (pixels now : Grid ℕ) (known learned : Places) (rect : Rect) → IsRecord pixels known →
+    IsGrid now →
+    now.width ≡ pixels.width → now.height ≡ pixels.height → learned ≡ added rect false known →
+    learned.asked.width ≡ known.asked.width → learned.asked.height ≡ known.asked.height → IsRecord now learned
+still_record pixels now known learned rect was whole width height more wide high = record {
+  whole = whole;
+  area = rw more (area-added rect false known was.area);
+  wide = wide ∙ (was.wide ∙ sym width);
+  high = high ∙ (was.high ∙ sym height);
+}
 
 -- ---- pixels put over a rectangle, row by row
 

@@ -29,7 +29,7 @@ use Rattle.rfb_server.proofs.BitCountLemmas.{row_split}
 use Rattle.rfb_server.proofs.NeedingBits.{has_bit-up}
 
 -- two rows are the same at as many places as are marked, if those are that they are the same at
-pub equal_row : (a b : List ℕ) (p : ℕ → ℕ → Bool) (x y n : ℕ) → length a ≡ n → length b ≡ n →
+equal_row : (a b : List ℕ) (p : ℕ → ℕ → Bool) (x y n : ℕ) → length a ≡ n → length b ≡ n →
     ((i : ℕ) → i < n → (slice_index a i == slice_index b i) ≡ p (x + i) y) → equal_places a b ≡ count_row p x y n
 unfolding equal_places
 equal_row [] b p x y zero long_a long_b same = refl
@@ -95,7 +95,7 @@ module _ (screen : Grid Colour) (session : Session) (part : Hint) (pixels : Grid
       ∙ ap (pixel_of session.format) (slice_index_or-row_of screen part.to.x part.to.y part.to.w i black l))
 
   -- what is right after the copy
-  pub after_right : (i : ℕ) → i < part.to.w →
+  after_right : (i : ℕ) → i < part.to.w →
       (slice_index wanted i == slice_index (row_of pixels part.sx part.sy part.to.w) i)
       ≡ right_after screen session part (part.to.x + i) part.to.y
   after_right i l =
@@ -109,6 +109,15 @@ module _ (screen : Grid Colour) (session : Session) (part : Hint) (pixels : Grid
       shown (part.sx + i) part.sy pixel (omega (arith, may.source)) (omega (arith, may.source)) known in
       rw (column, row, wanted_is i l, read, there, known)
       (same_pixel (wanted_at screen session.format (part.to.x + i) part.to.y) pixel)
+
+  -- so as many places are the same in the source's row
+  pub after_counted : (source : List ℕ) → source ≡ row_of pixels part.sx part.sy part.to.w →
+      length source ≡ part.to.w → length wanted ≡ part.to.w →
+      equal_places wanted source ≡ count_row (right_after screen session part) part.to.x part.to.y part.to.w
+  after_counted source is long len =
+      ap (equal_places wanted) is
+      ∙ equal_row wanted (row_of pixels part.sx part.sy part.to.w) (right_after screen session part) part.to.x
+      part.to.y part.to.w len (sym (ap length is) ∙ long) after_right
 
   -- what is right as it is
   before_right : (area : Places) (j : ℕ) → TellsKnown session.known area → j < part.to.w →

@@ -15,7 +15,7 @@ use Rattle.rfb_codec.specs.Codec.{PacksRect}
 use Rattle.rfb_codec.specs.RectData.{Pixels}
 use Rattle.rfb_codec.specs.Effect.{effects, IsAlike, Agrees, IsRecorded}
 use Rattle.rfb_codec.specs.WholeUpdate.{item_of, SpellsRectangles}
-use Rattle.rfb_codec.proofs.EffectLaws.{effect_painted, effects_picture, agrees_placed}
+use Rattle.rfb_codec.proofs.EffectLaws.{agrees_placed}
 use Rattle.rfb_server.specs.Server.{ServerState, black}
 use Rattle.rfb_server.specs.Request.{wanted_at, wanted, recorded, is_asked, is_whole, needs_at, needs_sending}
 use Rattle.rfb_server.specs.Cells.{cell_of, IsCell}
@@ -23,7 +23,7 @@ use Rattle.rfb_server.specs.Composition.{Part, sent_as, between, IsPlace, HasIts
 use Rattle.rfb_server.specs.Composition.{IsBoxOf, is_in_some}
 use Rattle.rfb_server.specs.inside.Sends.{SendsPixels, Sends}
 use Rattle.rfb_server.proofs.BoxesLemmas.{boxes_none, boxes_push}
-use Rattle.rfb_server.proofs.SendsPushLemmas.{quiet_place, effects_push, spelled_push, data_push, blocks_push, in_push}
+use Rattle.rfb_server.proofs.SendsPushLemmas.{quiet_place, spelled_push, data_push, blocks_push, agrees_push, in_push}
 
 -- ---- a rectangle
 
@@ -282,19 +282,8 @@ module _ (across : ℕ) (s : ServerState) where
 
       agrees : (picture : Grid Colour) → IsGrid picture → IsAlike picture s.known → Agrees s.form picture s.known →
           Agrees s.form (effects (between s) (map item_of (map sent_as (parts ++ part ∷ []))) picture) now
-      agrees picture whole alike before =
-          let shown : Grid Colour = effects (between s) (map item_of (map sent_as parts)) picture in
-          let kept = effects_picture (between s) (map item_of (map sent_as parts)) picture in
-          let fits : IsAlike shown known = record {
-            columns = kept.columns ∙ (alike.columns ∙ sends.alike.columns);
-            rows = kept.rows ∙ (alike.rows ∙ sends.alike.rows);
-          } in
-          rw (
-            effects_push s parts part picture,
-            effect_painted (between s) part.head part.contents part.body shown data_are,
-          )
-          (agrees_placed s.form rect shown known sent.block now (kept.whole whole) fits sent.alike
-          (sends.agrees picture whole alike before) sent.noted)
+      agrees = agrees_push s parts part known now sends.alike data_are sends.agrees (λ shown whole fits before.
+          agrees_placed s.form rect shown known sent.block now whole fits sent.alike before sent.noted)
 
       by_inside : (x y : ℕ) → IsPlace s x y → (here : Bool) → contains rect x y ≡ here →
           (here ≡ false → at_or known x y None ≡ Some (wanted s x y)) →

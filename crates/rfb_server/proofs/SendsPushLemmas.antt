@@ -1,14 +1,16 @@
 -- What needs no sending, and lists of rectangles that get one more.
 use Rattle.std.proofs.Common.{◌≡◌, ℕ, ◌+◌, ◌-◌, ◌&&◌, ◌||◌, Bool, true, false, not, List, [], ◌∷◌, ◌++◌, map}
-use Rattle.std.proofs.Common.{Option, Some, None, refl, ap, arith, append_assoc}
+use Rattle.std.proofs.Common.{Option, Some, None, refl, ap, ◌∙◌, arith, append_assoc}
 use Rattle.std.proofs.Common.{◌==◌}
 use Rattle.std.proofs.lemmas.Bool.Decides.{nat_tests}
 use Rattle.rfb_pixel.specs.declared.colour.Colour.{Colour}
 use Rattle.rfb_picture.specs.Rect.{contains}
-use Rattle.rfb_picture.specs.Grid.{Grid}
+use Rattle.rfb_picture.specs.Grid.{Grid, IsGrid}
 use Rattle.rfb_codec.specs.UpdateStream.{Rectangle}
-use Rattle.rfb_codec.specs.Effect.{effect, effects}
+use Rattle.rfb_codec.specs.RectData.{painted}
+use Rattle.rfb_codec.specs.Effect.{effect, effects, IsAlike, Agrees}
 use Rattle.rfb_codec.specs.WholeUpdate.{item_of, SpellsRectangles}
+use Rattle.rfb_codec.proofs.EffectLaws.{effect_painted, effects_picture}
 use Rattle.rfb_server.specs.Server.{ServerState}
 use Rattle.rfb_server.specs.Request.{wanted, recorded, differs}
 use Rattle.rfb_server.specs.Composition.{Part, sent_as, between, HasItsData, HaveTheirData, IsBlockOf}
@@ -58,6 +60,28 @@ module _ (s : ServerState) where
       AreBlocksOf s (parts ++ part ∷ [])
   blocks_push [] part all one = (one, tt)
   blocks_push (first ∷ parts) part (here, rest) one = (here, blocks_push parts part rest one)
+
+-- a picture that agrees with a record after these rectangles agrees with another one after one more,
+-- if what that one paints makes of such a picture agrees with it
+pub agrees_push : (s : ServerState) (parts : List Part) (part : Part) (known now : Grid (Option ℕ)) →
+    IsAlike s.known known → HasItsData s part →
+    ((picture : Grid Colour) → IsGrid picture → IsAlike picture s.known → Agrees s.form picture s.known →
+    Agrees s.form (effects (between s) (map item_of (map sent_as parts)) picture) known) →
+    ((shown : Grid Colour) → IsGrid shown → IsAlike shown known → Agrees s.form shown known →
+    Agrees s.form (painted s.form part.head.rect part.contents shown) now) →
+    (picture : Grid Colour) → IsGrid picture → IsAlike picture s.known → Agrees s.form picture s.known →
+    Agrees s.form (effects (between s) (map item_of (map sent_as (parts ++ part ∷ []))) picture) now
+agrees_push s parts part known now size data_is so_far more picture whole alike before =
+    let shown : Grid Colour = effects (between s) (map item_of (map sent_as parts)) picture in
+    let kept = effects_picture (between s) (map item_of (map sent_as parts)) picture in
+    rw (
+      effects_push s parts part picture,
+      effect_painted (between s) part.head part.contents part.body shown data_is,
+    )
+    (more shown (kept.whole whole) (record {
+      columns = kept.columns ∙ (alike.columns ∙ size.columns);
+      rows = kept.rows ∙ (alike.rows ∙ size.rows);
+    }) (so_far picture whole alike before))
 
 pub in_push : (parts : List Part) (part : Part) (x y : ℕ) →
     is_in_some (parts ++ part ∷ []) x y ≡ (is_in_some parts x y || contains part.head.rect x y)

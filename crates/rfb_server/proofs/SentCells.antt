@@ -48,7 +48,7 @@ module _ (across n : ℕ) (screen : Grid Colour) (first old new : Session)
       AppendsCells across (n + 1) screen first new start after (count + bool_byte did)
   cells_more false (none, known, same) =
       let clear : IsClear (needs_at screen old.known first.area first.format) cell.x (cell.x + cell.w) cell.y
-      (cell.y + cell.h) = rw (← kept.area, ← kept.format) none in
+      (cell.y + cell.h) = rw (← kept.area, ← kept.setting.format) none in
       record {
         parts = cells.parts;
         bytes = cells.bytes;
@@ -60,9 +60,9 @@ module _ (across n : ℕ) (screen : Grid Colour) (first old new : Session)
       }
   cells_more true (rect, box, appends) =
       let least : IsBox (needs_at screen old.known first.area first.format) cell rect =
-      rw (← kept.area, ← kept.format) box in
+      rw (← kept.area, ← kept.setting.format) box in
       let sent : SendsPixels screen first.format first.encodings rect old.known new.known appends.bytes =
-      rw (← kept.format, ← kept.encodings) appends.sent in
+      rw (← kept.setting.format, ← kept.setting.encodings) appends.sent in
       let part : Part = part_of rect screen (state_of screen first) old.known new.known appends.bytes sent in
       record {
         parts = cells.parts ++ part ∷ [];
@@ -112,36 +112,9 @@ cells_skip n m screen first old start before count about aware kept order none c
       (λ x y p l u.
       let wide : x < old.known.width = rw (← aware.alike.columns) p.0 in
       let high : y < old.known.height = rw (← aware.alike.rows) p.1 in
-      rw (← kept.area, ← kept.format) (quiet_unless screen old x y aware wide high (none x y wide high
+      rw (← kept.area, ← kept.setting.format) (quiet_unless screen old x y aware wide high (none x y wide high
       (rw (same_wide screen first old about aware) l) (rw (same_wide screen first old about aware) u))))
       cells.sent;
-}
-
--- what is kept by one step and by the next
-pub kept_then : (a b c : Session) → IsKept a b → IsKept b c → IsKept a c
-kept_then a b c one two = record {
-  hello = two.hello ∙ one.hello;
-  progress = two.progress ∙ one.progress;
-  text_limit = two.text_limit ∙ one.text_limit;
-  format = two.format ∙ one.format;
-  encodings = two.encodings ∙ one.encodings;
-  area = two.area ∙ one.area;
-  marks = two.marks ∙ one.marks;
-  hints = two.hints ∙ one.hints;
-  claim = two.claim ∙ one.claim;
-}
-
-pub kept_same : (a : Session) → IsKept a a
-kept_same a = record {
-  hello = refl;
-  progress = refl;
-  text_limit = refl;
-  format = refl;
-  encodings = refl;
-  area = refl;
-  marks = refl;
-  hints = refl;
-  claim = refl;
 }
 
 -- which cells may have such places stays where no mark changes and nothing more is asked

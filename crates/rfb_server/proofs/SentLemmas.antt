@@ -21,9 +21,9 @@ use Rattle.rfb_server.specs.Request.{wanted_at, differs}
 use Rattle.rfb_server.specs.inside.Marks.{AreAlike}
 use Rattle.rfb_server.specs.KnownScreen.{IsCaughtUp, Follows}
 use Rattle.rfb_server.specs.inside.Needs.{needs_of}
-use Rattle.rfb_server.specs.Composition.{may_send}
+use Rattle.rfb_server.specs.Composition.{may_send, IsForPixels}
 use Rattle.rfb_server.specs.Encodings.{preferred}
-use Rattle.rfb_server.specs.inside.Rectangle.{SendsRect}
+use Rattle.rfb_server.specs.inside.Rectangle.{AppendsIn, SendsRect}
 use Rattle.rfb_server.specs.inside.Sends.{SendsPixels, AppendsPixels, may_need}
 use Rattle.rfb_server.proofs.NeedingLemmas.{needed_marked}
 use Rattle.rfb_server.proofs.SendsLemmas.{noted_at}
@@ -47,21 +47,6 @@ caught_sent screen known now area form marks rect block alike size packed noted 
     by true x y old = refl
     by false x y old = old
 
--- the places of one screen
-pub alike_sent : (known now : Grid (Option ℕ)) (area : Places) (marks : Grid Bool) → IsGrid now → IsAlike known now →
-    AreAlike known area marks → AreAlike now area marks
-alike_sent known now area marks whole size alike = record {
-  known_whole = whole;
-  area_is = alike.area_is;
-  marks_whole = alike.marks_whole;
-  area_wide = alike.area_wide ∙ size.columns;
-  area_high = alike.area_high ∙ size.rows;
-  marks_wide = alike.marks_wide ∙ size.columns;
-  marks_high = alike.marks_high ∙ size.rows;
-  columns = rw (← size.columns) alike.columns;
-  rows = rw (← size.rows) alike.rows;
-}
-
 -- what was appended, in the encoding or in Raw
 pub appends_pixels : (screen : Grid Colour) (form : PixelFormat) (encodings : List Encoding) (rect : Rect)
     (encoding : Encoding) (block : Grid ℕ) (known now : Grid (Option ℕ)) (before after : List ℕ) →
@@ -70,38 +55,34 @@ pub appends_pixels : (screen : Grid Colour) (form : PixelFormat) (encodings : Li
     SendsRect form rect encoding block before after →
     (bytes : List ℕ) × (after ≡ before ++ bytes) × SendsPixels screen form encodings rect known now bytes
 appends_pixels screen form encodings rect encoding block known now before after first may sized packed
-    noted whole alike (inl (kept, a)) = (
+    noted whole alike sends = by sends
+  where
+    made : (k : Encoding) (a : AppendsIn form rect k block before after) → may_send encodings k ≡ true →
+        IsForPixels form encodings block k → SendsPixels screen form encodings rect known now a.bytes
+    made k a allowed chosen = record {
+      block = block;
+      encoding = k;
+      sized = sized;
+      packed = packed;
+      coded = a.coded;
+      may_be_sent = allowed;
+      chosen = chosen;
+      noted = noted;
+      whole = whole;
+      alike = alike;
+    }
+
+    by : SendsRect form rect encoding block before after →
+        (bytes : List ℕ) × (after ≡ before ++ bytes) × SendsPixels screen form encodings rect known now bytes
+    by (inl (kept, a)) = (
       a.bytes,
       a.appended,
-      record {
-        block = block;
-        encoding = encoding;
-        sized = sized;
-        packed = packed;
-        coded = a.coded;
-        may_be_sent = may;
-        chosen = inl (first, subst (λ (k : Encoding). GivesUp k form block → ⊥) first kept);
-        noted = noted;
-        whole = whole;
-        alike = alike;
-      },
+      made encoding a may (inl (first, subst (λ (k : Encoding). GivesUp k form block → ⊥) first kept)),
     )
-appends_pixels screen form encodings rect encoding block known now before after first may sized packed
-    noted whole alike (inr (up, a)) = (
+    by (inr (up, a)) = (
       a.bytes,
       a.appended,
-      record {
-        block = block;
-        encoding = Raw;
-        sized = sized;
-        packed = packed;
-        coded = a.coded;
-        may_be_sent = refl;
-        chosen = inr (refl, subst (λ (k : Encoding). GivesUp k form block) first up);
-        noted = noted;
-        whole = whole;
-        alike = alike;
-      },
+      made Raw a refl (inr (refl, subst (λ (k : Encoding). GivesUp k form block) first up)),
     )
 
 -- how long it is

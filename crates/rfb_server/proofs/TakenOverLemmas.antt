@@ -1,24 +1,24 @@
 -- What a session takes over of its twin's update, and what its viewer is sent by that.
-use Rattle.std.proofs.Common.{◌≡◌, ℕ, ◌<◌, ◌+◌, ◌*◌, ◌&&◌, ◌||◌, Bool}
+use Rattle.std.proofs.Common.{◌≡◌, ℕ, ◌<◌, ◌≤◌, ◌+◌, ◌*◌, ◌&&◌, ◌||◌, ◌⊎◌, Bool}
 use Rattle.std.proofs.Common.{true, false, List, [], length, Option, Some, None}
-use Rattle.std.proofs.Common.{ap, sym, subst, ◌∙◌, refl, arith, inl, inr}
+use Rattle.std.proofs.Common.{ap, sym, subst, ◌∙◌, refl, arith, inl, inr, ◌==◌}
 use Rattle.std.specs.Int.{div_ceil}
 use Rattle.std.proofs.lemmas.Bool.{cases_eq, cases_lt, both_ways, eqb-true}
-use Rattle.std.proofs.lemmas.List.{get_or_default, nil_from_length}
+use Rattle.std.proofs.lemmas.List.{nil_from_length}
 use Rattle.rfb_pixel.specs.declared.colour.Colour.{Colour}
 use Rattle.rfb_pixel.specs.Format.{PixelFormat}
 use Rattle.rfb_picture.specs.declared.rect.Rect.{Rect}
 use Rattle.rfb_picture.specs.Rect.{contains}
-use Rattle.rfb_picture.specs.Grid.{Grid, IsGrid, Holds, at_or}
+use Rattle.rfb_picture.specs.Grid.{Grid, Holds, at_or}
 use Rattle.rfb_picture.specs.Box.{is_in}
-use Rattle.rfb_picture.specs.Area.{Places, asked_at, nothing}
-use Rattle.rfb_picture.proofs.GridLaws.{contains_true, same_grid, place_below}
+use Rattle.rfb_picture.specs.Area.{Places, asked_at, whole_at, nothing}
+use Rattle.rfb_picture.proofs.GridLaws.{contains_true}
 use Rattle.rfb_server.specs.declared.session.Session.{Session}
 use Rattle.rfb_server.specs.Cells.{cell_of, IsCell}
 use Rattle.rfb_server.specs.KnownScreen.{Follows, IsCaughtUp}
 use Rattle.rfb_server.specs.Record.{AreKnown}
 use Rattle.rfb_server.specs.Request.{wanted_at}
-use Rattle.rfb_server.specs.inside.Sends.{NoneMayNeed, may_need, IsKept}
+use Rattle.rfb_server.specs.inside.Sends.{NoneMayNeed, may_need, IsKept, IsNext}
 use Rattle.rfb_server.specs.inside.Twins.{IsKnownAlike, ShowsAll, TakesSome, Agree}
 use Rattle.rfb_hello.specs.declared.server_hello.ServerHello.{ServerHello}
 use Rattle.rfb_wire.specs.stream.Sequel.{Second}
@@ -26,10 +26,8 @@ use Rattle.rfb_server.specs.declared.hint.Hint.{Hint}
 use Rattle.rfb_server.specs.declared.session.input.progress.Progress.{Progress}
 use Rattle.rfb_server.specs.declared.session.input.progress.Progress.TheVariants.{Handshake, Head, Encodings, CutText}
 use Rattle.rfb_server.specs.declared.session.input.progress.Progress.TheVariants.{Failed}
-use Rattle.rfb_server.specs.ClientBytes.{ClientAt}
-use Rattle.rfb_server.specs.Composition.{Composes, IsDue}
 use Rattle.rfb_server.specs.Hints.{hints_in}
-use Rattle.rfb_server.specs.Model.{Notes, SessionStandsFor, session_serving}
+use Rattle.rfb_server.specs.Model.{Notes, SessionStandsFor, notes_in, session_serving}
 use Rattle.rfb_server.specs.declared.fault.ServerFault.{ServerFault}
 use Rattle.rfb_server.specs.declared.late.entrance.Entrance.{Entrance}
 use Rattle.rfb_server.specs.Late.{entered}
@@ -38,12 +36,13 @@ use Rattle.rfb_server.specs.Progress.{is_ready, is_idle, fault_in, ProgressStand
 use Rattle.rfb_server.specs.Server.{Serving, ServerState}
 use Rattle.rfb_server.specs.Twins.{AreTwins, HasSentTwin}
 use Rattle.rfb_server.specs.UpdateCall.{HasSent, SendsUpdate}
-use Rattle.rfb_server.specs.UsedHints.{AreUsed, usable}
 use Rattle.rfb_server.specs.inside.Twins.{HasTakenOver}
+use Rattle.rfb_server.specs.inside.Composed.{IsUpdate}
 use Rattle.rfb_server.specs.inside.Sends.{state_of}
 use Rattle.rfb_server.proofs.ComposesLemmas.{all_cells}
+use Rattle.rfb_server.proofs.RecordLemmas.{same_values}
 use Rattle.rfb_server.proofs.ServerLaws.{same_notes}
-use Rattle.rfb_server.proofs.UpdatingLemmas.{same_state, state_is, point_ready, ready_point}
+use Rattle.rfb_server.proofs.UpdatingLemmas.{same_state, state_is, ready_point, stands_anew, update_sent, sent_update}
 
 -- ---- cell by cell
 
@@ -141,7 +140,7 @@ taken_all screen first mid sent n about asked kept wide high wide_too high_too s
 pub caught_by : (screen : Grid Colour) (first mid : Session) → Follows screen first → IsKept first mid →
     ShowsAll screen first.format mid.known → IsCaughtUp screen mid.known mid.area mid.format mid.marks
 caught_by screen first mid about kept shown = record {
-  right = λ x y p q e. rw (kept.format)
+  right = λ x y p q e. rw (kept.setting.format)
       (shown x y (rw (← mid.alike.marks_wide) p) (rw (← mid.alike.marks_high) q));
   not_whole = λ x y p q e.
       rw (kept.area) (about.caught_up.not_whole x y (rw (← kept.marks) p) (rw (← kept.marks) q)
@@ -149,16 +148,6 @@ caught_by screen first mid about kept shown = record {
 }
 
 -- ---- what twins are
-
-same_known : (g k : Grid (Option ℕ)) → IsGrid g → IsGrid k → g.width ≡ k.width → g.height ≡ k.height →
-    ((x y : ℕ) → x < g.width → y < g.height → IsKnownAlike g k x y) → g ≡ k
-same_known g k whole whole_too wide high same =
-    same_grid g k whole whole_too wide high (λ x y d p q.
-    let p' : x < k.width = rw (← wide) p in
-    let q' : y < k.height = rw (← high) q in
-    get_or_default g.places (y * g.width + x) d None (rw whole (place_below g.width g.height x y p q))
-    ∙ (same x y p q
-    ∙ sym (get_or_default k.places (y * k.width + x) d None (rw whole_too (place_below k.width k.height x y p' q')))))
 
 none_of : (a b c d : Bool) → ((a && b) || (c && d)) ≡ false → b ≡ true → d ≡ true →
     (a ≡ false) × (c ≡ false)
@@ -177,7 +166,7 @@ pub twins_know : (screen : Grid Colour) (one other : Session) → Follows screen
 twins_know screen one other about about_too form area asked agree =
     let wide : one.known.width ≡ other.known.width = sym about.alike.columns ∙ about_too.alike.columns in
     let high : one.known.height ≡ other.known.height = sym about.alike.rows ∙ about_too.alike.rows in
-    same_known one.known other.known one.alike.known_whole other.alike.known_whole wide high (λ x y p q.
+    same_values None one.known other.known one.alike.known_whole other.alike.known_whole wide high (λ x y p q.
     by x y p q (rw (← wide) p) (rw (← high) q)
     (may_need one.marks one.area x y || may_need other.marks other.area x y) refl)
   where
@@ -295,48 +284,25 @@ module _ (screen : Grid Colour) (session was sent : Session) (before after : Lis
   -- so one that takes it over is sent that update too
   pub sends_too : (new : Session) → HasTakenOver screen session new → SendsUpdate screen session new before after
   sends_too new taken = record {
-    fault_is = ap fault_in taken.progress;
-    made_is = rw (taken.hello, taken.text_limit) refl;
+    fault_is = ap fault_in taken.setting.progress;
+    made_is = rw (taken.setting.hello, taken.setting.text_limit) refl;
     sent = λ serving s prefix stands.
         let is : s ≡ state_of screen was = state_is serving screen session s prefix twin.ready stands
         ∙ same_before in
-        let point = point_ready serving session.hello session.progress s.point prefix twin.ready stands.progress_is in
-        let both : (c : Composes s (state_of screen new) made.bytes made.copies made.blocks)
-        × AreUsed s (usable s (hints_in session)) c.moves =
-        subst (λ (t : ServerState). (c : Composes t (state_of screen new) made.bytes made.copies made.blocks)
-        × AreUsed t (usable t (hints_in session)) c.moves) (sym is)
-        (subst (λ (r : ServerState). (c : Composes (state_of screen was) r made.bytes made.copies made.blocks)
-        × AreUsed (state_of screen was) (usable (state_of screen was) (hints_in session)) c.moves) result_is (
-          made.composes,
-          subst (λ (h : List Hint). AreUsed (state_of screen was) (usable (state_of screen was) h)
-              made.composes.moves) (sym twin.hints_are) made.used,
-        )) in
-        record {
-          due = subst (λ (t : ServerState). IsDue t) (sym is) made.due;
-          resulting = state_of screen new;
-          bytes = made.bytes;
-          copies = made.copies;
-          blocks = made.blocks;
-          appended = made.appended;
-          composes = both.0;
-          used = both.1;
-          stands = record {
-            setup_is = rw (taken.hello) stands.setup_is;
-            limit_is = taken.text_limit ∙ stands.limit_is;
-            progress_is = rw (taken.hello, taken.progress) (subst (λ (p : ClientAt). ProgressStandsFor serving
-                session.hello session.progress p prefix) point stands.progress_is);
-            screen_is = refl;
-            known_is = refl;
-            area_is = refl;
-            form_is = refl;
-            encodings_are = refl;
-          };
-        };
+        let first : IsUpdate (state_of screen was) (state_of screen new) (hints_in was) before after =
+        subst (λ (r : ServerState). IsUpdate (state_of screen was) r (hints_in was) before after) result_is
+        (update_sent (session_serving was) (state_of screen was) [] (hints_in was) screen sent before after made) in
+        sent_update serving s prefix (hints_in session) screen new before after
+        (subst (λ (h : List Hint). IsUpdate s (state_of screen new) h before after) (sym twin.hints_are)
+        (subst (λ (t : ServerState). IsUpdate t (state_of screen new) (hints_in was) before after) (sym is) first))
+        (stands_anew serving screen session new s prefix twin.ready taken.setting.hello taken.setting.progress
+        taken.setting.text_limit stands);
   }
     where
       known_now : made.resulting.known ≡ new.known
       known_now = made.stands.known_is
-          ∙ same_known sent.known new.known sent.alike.known_whole new.alike.known_whole (wide ∙ sym taken.width)
+          ∙ same_values None sent.known new.known sent.alike.known_whole new.alike.known_whole
+          (wide ∙ sym taken.width)
           (high ∙ sym taken.height) (λ x y p q. leaves_all.shown x y p q
           ∙ sym (taken.shown x y (rw (taken.width, ← wide) p) (rw (taken.height, ← high) q)))
 
@@ -346,8 +312,8 @@ module _ (screen : Grid Colour) (session was sent : Session) (before after : Lis
           made.resulting.area new.area made.resulting.form new.format made.resulting.encodings new.encodings
           made.composes.same_point made.stands.screen_is known_now
           (made.composes.emptied ∙ (ap (λ (a : Places). nothing a) (sym area_is) ∙ sym taken.area))
-          (made.composes.same_format ∙ (sym form_is ∙ sym taken.format))
-          (made.composes.same_encodings ∙ (sym list_is ∙ sym taken.encodings))
+          (made.composes.same_format ∙ (sym form_is ∙ sym taken.setting.format))
+          (made.composes.same_encodings ∙ (sym list_is ∙ sym taken.setting.encodings))
 
 -- ---- before the handshake is done
 

@@ -6,20 +6,20 @@ use Rattle.std.specs.Int.{div_ceil}
 use Rattle.std.specs.Option.{is_some}
 use Rattle.std.proofs.lemmas.Bool.{cases_eq, cases_lt, both_ways}
 use Rattle.std.proofs.lemmas.Bool.Decides.{nat_tests}
-use Rattle.std.proofs.lemmas.List.{get_or_default}
 use Rattle.rfb_picture.specs.declared.rect.Rect.{Rect}
 use Rattle.rfb_picture.specs.Rect.{contains, rect}
-use Rattle.rfb_picture.specs.Grid.{Grid, IsGrid}
+use Rattle.rfb_picture.specs.Grid.{Grid}
 use Rattle.rfb_picture.specs.Box.{is_in, HasBox, IsBox, IsClear}
 use Rattle.rfb_picture.specs.Area.{Places, asked_at}
 use Rattle.rfb_picture.specs.CellOrder.{NoneInCells, HasNextCell, cells_in}
 use Rattle.rfb_picture.specs.Places.{AllMarked}
-use Rattle.rfb_picture.proofs.GridLaws.{contains_true, same_grid, place_below}
+use Rattle.rfb_picture.proofs.GridLaws.{contains_true}
 use Rattle.rfb_server.specs.declared.session.Session.{Session}
 use Rattle.rfb_server.specs.Cells.{cell_of, IsCell}
 use Rattle.rfb_server.specs.inside.Sends.{NoneMayNeed, HasNext}
 use Rattle.rfb_server.specs.inside.Twins.{Agree, AgreeIn, AgreeBelow, AsksAll, AreKnownAlike, IsKnownAlike}
 use Rattle.rfb_server.proofs.ComposesLemmas.{all_cells}
+use Rattle.rfb_server.proofs.RecordLemmas.{same_values}
 use Rattle.rfb_server.proofs.AlikeLemmas.{no_either}
 
 -- ---- what is marked
@@ -123,17 +123,6 @@ asks_by s whole w h None none unset wide high asked next e f =
 asks_by s whole w h (Some cell) none unset wide high asked next e f =
     absurd (both_ways (not none) (rw f refl) (sym e))
 
-same_mark : (g k : Grid Bool) → IsGrid g → IsGrid k → g.width ≡ k.width → g.height ≡ k.height →
-    ((x y : ℕ) → x < g.width → y < g.height → is_in g x y ≡ is_in k x y) → g ≡ k
-same_mark g k whole whole_too wide high same =
-    same_grid g k whole whole_too wide high (λ x y d p q.
-    let p' : x < k.width = rw (← wide) p in
-    let q' : y < k.height = rw (← high) q in
-    get_or_default g.places (y * g.width + x) d false (rw whole (place_below g.width g.height x y p q))
-    ∙ (same x y p q
-    ∙ sym (get_or_default k.places (y * k.width + x) d false
-    (rw whole_too (place_below k.width k.height x y p' q')))))
-
 abbrev places_of : Grid Bool → Grid Bool → Places
 places_of asked whole = record { asked = asked; whole = whole }
 
@@ -145,7 +134,7 @@ pub same_asked : (one other : Session) (whole : Bool) → one.known.width ≡ ot
     one.known.height ≡ other.known.height → AsksAll whole one → AsksAll whole other → one.area ≡ other.area
 same_asked one other whole wide high all all_too =
     let asked : one.area.asked ≡ other.area.asked =
-    same_mark one.area.asked other.area.asked one.alike.area_is.asks other.alike.area_is.asks
+    same_values false one.area.asked other.area.asked one.alike.area_is.asks other.alike.area_is.asks
     (one.alike.area_wide ∙ (wide ∙ sym other.alike.area_wide))
     (one.alike.area_high ∙ (high ∙ sym other.alike.area_high))
     (λ x y p q.
@@ -153,7 +142,7 @@ same_asked one other whole wide high all all_too =
     let q' : y < one.known.height = rw (← one.alike.area_high) q in
     (all x y p' q').0 ∙ sym (all_too x y (rw (← wide) p') (rw (← high) q')).0) in
     let wholes : one.area.whole ≡ other.area.whole =
-    same_mark one.area.whole other.area.whole one.alike.area_is.wholes other.alike.area_is.wholes
+    same_values false one.area.whole other.area.whole one.alike.area_is.wholes other.alike.area_is.wholes
     (one.alike.area_is.wide ∙
     (one.alike.area_wide ∙ (wide ∙ (sym other.alike.area_wide ∙ sym other.alike.area_is.wide))))
     (one.alike.area_is.high ∙

@@ -33,9 +33,10 @@ use Rattle.rfb_server.specs.UsedHints.{AreUsed, usable}
 use Rattle.rfb_server.proofs.ClaimLemmas.{nothing_claimed}
 use Rattle.rfb_server.proofs.UsingLemmas.{used_all}
 use Rattle.rfb_server.specs.Progress.{is_ready}
-use Rattle.rfb_server.specs.inside.Composed.{HasComposed, StaysIdle, IsSettled, IsCounted}
+use Rattle.rfb_server.specs.inside.Composed.{IsUpdate, HasComposed, StaysIdle, IsSettled, IsCounted}
 use Rattle.rfb_server.proofs.NeedingLemmas.{differs_not}
-use Rattle.rfb_server.proofs.SentCells.{kept_then, quiet_unless}
+use Rattle.rfb_server.proofs.KeptLemmas.{setting_then, kept_then}
+use Rattle.rfb_server.proofs.SentCells.{quiet_unless}
 use Rattle.rfb_server.proofs.CellLemmas.{place_cell}
 use Rattle.rfb_server.proofs.RoomLemmas.{none_without_room}
 use Rattle.rfb_server.proofs.CopyingLemmas.{copied_due, none_copied}
@@ -162,7 +163,8 @@ alike_settled known area marks alike = record {
 state_settled : (screen : Grid Colour) (old mid new : Session) → IsKept old mid → IsSettled mid new →
     state_of screen new ≡ record (state_of screen old) { known = mid.known; area = nothing old.area }
 state_settled screen old mid new kept settled =
-    rw (settled.known, settled.area, settled.format, settled.encodings, kept.area, kept.format, kept.encodings) refl
+    let setting = setting_then old mid new kept.setting settled.setting in
+    rw (settled.known, settled.area, setting.format, setting.encodings, kept.area) refl
 
 -- the size of what is known is that of the screen
 sends_here : (screen : Grid Colour) (old mid : Session) (parts : List Part) (bytes : List ℕ) → Follows screen old →
@@ -185,7 +187,7 @@ pub about_updated : (screen : Grid Colour) (old mid new : Session) (before after
 about_updated screen old mid new before after count about unclaimed later kept cells settled = record {
   whole = later.whole;
   alike = rw (settled.known) later.alike;
-  caught_up = rw (settled.known, settled.area, settled.format, settled.marks)
+  caught_up = rw (settled.known, settled.area, settled.setting.format, settled.marks)
       (caught_settled screen mid.known mid.area mid.format mid.marks mid.alike later.caught_up
       (λ x y p q asked.
       let p' : x < screen.width = rw (later.alike.columns) p in
@@ -193,7 +195,7 @@ about_updated screen old mid new before after count about unclaimed later kept c
       let p'' : x < old.known.width = rw (← about.alike.columns) p' in
       let q'' : y < old.known.height = rw (← about.alike.rows) q' in
       let asked' : is_in old.area.asked x y ≡ true = rw (kept.area) at asked in
-      rw (kept.format)
+      rw (kept.setting.format)
       (cells.sent.answered x y (p', q') (all_cells old.known.width old.known.height x y p'' q'') asked')));
   claimed = nothing_claimed screen new.known new.format new.claim (settled.claim ∙ (kept.claim ∙ unclaimed));
 }
@@ -235,7 +237,7 @@ pub enough_kept : (old mid : Session) (room : ℕ) → IsKept old mid → IsAlik
     IsEnough mid (div_ceil mid.known.width 64) (div_ceil mid.known.width 64 * div_ceil mid.known.height 64) room
 enough_kept old mid room kept alike enough = record {
   cost = enough.cost;
-  costs = rw (kept.marks, kept.area, kept.format, ← alike.columns, ← alike.rows) enough.costs;
+  costs = rw (kept.marks, kept.area, kept.setting.format, ← alike.columns, ← alike.rows) enough.costs;
   sum_is = rw (← alike.columns, ← alike.rows) enough.sum_is;
 }
 
@@ -253,6 +255,9 @@ module _ (screen : Grid Colour) (old mid sent : Session) (before middle after : 
       subst (λ (t : ServerState). Sends (div_ceil screen.width 64)
       (div_ceil screen.width 64 * div_ceil screen.height 64) t sent.known cells.parts cells.bytes)
       (state_copied screen old mid kept) (sends_here screen mid sent cells.parts cells.bytes aware cells.sent)
+
+  both_kept : IsKept old sent
+  both_kept = kept_then old mid sent kept kept_on
 
   -- all that was appended
   pub sent_whole : after ≡ before ++ (0 ∷ 0 ∷ 0 ∷ 0 ∷ (copies.bytes ++ cells.bytes))
@@ -293,26 +298,29 @@ module _ (screen : Grid Colour) (old mid sent : Session) (before middle after : 
       copies.copies cells.parts) × (c.moves ≡ copies.moves) =
       subst (λ (t : ServerState). (c : Composes (state_of screen old) t (head ++ (copies.bytes ++ cells.bytes))
       copies.copies cells.parts) × (c.moves ≡ copies.moves))
-      (sym (state_settled screen old sent new (kept_then old mid sent kept kept_on) settled))
+      (sym (state_settled screen old sent new both_kept settled))
       (composes (state_of screen old) copies.moves copies.copies cells.parts mid.known sent.known
       head copies.bytes cells.bytes
       old.alike.area_is (old.alike.area_wide ∙ sym about.alike.columns) (old.alike.area_high ∙ sym about.alike.rows)
       copies.taken sends head_is) in
+      let whole_way = setting_then old sent new both_kept.setting settled.setting in
       record {
         ready = ready;
-        due = due_by copies.moves copies.copies copies.taken
-            (λ none. some (omega (arith, none, copies.count_is, cells.count_is)));
-        bytes = head ++ (copies.bytes ++ cells.bytes);
-        copies = copies.copies;
-        blocks = cells.parts;
-        appended = is;
-        composes = made.0;
-        used = subst (λ (moves : List Move). AreUsed (state_of screen old)
-            (usable (state_of screen old) old.hints.items) moves) (sym made.1)
-            (used_all (state_of screen old) old.hints.items copies.moves copies.used);
-        hello = settled.hello ∙ (kept_on.hello ∙ kept.hello);
-        progress = settled.progress ∙ (kept_on.progress ∙ kept.progress);
-        text_limit = settled.text_limit ∙ (kept_on.text_limit ∙ kept.text_limit);
+        update = record {
+          due = due_by copies.moves copies.copies copies.taken
+              (λ none. some (omega (arith, none, copies.count_is, cells.count_is)));
+          bytes = head ++ (copies.bytes ++ cells.bytes);
+          copies = copies.copies;
+          blocks = cells.parts;
+          appended = is;
+          composes = made.0;
+          used = subst (λ (moves : List Move). AreUsed (state_of screen old)
+              (usable (state_of screen old) old.hints.items) moves) (sym made.1)
+              (used_all (state_of screen old) old.hints.items copies.moves copies.used);
+        };
+        hello = whole_way.hello;
+        progress = whole_way.progress;
+        text_limit = whole_way.text_limit;
         hints = settled.hints;
       }
 
@@ -332,16 +340,8 @@ module _ (screen : Grid Colour) (old mid sent : Session) (before middle after : 
       record {
         not_due = λ ready. idle_not_due (state_of screen old) sent.known cells.bytes quiet;
         appended = same;
-        same = record {
-          hello = kept_on.hello ∙ kept.hello;
-          progress = kept_on.progress ∙ kept.progress;
-          text_limit = kept_on.text_limit ∙ kept.text_limit;
-          format = kept_on.format ∙ kept.format;
-          encodings = kept_on.encodings ∙ kept.encodings;
-          known = quiet.idle refl;
-          area = kept_on.area ∙ kept.area;
-        };
-        hints = kept_on.hints ∙ kept.hints;
+        same = record { setting = both_kept.setting; known = quiet.idle refl; area = both_kept.area };
+        hints = both_kept.hints;
       }
 
 -- ---- marks
@@ -351,26 +351,14 @@ pub composed_same : (screen : Grid Colour) (old mid new : Session) (before after
     IsSame old mid → mid.hints ≡ old.hints →
     HasComposed screen mid new before after → HasComposed screen old new before after
 composed_same screen old mid new before after same hints done =
-    let is = state_same screen old mid same in
-    let made : (c : Composes (state_of screen old) (state_of screen new) done.bytes done.copies done.blocks)
-    × AreUsed (state_of screen old) (usable (state_of screen old) old.hints.items) c.moves =
-    subst (λ (kept : Buffer Hint).
-    (c : Composes (state_of screen old) (state_of screen new) done.bytes done.copies done.blocks)
-    × AreUsed (state_of screen old) (usable (state_of screen old) kept.items) c.moves) hints
-    (subst (λ (t : ServerState). (c : Composes t (state_of screen new) done.bytes done.copies done.blocks)
-    × AreUsed t (usable t mid.hints.items) c.moves) is
-    (done.composes, done.used)) in
     record {
-      ready = rw (← same.progress) done.ready;
-      due = subst (λ (t : ServerState). IsDue t) is done.due;
-      bytes = done.bytes;
-      copies = done.copies;
-      blocks = done.blocks;
-      appended = done.appended;
-      composes = made.0;
-      used = made.1;
-      hello = done.hello ∙ same.hello;
-      progress = done.progress ∙ same.progress;
-      text_limit = done.text_limit ∙ same.text_limit;
+      ready = rw (← same.setting.progress) done.ready;
+      update = subst (λ (kept : Buffer Hint).
+          IsUpdate (state_of screen old) (state_of screen new) kept.items before after) hints
+          (subst (λ (t : ServerState). IsUpdate t (state_of screen new) mid.hints.items before after)
+          (state_same screen old mid same) done.update);
+      hello = done.hello ∙ same.setting.hello;
+      progress = done.progress ∙ same.setting.progress;
+      text_limit = done.text_limit ∙ same.setting.text_limit;
       hints = done.hints;
     }

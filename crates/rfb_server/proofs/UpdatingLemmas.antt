@@ -9,6 +9,7 @@ use Rattle.rfb_picture.specs.Area.{Places}
 use Rattle.rfb_wire.specs.declared.encoding.Encoding.{Encoding}
 use Rattle.rfb_wire.specs.stream.Sequel.{First, Second}
 use Rattle.rfb_hello.specs.declared.server_hello.ServerHello.{ServerHello}
+use Rattle.rfb_server.specs.declared.hint.Hint.{Hint}
 use Rattle.rfb_server.specs.declared.session.Session.{Session}
 use Rattle.rfb_server.specs.declared.server.Server.{Server}
 use Rattle.rfb_server.specs.declared.session.input.progress.Progress.{Progress}
@@ -19,12 +20,12 @@ use Rattle.rfb_server.specs.Server.{Serving, ServerState}
 use Rattle.rfb_server.specs.Progress.{ProgressStandsFor, is_ready, fault_in}
 use Rattle.rfb_server.specs.Model.{SessionStandsFor, KeepsSession, Draws, with_screen}
 use Rattle.rfb_server.specs.inside.Sessions.{IsSame}
-use Rattle.rfb_server.specs.Composition.{Composes, IsDue}
+use Rattle.rfb_server.specs.Composition.{IsDue}
 use Rattle.rfb_server.specs.Hints.{hints_in}
-use Rattle.rfb_server.specs.UsedHints.{AreUsed, usable}
 use Rattle.rfb_server.specs.inside.Sends.{state_of}
-use Rattle.rfb_server.specs.inside.Composed.{IsAwaited, HasComposed, StaysIdle}
-use Rattle.rfb_server.specs.UpdateCall.{SendsUpdate, OwesUpdate, OwesNone, NoneDue}
+use Rattle.rfb_server.specs.inside.Composed.{IsAwaited, IsUpdate, HasComposed, StaysIdle}
+use Rattle.rfb_server.specs.UpdateCall.{HasSent, SendsUpdate, OwesUpdate, OwesNone, NoneDue}
+use Rattle.rfb_server.proofs.KeptLemmas.{setting_back}
 use Rattle.rfb_server.proofs.ServerLaws.{session_over, same_notes}
 
 -- a session that is ready stands between messages, or in one
@@ -82,17 +83,18 @@ state_is serving screen session s prefix ready stands =
     (point_ready serving session.hello session.progress s.point prefix ready stands.progress_is) stands.screen_is
     stands.known_is stands.area_is stands.form_is stands.encodings_are
 
--- a session that has composed stands for what that leaves
-pub stands_composed : (serving : Serving) (screen : Grid Colour) (old new : Session) (s : ServerState)
-    (prefix before after : List ℕ) →
-    HasComposed screen old new before after → SessionStandsFor serving screen old s prefix →
-    SessionStandsFor serving screen new (state_of screen new) prefix
-stands_composed serving screen old new s prefix before after done stands =
-    let point = point_ready serving old.hello old.progress s.point prefix done.ready stands.progress_is in
+-- a session that is ready, and keeps its handshake and its progress, stands for its own state
+pub stands_anew : (serving : Serving) (screen : Grid Colour) (old new : Session) (s : ServerState)
+    (prefix : List ℕ) →
+    is_ready old.progress ≡ true → new.hello ≡ old.hello → new.progress ≡ old.progress →
+    new.text_limit ≡ old.text_limit →
+    SessionStandsFor serving screen old s prefix → SessionStandsFor serving screen new (state_of screen new) prefix
+stands_anew serving screen old new s prefix ready hello progress limit stands =
+    let point = point_ready serving old.hello old.progress s.point prefix ready stands.progress_is in
     record {
-      setup_is = rw (done.hello) stands.setup_is;
-      limit_is = done.text_limit ∙ stands.limit_is;
-      progress_is = rw (done.hello, done.progress) (subst
+      setup_is = rw hello stands.setup_is;
+      limit_is = limit ∙ stands.limit_is;
+      progress_is = rw (hello, progress) (subst
           (λ (p : ClientAt). ProgressStandsFor serving old.hello old.progress p prefix) point stands.progress_is);
       screen_is = refl;
       known_is = refl;
@@ -105,14 +107,45 @@ stands_composed serving screen old new s prefix before after done stands =
 stands_same : (serving : Serving) (screen : Grid Colour) (old new : Session) (s : ServerState) (prefix : List ℕ) →
     IsSame old new → SessionStandsFor serving screen old s prefix → SessionStandsFor serving screen new s prefix
 stands_same serving screen old new s prefix same stands = record {
-  setup_is = rw (same.hello) stands.setup_is;
-  limit_is = same.text_limit ∙ stands.limit_is;
-  progress_is = rw (same.hello, same.progress) stands.progress_is;
+  setup_is = rw (same.setting.hello) stands.setup_is;
+  limit_is = same.setting.text_limit ∙ stands.limit_is;
+  progress_is = rw (same.setting.hello, same.setting.progress) stands.progress_is;
   screen_is = stands.screen_is;
   known_is = stands.known_is ∙ sym same.known;
   area_is = stands.area_is ∙ sym same.area;
-  form_is = stands.form_is ∙ sym same.format;
-  encodings_are = stands.encodings_are ∙ sym same.encodings;
+  form_is = stands.form_is ∙ sym same.setting.format;
+  encodings_are = stands.encodings_are ∙ sym same.setting.encodings;
+}
+
+-- what was sent is an update
+pub update_sent : (serving : Serving) (s : ServerState) (prefix : List ℕ) (hints : List Hint) (screen : Grid Colour)
+    (new : Session) (before after : List ℕ) (sent : HasSent serving s prefix hints screen new before after) →
+    IsUpdate s sent.resulting hints before after
+update_sent serving s prefix hints screen new before after sent = record {
+  due = sent.due;
+  bytes = sent.bytes;
+  copies = sent.copies;
+  blocks = sent.blocks;
+  appended = sent.appended;
+  composes = sent.composes;
+  used = sent.used;
+}
+
+-- and an update was sent
+pub sent_update : (serving : Serving) (s : ServerState) (prefix : List ℕ) (hints : List Hint) (screen : Grid Colour)
+    (new : Session) (before after : List ℕ) → IsUpdate s (state_of screen new) hints before after →
+    SessionStandsFor serving screen new (state_of screen new) prefix →
+    HasSent serving s prefix hints screen new before after
+sent_update serving s prefix hints screen new before after update stands = record {
+  due = update.due;
+  resulting = state_of screen new;
+  bytes = update.bytes;
+  copies = update.copies;
+  blocks = update.blocks;
+  appended = update.appended;
+  composes = update.composes;
+  used = update.used;
+  stands = stands;
 }
 
 -- a session that has composed has sent an update
@@ -122,42 +155,25 @@ sends screen old new before after done = record {
   fault_is = ap fault_in done.progress;
   made_is = rw (done.hello, done.text_limit) refl;
   sent = λ serving s prefix stands.
-      let is = state_is serving screen old s prefix done.ready stands in
-      let made : (c : Composes s (state_of screen new) done.bytes done.copies done.blocks)
-      × AreUsed s (usable s (hints_in old)) c.moves =
-      subst (λ (t : ServerState). (c : Composes t (state_of screen new) done.bytes done.copies done.blocks)
-      × AreUsed t (usable t (hints_in old)) c.moves) (sym is)
-      (done.composes, done.used) in
-      record {
-        due = subst (λ (t : ServerState). IsDue t) (sym is) done.due;
-        resulting = state_of screen new;
-        bytes = done.bytes;
-        copies = done.copies;
-        blocks = done.blocks;
-        appended = done.appended;
-        composes = made.0;
-        used = made.1;
-        stands = stands_composed serving screen old new s prefix before after done stands;
-      };
+      sent_update serving s prefix (hints_in old) screen new before after
+      (subst (λ (t : ServerState). IsUpdate t (state_of screen new) (hints_in old) before after)
+      (sym (state_is serving screen old s prefix done.ready stands)) done.update)
+      (stands_anew serving screen old new s prefix done.ready done.hello done.progress done.text_limit stands);
 }
 
 -- one that is the same but for marks and hints is as it was
 pub keeps_session : (old new : Session) → IsSame old new → KeepsSession old new
 keeps_session old new same = record {
-  fault_is = ap fault_in same.progress;
-  made_is = rw (same.hello, same.text_limit) refl;
+  fault_is = ap fault_in same.setting.progress;
+  made_is = rw (same.setting.hello, same.setting.text_limit) refl;
   notes_are = same_notes new.known old.known new.area old.area new.format old.format new.encodings old.encodings
-      same.known same.area same.format same.encodings;
+      same.known same.area same.setting.format same.setting.encodings;
   stands = λ serving screen s prefix stands. stands_same serving screen old new s prefix same stands;
 }
 
 same_back : (old new : Session) → IsSame old new → IsSame new old
 same_back old new same = record {
-  hello = sym same.hello;
-  progress = sym same.progress;
-  text_limit = sym same.text_limit;
-  format = sym same.format;
-  encodings = sym same.encodings;
+  setting = setting_back old new same.setting;
   known = sym same.known;
   area = sym same.area;
 }
@@ -226,7 +242,8 @@ pub appends : {E : Type 0} (screen : Grid Colour) (old new : Session) (before af
     IfOk result (λ did. did ≡ true → HasComposed screen old new before after) →
     IfOk result (λ did. did ≡ false → StaysIdle screen old new before after) →
     OnErr result (after ≡ before) → (bytes : List ℕ) × (after ≡ before ++ bytes)
-appends screen old new before after (Ok true) composed idle kept = ((composed refl).bytes, (composed refl).appended)
+appends screen old new before after (Ok true) composed idle kept =
+    ((composed refl).update.bytes, (composed refl).update.appended)
 appends screen old new before after (Ok false) composed idle kept =
     ([], (idle refl).appended ∙ sym (append-nil before))
 appends screen old new before after (Err error) composed idle kept = ([], kept ∙ sym (append-nil before))

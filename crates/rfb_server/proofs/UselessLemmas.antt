@@ -22,7 +22,7 @@ module _ (screen : Grid Colour) (old new : Session) (kept : IsKept old new)
   -- what is of use to a session is so to another one that has all but its stage
   useful_still : (hint : Hint) → IsUseful screen new hint → IsUseful screen old hint
   useful_still hint useful = record {
-    gain = rw (← known, ← kept.area, ← kept.format, ← kept.encodings) useful.gain;
+    gain = rw (← known, ← kept.area, ← kept.setting.format, ← kept.setting.encodings) useful.gain;
     free = record {
       asked = rw (← kept.area) useful.free.asked;
       not_whole = rw (← kept.area) useful.free.not_whole;

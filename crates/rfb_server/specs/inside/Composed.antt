@@ -5,11 +5,13 @@ use Rattle.rfb_picture.specs.Grid.{Grid}
 use Rattle.rfb_picture.specs.Area.{nothing}
 use Rattle.rfb_picture.specs.Places.{without}
 use Rattle.rfb_wire.specs.ServerHead.{SpellsUpdate}
+use Rattle.rfb_server.specs.declared.hint.Hint.{Hint}
 use Rattle.rfb_server.specs.declared.session.Session.{Session}
+use Rattle.rfb_server.specs.Server.{ServerState}
 use Rattle.rfb_server.specs.Progress.{is_ready}
 use Rattle.rfb_server.specs.Composition.{Part, Composes, IsDue}
 use Rattle.rfb_server.specs.UsedHints.{AreUsed, usable}
-use Rattle.rfb_server.specs.inside.Sessions.{IsSame}
+use Rattle.rfb_server.specs.inside.Sessions.{KeepsSetting, IsSame}
 use Rattle.rfb_server.specs.inside.Sends.{state_of}
 
 -- an update is due
@@ -17,18 +19,23 @@ pub record IsAwaited (screen : Grid Colour) (session : Session) : Type 0 where
   pub ready : is_ready session.progress ≡ true
   pub due : IsDue (state_of screen session)
 
--- an update was due and was appended, and no hint is kept; the rest of the session is as it was
-pub record HasComposed (screen : Grid Colour) (old new : Session)
-    (before after : List ℕ) : Type 0 where
-  pub ready : is_ready old.progress ≡ true
-  pub due : IsDue (state_of screen old)
+-- an update was due and was appended, which leaves the other state; its copies are those of the
+-- hints that are of use
+pub record IsUpdate (old new : ServerState) (hints : List Hint) (before after : List ℕ)
+    : Type 0 where
+  pub due : IsDue old
   pub bytes : List ℕ
   pub copies : List Part
   pub blocks : List Part
   pub appended : after ≡ before ++ bytes
-  pub composes : Composes (state_of screen old) (state_of screen new) bytes copies blocks
-  pub used : AreUsed (state_of screen old) (usable (state_of screen old) old.hints.items)
-      composes.moves
+  pub composes : Composes old new bytes copies blocks
+  pub used : AreUsed old (usable old hints) composes.moves
+
+-- such an update was appended, and no hint is kept; the rest of the session is as it was
+pub record HasComposed (screen : Grid Colour) (old new : Session)
+    (before after : List ℕ) : Type 0 where
+  pub ready : is_ready old.progress ≡ true
+  pub update : IsUpdate (state_of screen old) (state_of screen new) old.hints.items before after
   pub hello : new.hello ≡ old.hello
   pub progress : new.progress ≡ old.progress
   pub text_limit : new.text_limit ≡ old.text_limit
@@ -44,11 +51,7 @@ pub record StaysIdle (screen : Grid Colour) (old new : Session)
 
 -- nothing is asked any more, what was is not marked, and no hint is kept
 pub record IsSettled (old new : Session) : Type 0 where
-  pub hello : new.hello ≡ old.hello
-  pub progress : new.progress ≡ old.progress
-  pub text_limit : new.text_limit ≡ old.text_limit
-  pub format : new.format ≡ old.format
-  pub encodings : new.encodings ≡ old.encodings
+  pub setting : KeepsSetting old new
   pub known : new.known ≡ old.known
   pub area : new.area ≡ nothing old.area
   pub marks : new.marks ≡ without old.area.asked old.marks

@@ -18,6 +18,7 @@ use Rattle.rfb_server.specs.declared.session.Session.{Session}
 use Rattle.rfb_server.specs.Server.{ServerState}
 use Rattle.rfb_server.specs.Request.{wanted, recorded, is_asked, is_whole}
 use Rattle.rfb_server.specs.inside.Needs.{HasBox, needs_of}
+use Rattle.rfb_server.specs.inside.Sessions.{KeepsSetting}
 use Rattle.rfb_server.specs.inside.Rectangle.{IsCoded}
 use Rattle.rfb_server.specs.Cells.{cell_of, IsCell}
 use Rattle.rfb_server.specs.Room.{sum_below}
@@ -28,11 +29,7 @@ use Rattle.rfb_server.specs.Composition.{HaveTheirData, AreBlocksOf, AreBoxes}
 
 -- all of a session but what is known is as it was
 pub record IsKept (old new : Session) : Type 0 where
-  pub hello : new.hello ≡ old.hello
-  pub progress : new.progress ≡ old.progress
-  pub text_limit : new.text_limit ≡ old.text_limit
-  pub format : new.format ≡ old.format
-  pub encodings : new.encodings ≡ old.encodings
+  pub setting : KeepsSetting old new
   pub area : new.area ≡ old.area
   pub marks : new.marks ≡ old.marks
   pub hints : new.hints ≡ old.hints

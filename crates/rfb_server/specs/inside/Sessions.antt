@@ -19,13 +19,17 @@ use Rattle.rfb_server.specs.declared.session.Session.{Session}
 use Rattle.rfb_server.specs.declared.session.input.progress.Progress.{Progress}
 use Rattle.rfb_server.specs.declared.session.input.progress.Progress.TheVariants.{Handshake, Head, Encodings}
 
--- all but marks and hints is as it was
-pub record IsSame (old new : Session) : Type 0 where
+-- what the viewer and the owner set, and where the client's bytes stand, is as it was
+pub record KeepsSetting (old new : Session) : Type 0 where
   pub hello : new.hello ≡ old.hello
   pub progress : new.progress ≡ old.progress
   pub text_limit : new.text_limit ≡ old.text_limit
   pub format : new.format ≡ old.format
   pub encodings : new.encodings ≡ old.encodings
+
+-- all but marks, hints and the claim is as it was
+pub record IsSame (old new : Session) : Type 0 where
+  pub setting : KeepsSetting old new
   pub known : new.known ≡ old.known
   pub area : new.area ≡ old.area
 
@@ -48,33 +52,31 @@ pub record IsHinted (hint : Hint) (old new : Session) : Type 0 where
   pub hints : new.hints.items ≡ with_hint hint old.hints.items
   pub claim : new.claim ≡ old.claim
 
--- the handshake's end was fed, and its progress is the session's: while it goes on the session is
--- in the handshake, and once it is done between two messages
-pub record IsGreeted (old new : Session) : Type 0 where
-  pub setup : setup_of new.hello ≡ setup_of old.hello
-  pub goes : is_open new.hello ≡ true → new.progress ≡ Handshake
-  pub done : is_open new.hello ≡ false → new.progress ≡ Head (as_reply [])
+-- all but the handshake, the progress and the list of encodings is as it was
+pub record KeepsRest (old new : Session) : Type 0 where
   pub text_limit : new.text_limit ≡ old.text_limit
   pub format : new.format ≡ old.format
-  pub encodings : new.encodings ≡ old.encodings
   pub known : new.known ≡ old.known
   pub area : new.area ≡ old.area
   pub marks : new.marks ≡ old.marks
   pub hints : new.hints ≡ old.hints
   pub claim : new.claim ≡ old.claim
 
+-- the handshake's end was fed, and its progress is the session's: while it goes on the session is
+-- in the handshake, and once it is done between two messages
+pub record IsGreeted (old new : Session) : Type 0 where
+  pub setup : setup_of new.hello ≡ setup_of old.hello
+  pub goes : is_open new.hello ≡ true → new.progress ≡ Handshake
+  pub done : is_open new.hello ≡ false → new.progress ≡ Head (as_reply [])
+  pub encodings : new.encodings ≡ old.encodings
+  pub rest : KeepsRest old new
+
 -- a message comes next
 pub record BeginsMessage (old new : Session) : Type 0 where
   pub hello : new.hello ≡ old.hello
   pub progress : new.progress ≡ Head (as_reply [])
-  pub text_limit : new.text_limit ≡ old.text_limit
-  pub format : new.format ≡ old.format
   pub encodings : new.encodings ≡ old.encodings
-  pub known : new.known ≡ old.known
-  pub area : new.area ≡ old.area
-  pub marks : new.marks ≡ old.marks
-  pub hints : new.hints ≡ old.hints
-  pub claim : new.claim ≡ old.claim
+  pub rest : KeepsRest old new
 
 -- that many numbers of a list come next. Without any the list is whole, with no encoding
 abbrev pub progress_of_list : ℕ → Progress
@@ -90,14 +92,8 @@ encodings_after (suc n) list = list
 pub record BeginsList (count : ℕ) (old new : Session) : Type 0 where
   pub hello : new.hello ≡ old.hello
   pub progress : new.progress ≡ progress_of_list count
-  pub text_limit : new.text_limit ≡ old.text_limit
-  pub format : new.format ≡ old.format
   pub encodings : new.encodings ≡ encodings_after count old.encodings
-  pub known : new.known ≡ old.known
-  pub area : new.area ≡ old.area
-  pub marks : new.marks ≡ old.marks
-  pub hints : new.hints ≡ old.hints
-  pub claim : new.claim ≡ old.claim
+  pub rest : KeepsRest old new
 
 -- whatever the screen looks like, a session that had caught up with it still has
 abbrev pub StaysCaughtUp : Session → Session → Type 0
@@ -125,15 +121,10 @@ pub record KeepsUp (old new : Session) : Type 0 where
 
 -- the rectangle's places were asked for, and whole if that was asked
 pub record IsAskedFor (rect : Rect) (whole : Bool) (old new : Session) : Type 0 where
-  pub hello : new.hello ≡ old.hello
-  pub progress : new.progress ≡ old.progress
-  pub text_limit : new.text_limit ≡ old.text_limit
-  pub format : new.format ≡ old.format
-  pub encodings : new.encodings ≡ old.encodings
+  pub setting : KeepsSetting old new
   pub known : new.known ≡ old.known
   pub hints : new.hints ≡ old.hints
   pub area : new.area ≡ added rect whole old.area
-  pub caught_up : StaysCaughtUp old new
   pub claim : new.claim ≡ old.claim
 
 -- updates are sent in that format, and nothing is known that was sent
@@ -146,5 +137,4 @@ pub record HasFormat (form : PixelFormat) (old new : Session) : Type 0 where
   pub known : new.known ≡ forgotten old.known
   pub hints : new.hints ≡ old.hints
   pub area : new.area ≡ old.area
-  pub caught_up : StaysCaughtUp old new
   pub claim : new.claim ≡ None

@@ -11,6 +11,7 @@ use Rattle.rfb_picture.specs.Area.{asked_at, whole_at, nothing}
 use Rattle.rfb_server.specs.declared.session.Session.{Session}
 use Rattle.rfb_server.specs.Cells.{cell_of}
 use Rattle.rfb_server.specs.Request.{wanted_at}
+use Rattle.rfb_server.specs.inside.Sessions.{KeepsSetting}
 use Rattle.rfb_server.specs.inside.Sends.{may_need}
 
 -- ---- the same of both
@@ -64,11 +65,7 @@ TakesSome other old new = (x y : ℕ) → x < old.width → y < old.height →
 
 -- of all that the session had asked for it has what the screen shows, and nothing is asked any more
 pub record HasTakenOver (screen : Grid Colour) (old new : Session) : Type 0 where
-  pub hello : new.hello ≡ old.hello
-  pub progress : new.progress ≡ old.progress
-  pub text_limit : new.text_limit ≡ old.text_limit
-  pub format : new.format ≡ old.format
-  pub encodings : new.encodings ≡ old.encodings
+  pub setting : KeepsSetting old new
   pub width : new.known.width ≡ old.known.width
   pub height : new.known.height ≡ old.known.height
   pub shown : ShowsAll screen old.format new.known

@@ -21,6 +21,7 @@ impl Record {
 
     /// Packs the rectangle of the screen into the block, from which it is to be sent, and records
     /// its pixels.
+    #[tactic(auto, using(crate::proofs::RecordLemmas::record_sizes))]
     pub(crate) fn take(
         &mut self,
         screen: &Picture<Colour>,
@@ -47,6 +48,7 @@ impl Record {
     }
 
     /// What `other` knows of the rectangle, of which it knows each place, is known here from now on.
+    #[tactic(auto, using(crate::proofs::RecordLemmas::record_sizes))]
     pub(crate) fn take_from(&mut self, other: &Record, rect: Rect)
         requires held { Holds self.old rect }
         requires bound { self.old.height ≤ 4096 }
@@ -90,6 +92,7 @@ impl Record {
 
     /// What is known of the rectangle of that size at (`sx`, `sy`), of which each place is known,
     /// is known of `to` from here on: the viewer is sent the copy.
+    #[tactic(auto, using(crate::proofs::RecordLemmas::record_sizes))]
     pub(crate) fn copy(&mut self, to: Rect, sx: u16, sy: u16)
         requires target { Holds self.old to }
         requires source { Holds self.old (moved_to sx sy to) }

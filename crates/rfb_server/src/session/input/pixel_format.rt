@@ -5,11 +5,12 @@ use rfb_picture::Rect;
 use rfb_pixel::Format;
 
 impl Session {
-    ghost use Rattle.rfb_server.specs.inside.Sessions.{HasFormat};
+    ghost use Rattle.rfb_server.specs.inside.Sessions.{HasFormat, StaysCaughtUp};
 
     /// Updates are sent in the format from here on, and what was sent in another is known no more.
     pub(crate) fn set_format(&mut self, format: Format)
-        ensures { HasFormat format self.old self.new }
+        ensures format { HasFormat format self.old self.new }
+        ensures caught_up { StaysCaughtUp self.old self.new }
     {
         let all = Rect {
             x: 0,

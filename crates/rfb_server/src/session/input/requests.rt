@@ -8,12 +8,13 @@ use crate::session::Session;
 use rfb_picture::Rect;
 
 impl Session {
-    ghost use Rattle.rfb_server.specs.inside.Sessions.{IsAskedFor};
+    ghost use Rattle.rfb_server.specs.inside.Sessions.{IsAskedFor, StaysCaughtUp};
 
     /// The viewer asks for the part of the rectangle that lies on the screen, for whatever it has
     /// there if the request is not incremental.
     pub(crate) fn request(&mut self, incremental: bool, rect: Rect)
-        ensures { IsAskedFor rect (not incremental) self.old self.new }
+        ensures asked { IsAskedFor rect (not incremental) self.old self.new }
+        ensures caught_up { StaysCaughtUp self.old self.new }
     {
         let part = part_of(rect, self.known.width(), self.known.height());
         if incremental {
@@ -26,7 +27,8 @@ impl Session {
     // Asks for the places of a rectangle on the screen.
     fn ask(&mut self, rect: Rect)
         requires { Holds self.old.known rect }
-        ensures { IsAskedFor rect false self.old self.new }
+        ensures asked { IsAskedFor rect false self.old self.new }
+        ensures caught_up { StaysCaughtUp self.old self.new }
     {
         self.area.add(rect, false);
     }
@@ -34,7 +36,8 @@ impl Session {
     // Asks for them whole, whatever the viewer has there.
     fn ask_whole(&mut self, rect: Rect)
         requires { Holds self.old.known rect }
-        ensures { IsAskedFor rect true self.old self.new }
+        ensures asked { IsAskedFor rect true self.old self.new }
+        ensures caught_up { StaysCaughtUp self.old self.new }
     {
         self.area.add(rect, true);
         self.marks.add(rect);

@@ -97,7 +97,7 @@ impl Session {
                 unreachable!()
             };
             let hint = *hint;
-            let sent = self.send_anew(screen, hint, claim, useless, out, quiet);
+            let sent = self.send_copy(screen, hint, claim, useless, out, quiet);
             if sent {
                 // It spoke of the record, which is another now.
                 claim = led_on(claim, hint);
@@ -108,8 +108,9 @@ impl Session {
         count
     }
 
-    // The same as `send_copy` where that hint may be of no use: then it is not judged again.
-    fn send_anew(
+    // Tells the viewer to copy by a hint, if that is of use. There is room for it. One that is known
+    // to be of no use is not judged again.
+    fn send_copy(
         &mut self,
         screen: &Picture<Colour>,
         hint: Hint,
@@ -135,31 +136,6 @@ impl Session {
         if useless == Some(hint) {
             return false;
         }
-        self.send_copy(screen, hint, claim, out, quiet)
-    }
-
-    // Tells the viewer to copy by a hint, if that is of use. There is room for it.
-    fn send_copy(
-        &mut self,
-        screen: &Picture<Colour>,
-        hint: Hint,
-        claim: Option<Claim>,
-        out: &mut Vec<u8>,
-        quiet: &mut Quiet,
-    ) -> bool
-        requires about { Follows screen.now self.old }
-        requires unclaimed { self.old.claim ≡ None }
-        requires claimed { IsClaimed screen.now self.old.known self.old.format claim }
-        requires quiet { IsQuiet screen.now self.old quiet.old }
-        requires room { vec_len out.old + 16 ≤ vec_capacity out.old }
-        ensures kept { IsKept self.old self.new }
-        ensures about { Follows screen.now self.new }
-        ensures sent { SendsHint result screen.now hint self.old self.new
-            out.old.items out.new.items }
-        ensures quiet { IsQuiet screen.now self.new quiet.new }
-        ensures len { vec_len out.new ≤ vec_len out.old + 16 }
-        ensures room { vec_capacity out.new ≡ vec_capacity out.old }
-    {
         let judged = self.judge(screen, hint, claim);
         if judged.gain {
             append_copy(hint.to, hint.sx, hint.sy, out);

@@ -144,7 +144,7 @@ impl Session {
         ensures no_more { OnFalse result (HasMoreRight screen.now self.now hint → ⊥) }
     {
         let to = hint.to;
-        let above = u32::from(top) * u32::from(to.w);
+        let above = places_in(top, to.w);
         let mut after = above;
         let mut before = 0;
         for row in top..to.h {
@@ -152,7 +152,7 @@ impl Session {
             after += right.after;
             before += right.before;
             // `left` places are left, in the rows below.
-            let left = u32::from(to.h - row - 1) * u32::from(to.w);
+            let left = places_in(to.h - row - 1, to.w);
             if after > before + above + left {
                 return true;
             }
@@ -189,7 +189,7 @@ impl Session {
         for row in 0..top {
             before += self.before_in_row(screen, claim, row_of(hint, row));
             // `left` places are left, in the rows up to that one.
-            let left = u32::from(top - row - 1) * u32::from(hint.to.w);
+            let left = places_in(top - row - 1, hint.to.w);
             if after > before + left {
                 return true;
             }
@@ -199,6 +199,13 @@ impl Session {
         }
         after > before
     }
+}
+
+// How many places so many rows have.
+fn places_in(rows: u16, columns: u16) -> u32
+    ensures { result ≡ rows * columns }
+{
+    u32::from(rows) * u32::from(columns)
 }
 
 /// The copy of one row of a hint's rectangle.

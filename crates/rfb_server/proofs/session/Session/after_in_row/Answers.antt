@@ -1,22 +1,9 @@
-use Rattle.std.proofs.Common.{◌≡◌, ◌-◌, ◌≤◌, arith}
-use Rattle.rfb_server.specs.Composition.{count_row}
-use Rattle.rfb_server.specs.inside.Gains.{part, right_after}
+use Rattle.std.proofs.Common.{arith}
 use Rattle.rfb_server.proofs.RightRowsLemmas.{after_part}
 use Rattle.rfb_server.proofs.session.Session.after_in_row.Goals as goal
 
 pub loop-x-preserved : goal.loop-x-preserved
 loop-x-preserved c =
-    let row = c.args.row in
-    let x = c.loop-x.x in
-    let next = c.min-next.result in
-    let here : c.after_in_part-count.result ≡ count_row (right_after c.args.screen.now c.args.self.now
-    (part c.args.row c.loop-x.x c.min-next.result)) c.loop-x.x c.args.row.to.y (c.min-next.result - c.loop-x.x) =
-    rw c.part_of.ensures at c.after_in_part-count.ensures.value in
-    let few : c.after_in_part-count.result ≤ c.min-next.result - c.loop-x.x =
-    rw c.part_of.ensures at c.after_in_part-count.ensures.few in
-    record {
-      order = (omega arith, omega arith);
-      value = after_part c.args.screen.now c.args.self.now row x next c.loop-x.count c.after_in_part-count.result
-          (omega arith) (omega arith) c.loop-x.invariant.value here;
-      few = omega (arith, c.loop-x.invariant.few, few);
-    }
+    let more = c.after_in_part-count in
+    after_part c.args.screen.now c.args.self.now c.args.row c.part_of.result c.loop-x.x c.min-next.result c.loop-x.count
+    more.result (omega arith) (omega arith) c.part_of.ensures more.ensures.few c.loop-x.invariant more.ensures.value

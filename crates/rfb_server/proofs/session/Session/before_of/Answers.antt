@@ -1,4 +1,4 @@
-use Rattle.std.proofs.Common.{◌≡◌, ◌+◌, ◌-◌, ◌≤◌, arith}
+use Rattle.std.proofs.Common.{◌≡◌, ◌+◌, ◌-◌, arith}
 use Rattle.rfb_pixel.specs.Format.{pixel_of}
 use Rattle.rfb_server.proofs.RightRowsLemmas.{before_part}
 use Rattle.rfb_server.proofs.WantedLemmas.{wanted_part, may_part}
@@ -30,16 +30,7 @@ before_by-count-requires-clause-wanted c =
 
 pub loop-x-preserved : goal.loop-x-preserved
 loop-x-preserved c =
-    let row = c.args.row in
-    let l = c.loop-x in
-    let count = c.before_by-count in
-    let next = c.min-next.result in
-    let here = rw c.part_of.ensures at count.ensures.value in
-    let few : c.before_by-count.result ≤ c.min-next.result - c.loop-x.x =
-    rw c.part_of.ensures at count.ensures.few in
-    record {
-      order = (omega arith, omega arith);
-      value = before_part c.args.screen.now c.args.self.now row l.x next l.count count.result
-          (omega arith) (omega arith) l.invariant.value here;
-      few = omega (arith, l.invariant.few, few);
-    }
+    let more = c.before_by-count in
+    before_part c.args.screen.now c.args.self.now c.args.row c.part_of.result c.loop-x.x c.min-next.result
+    c.loop-x.count
+    more.result (omega arith) (omega arith) c.part_of.ensures more.ensures.few c.loop-x.invariant more.ensures.value

@@ -1,8 +1,6 @@
-use Rattle.std.proofs.Common.{ℕ, inl, inr, subst, arith}
-use Rattle.std.proofs.lemmas.Bool.{cases_lt}
-use Rattle.rfb_picture.specs.Places.{HasBitsBetween}
+use Rattle.std.proofs.Common.{arith}
 use Rattle.rfb_server.specs.inside.Needs.{needs_of}
-use Rattle.rfb_server.proofs.NeedingBits.{first_between, none_between}
+use Rattle.rfb_server.proofs.NeedingBits.{first_between, none_between, none_joined}
 use Rattle.rfb_server.proofs.session.Session.first_needed.Goals as goal
 
 pub returns-then-due-ne0 : goal.returns-then-due-ne0
@@ -13,23 +11,18 @@ returns-then-due-ne0 c =
     c.needed_between-due.type_inv in
     record {
       order = (omega (arith, c.loop-at.invariant.order), omega (arith, c.min-end.ensures));
-      none = λ x p q. elim (cases_lt x c.loop-at.at) [
-        | inl before ↦ c.loop-at.invariant.none x p before
-        | inr from ↦ none x from q
-      ];
+      none = none_joined (needs_of c.args.screen.now c.args.self.now) c.args.y c.args.from c.loop-at.at _
+          c.loop-at.invariant.none none;
       here = λ _. here;
     }
 
 pub loop-at-preserved : goal.loop-at-preserved
 loop-at-preserved c =
-    let none = none_between (needs_of c.args.screen.now c.args.self.now) c.args.y c.loop-at.at c.min-end.result
-    (subst (λ (word : ℕ). HasBitsBetween (needs_of c.args.screen.now c.args.self.now) c.args.y c.loop-at.at
-    c.min-end.result word) (omega (arith, c.if-due-ne0.false)) c.needed_between-due.ensures)
-    (omega (arith, c.min-end.ensures)) in
     record {
       order = (omega (arith, c.loop-at.invariant.order, c.min-end.ensures), omega (arith, c.min-end.ensures));
-      none = λ x p q. elim (cases_lt x c.loop-at.at) [
-        | inl before ↦ c.loop-at.invariant.none x p before
-        | inr from ↦ none x from q
-      ];
+      none = none_joined (needs_of c.args.screen.now c.args.self.now) c.args.y c.args.from c.loop-at.at _
+          c.loop-at.invariant.none
+          (none_between (needs_of c.args.screen.now c.args.self.now) c.args.y c.loop-at.at c.min-end.result
+          c.needed_between-due.result
+          c.needed_between-due.ensures (omega (arith, c.if-due-ne0.false)) (omega (arith, c.min-end.ensures)));
     }

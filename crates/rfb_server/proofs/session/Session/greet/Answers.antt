@@ -1,19 +1,11 @@
-use Rattle.std.proofs.Common.{refl, ◌∙◌}
+use Rattle.std.proofs.Common.{rules, refl, ◌∙◌}
 use Rattle.rfb_server.proofs.GreetLemmas.{partial_after, goes_after, done_after, greets}
 use Rattle.rfb_server.proofs.EndingLemmas.{greets_end}
 use Rattle.rfb_server.proofs.session.Session.greet.Goals as goal
 
-pub invariant_of-self : goal.invariant_of-self
-invariant_of-self c =
-    let s = c.args.self.now in
-    record {
-      alike = s.alike;
-      partial = rw c.progress_after.ensures (partial_after c.feed.new.self c.is_open.result c.is_open.ensures);
-      sixteen = s.sixteen;
-    }
-
-pub invariant_of-self-in-Err : goal.invariant_of-self-in-Err
-invariant_of-self-in-Err c = let s = c.args.self.now in record { alike = s.alike; partial = refl; sixteen = s.sixteen }
+pub invariant_of-self-clause-partial : goal.invariant_of-self-clause-partial
+invariant_of-self-clause-partial c =
+    rw c.progress_after.ensures (partial_after c.feed.new.self c.is_open.result c.is_open.ensures)
 
 pub returns-in-Ok-clause-fed : goal.returns-in-Ok-clause-fed
 returns-in-Ok-clause-fed c = λ serving screen.
@@ -24,14 +16,8 @@ returns-in-Ok-clause-fed c = λ serving screen.
       setup = c.in-Ok.ensures.setup;
       goes = λ e. c.progress_after.ensures ∙ goes_after c.is_open.result (opens ∙ e);
       done = λ e. c.progress_after.ensures ∙ done_after c.is_open.result (opens ∙ e);
-      text_limit = refl;
-      format = refl;
       encodings = refl;
-      known = refl;
-      area = refl;
-      marks = refl;
-      hints = refl;
-      claim = refl;
+      rest = search rules;
     })
     (c.in-Ok.ensures.fed serving.hello))
 

@@ -1,48 +1,38 @@
 use Rattle.std.proofs.Common.{◌≡◌, ◌+◌, nat_lt, true, false, inl, inr, arith}
 use Rattle.std.proofs.lemmas.Bool.Decides.{nat_tests}
-use Rattle.rfb_server.specs.inside.Gains.{right_before, right_after, claims_row}
-use Rattle.rfb_server.proofs.ClaimedCountLemmas.{more_by_won, no_more_by_won}
+use Rattle.rfb_server.specs.inside.Gains.{HasMoreRight, right_before, right_after, claims_row}
+use Rattle.rfb_server.proofs.ClaimedCountLemmas.{told_by_won}
 use Rattle.rfb_server.proofs.ClaimedRowLemmas.{claimed_full, place_before, place_after}
+use Rattle.std.specs.Bool.{OnTrue, OnFalse}
+use Rattle.rfb_server.proofs.session.Session.judge_claimed.Goals.{After-won_in-won}
 use Rattle.rfb_server.proofs.session.Session.judge_claimed.Goals as goal
 
-pub returns-then-won-eq0-clause-more : goal.returns-then-won-eq0-clause-more
-returns-then-won-eq0-clause-more c =
+-- whether more is gained than lost is told by the rows that are not claimed, and by what is won
+told : (c : After-won_in-won) →
+    OnTrue (nat_lt c.right_in_others-others.result.before (c.right_in_others-others.result.after + c.won_in-won.result))
+    (HasMoreRight c.args.screen.now c.args.self.now c.args.hint)
+    × OnFalse (nat_lt c.right_in_others-others.result.before (c.right_in_others-others.result.after
+    + c.won_in-won.result)) (HasMoreRight c.args.screen.now c.args.self.now c.args.hint → ⊥)
+told c =
     let screen = c.args.screen.now in
     let s = c.args.self.now in
     let hint = c.args.hint in
     let claim = c.args.claim.now in
     let others = c.right_in_others-others in
     let won = c.won_in-won in
-    more_by_won (right_before screen s hint) (right_after screen s hint) (claims_row claim hint)
+    told_by_won (right_before screen s hint) (right_after screen s hint) (claims_row claim hint)
     hint.to others.result.before others.result.after won.result c.saturating_sub-lost.result
     (λ row l here. claimed_full screen s hint claim row c.requires.far c.requires.claimed here)
-    others.ensures.before others.ensures.after won.ensures.few
+    others.ensures.before others.ensures.after won.ensures.few (omega arith) won.ensures.all
+
+pub returns-then-won-eq0-clause-more : goal.returns-then-won-eq0-clause-more
+returns-then-won-eq0-clause-more c = (told (goal.at.returns-then-won-eq0-clause-more c).After-won_in-won).0
 
 pub returns-then-won-eq0-clause-no_more : goal.returns-then-won-eq0-clause-no_more
-returns-then-won-eq0-clause-no_more c =
-    let screen = c.args.screen.now in
-    let s = c.args.self.now in
-    let hint = c.args.hint in
-    let claim = c.args.claim.now in
-    let others = c.right_in_others-others in
-    let won = c.won_in-won in
-    no_more_by_won (right_before screen s hint) (right_after screen s hint) (claims_row claim hint)
-    hint.to others.result.before others.result.after won.result c.saturating_sub-lost.result
-    (λ row l here. claimed_full screen s hint claim row c.requires.far c.requires.claimed here)
-    others.ensures.before others.ensures.after won.ensures.few (omega arith) won.ensures.all
+returns-then-won-eq0-clause-no_more c = (told (goal.at.returns-then-won-eq0-clause-no_more c).After-won_in-won).1
 
 pub returns-else-won-eq0-clause-no_more : goal.returns-else-won-eq0-clause-no_more
-returns-else-won-eq0-clause-no_more c =
-    let screen = c.args.screen.now in
-    let s = c.args.self.now in
-    let hint = c.args.hint in
-    let claim = c.args.claim.now in
-    let others = c.right_in_others-others in
-    let won = c.won_in-won in
-    no_more_by_won (right_before screen s hint) (right_after screen s hint) (claims_row claim hint)
-    hint.to others.result.before others.result.after won.result c.saturating_sub-lost.result
-    (λ row l here. claimed_full screen s hint claim row c.requires.far c.requires.claimed here)
-    others.ensures.before others.ensures.after won.ensures.few (omega arith) won.ensures.all
+returns-else-won-eq0-clause-no_more c = (told (goal.at.returns-else-won-eq0-clause-no_more c).After-won_in-won).1
 
 pub returns-then-won-eq0-clause-right : goal.returns-then-won-eq0-clause-right
 returns-then-won-eq0-clause-right c x y quiet =

@@ -1,14 +1,15 @@
-use Rattle.std.proofs.Common.{◌≡◌, slice_get, Some, inl, inr, refl, subst, arith, ◌∙◌}
+use Rattle.std.proofs.Common.{rules, ◌≡◌, slice_get, Some, inl, inr, refl, subst, arith, ◌∙◌}
 use Rattle.std.proofs.lemmas.Bool.{cases_eq}
 use Rattle.circular_buffer.specs.Buffer.{Buffer}
 use Rattle.rfb_server.specs.declared.hint.Hint.{Hint}
-use Rattle.rfb_server.proofs.CopiedLemmas.{same_self, same_then, marked_on}
+use Rattle.rfb_server.proofs.KeptLemmas.{same_then}
+use Rattle.rfb_server.proofs.CopiedLemmas.{marked_on}
 use Rattle.rfb_server.proofs.session.Session.mark_hints.Goals as goal
 
 pub loop-index-init : goal.loop-index-init
 loop-index-init c = record {
   about = c.requires;
-  same = same_self c.args.self.now;
+  same = search rules;
   hints = refl;
   marked = λ index hint l this. absurd (omega (arith, l));
 }

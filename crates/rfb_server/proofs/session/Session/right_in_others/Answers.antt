@@ -7,13 +7,10 @@ use Rattle.rfb_server.proofs.session.Session.right_in_others.Goals.{then-not-has
 
 pub loop-row-preserved : goal.loop-row-preserved
 loop-row-preserved c =
-    let screen = c.args.screen.now in
-    let s = c.args.self.now in
-    let hint = c.args.hint in
     let l = c.loop-row in
     let others = λ (row : ℕ). not (claims_row c.args.claim.now c.args.hint row) in
-    let before = counts (right_before screen s hint) hint.to in
-    let after = counts (right_after screen s hint) hint.to in
+    let before = counts (right_before c.args.screen.now c.args.self.now c.args.hint) c.args.hint.to in
+    let after = counts (right_after c.args.screen.now c.args.self.now c.args.hint) c.args.hint.to in
     let next : (c.loop-row.row + 1) * c.args.hint.to.w
     ≡ c.loop-row.row * c.args.hint.to.w + c.args.hint.to.w = grind arith in
     elim c.if-not-has.branch [
@@ -23,9 +20,9 @@ loop-row-preserved c =
           let known = rw w.row_of.ensures at right.ensures in
           record {
             before = w.before-is ∙ row_taken others before l.row l.before right.result.before here
-                l.invariant.before (known.before ∙ before_line screen s hint l.row);
+                l.invariant.before (known.before ∙ before_line c.args.screen.now c.args.self.now c.args.hint l.row);
             after = w.after-is ∙ row_taken others after l.row l.after right.result.after here
-                l.invariant.after (known.after ∙ after_line screen s hint l.row);
+                l.invariant.after (known.after ∙ after_line c.args.screen.now c.args.self.now c.args.hint l.row);
             few = (
               omega (arith, w.before-is, next, known.few, l.invariant.few),
               omega (arith, w.after-is, next, known.few, l.invariant.few),

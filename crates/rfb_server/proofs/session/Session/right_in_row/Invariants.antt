@@ -1,15 +1,13 @@
-use Rattle.std.proofs.Common.{◌≡◌, ◌+◌, ◌-◌, ◌≤◌}
-use Rattle.rfb_server.specs.Composition.{count_row}
+use Rattle.std.proofs.Common.{◌+◌, ◌-◌}
 use Rattle.rfb_server.specs.inside.Gains.{right_before, right_after}
+use Rattle.rfb_server.proofs.RightRowsLemmas.{IsCountTo}
 use Rattle.rfb_server.proofs.session.Session.right_in_row.Given as goal
 
 -- the places so far are counted
 abbrev pub invariant-loop-x : goal.invariant-loop-x
 invariant-loop-x l = record {
-  order : (l.row.to.x ≤ l.x) × (l.x ≤ l.row.to.x + l.row.to.w);
-  before : l.before ≡ count_row (right_before l.screen l.self l.row) l.row.to.x l.row.to.y (l.x - l.row.to.x);
-  after : l.after ≡ count_row (right_after l.screen l.self l.row) l.row.to.x l.row.to.y (l.x - l.row.to.x);
-  few : (l.before ≤ l.x - l.row.to.x) × (l.after ≤ l.x - l.row.to.x);
+  before : IsCountTo (right_before l.screen l.self l.row) l.row.to l.x l.before;
+  after : IsCountTo (right_after l.screen l.self l.row) l.row.to l.x l.after;
 }
 
 abbrev pub decreases-loop-x : goal.decreases-loop-x

@@ -1,17 +1,13 @@
-use Rattle.std.proofs.Common.{refl}
+use Rattle.std.proofs.Common.{rules}
 use Rattle.rfb_server.specs.inside.Copies.{IsUseful}
 use Rattle.rfb_server.proofs.CopiedLemmas.{about_copied, alike_copied}
 use Rattle.rfb_server.proofs.QuietLemmas.{quiet_copied, quiet_left}
 use Rattle.rfb_server.proofs.session.Session.send_copy.Goals as goal
 
-pub invariant_of-self : goal.invariant_of-self
-invariant_of-self c =
-    let s = c.args.self.now in
-    record {
-      alike = alike_copied c.copy.new.self s c.args.hint.to c.args.hint.sx c.args.hint.sy c.copy.ensures.value;
-      partial = s.partial;
-      sixteen = s.sixteen;
-    }
+pub invariant_of-self-clause-alike : goal.invariant_of-self-clause-alike
+invariant_of-self-clause-alike c =
+    let hint = c.args.hint in
+    alike_copied c.copy.new.self c.args.self.now hint.to hint.sx hint.sy c.copy.ensures.value
 
 pub returns-then-judged-clause-about : goal.returns-then-judged-clause-about
 returns-then-judged-clause-about c =
@@ -19,18 +15,7 @@ returns-then-judged-clause-about c =
     let hint = c.args.hint in
     let useful : IsUseful c.args.screen.now s hint = rw c.if-judged.true at c.judge-judged.ensures.useful in
     about_copied c.args.screen.now s _ hint.to hint.sx hint.sy c.requires.about useful.free c.requires.unclaimed
-    (record {
-      hello = refl;
-      progress = refl;
-      text_limit = refl;
-      format = refl;
-      encodings = refl;
-      area = refl;
-      marks = refl;
-      hints = refl;
-      claim = refl;
-    })
-    c.copy.ensures.value
+    (search rules) c.copy.ensures.value
 
 pub returns-then-judged-clause-quiet : goal.returns-then-judged-clause-quiet
 returns-then-judged-clause-quiet c =

@@ -52,5 +52,5 @@ returns-in-Ok-clause-room c =
     rw c.update.ensures.room
     (room_within (vec_capacity c.args.out.now) (vec_len c.args.out.now) c.usable_hints.result c.room-room.result.bytes _
     (vec_capacity c.make_room.new.out)
-    c.usable_hints.ensures.few (rw (same.known, same.format, same.area) at c.room-room.ensures.most)
+    c.usable_hints.ensures.few (rw (same.known, same.setting.format, same.area) at c.room-room.ensures.most)
     c.make_room.ensures.most)

@@ -1,4 +1,4 @@
-use Rattle.std.proofs.Common.{◌≡◌, ◌∙◌, sym, refl, ◌≤◌, length, drop, length-drop, None, arith}
+use Rattle.std.proofs.Common.{rules, ◌≡◌, ◌∙◌, sym, refl, ◌≤◌, length, drop, length-drop, None, arith}
 use Rattle.std.proofs.lemmas.List.{take_rest}
 use Rattle.rfb_wire.proofs.stream_laws.FeedLaws.{fed_more, runs_out_later}
 use Rattle.rfb_server.specs.Server.{server}
@@ -15,7 +15,7 @@ loop-used-init c =
     record {
       within = omega arith;
       going = c.requires.going;
-      up = up_same _ _ refl refl refl refl refl refl refl refl;
+      up = up_same c.args.self.now _ refl (search rules);
       fed = session_starts c.args.self.now;
     }
 

@@ -1,8 +1,10 @@
-use Rattle.std.proofs.Common.{◌++◌, take, refl, sym}
+use Rattle.std.proofs.Common.{◌≡◌, ◌++◌, take, refl, sym}
 use Rattle.rfb_wire.specs.ClientHead.{SpellsClientHead}
+use Rattle.rfb_server.specs.declared.session.input.progress.Progress.TheVariants.{Head}
 use Rattle.rfb_server.proofs.FeedingLemmas.{steps_from, starved_from}
 use Rattle.rfb_server.proofs.MessageLemmas.{head_part, type_refused}
 use Rattle.rfb_server.proofs.PlaceLemmas.{head_awaits, if_err, type_awaits}
+use Rattle.rfb_server.proofs.session.Session.take_head.Goals.{In-Got}
 use Rattle.rfb_server.proofs.session.Session.take_head.Goals as goal
 
 pub returns-in-More-clause-steps : goal.returns-in-More-clause-steps
@@ -13,25 +15,30 @@ returns-in-More-clause-steps c = λ _ serving screen.
     (record { setup = refl; text_limit = refl; format = refl; encodings = refl; known = refl; area = refl }) more.0
     more.1
 
+-- the bytes that came are the rest of the head
+spelled : (c : In-Got) → SpellsClientHead c.in-Got.head
+    (c.gather_head-used.new.part.items ++ take c.gather_head-used.result.0 c.args.bytes.now)
+spelled c = let got = rw c.in-Got.is at c.gather_head-used.ensures.got in rw got.0 got.1
+
+-- and the part before them is as it was
+part_kept : (c : In-Got) → Head c.gather_head-used.new.part ≡ c.args.self.now.progress
+part_kept c = let got = rw c.in-Got.is at c.gather_head-used.ensures.got in rw got.0 (sym c.in-Head.is)
+
 pub returns-in-Got-clause-steps : goal.returns-in-Got-clause-steps
 returns-in-Got-clause-steps c = λ fine serving screen.
-    let unit = take c.gather_head-used.result.0 c.args.bytes.now in
-    let got = rw c.in-Got.is at c.gather_head-used.ensures.got in
-    let spelled : SpellsClientHead c.in-Got.head (c.gather_head-used.new.part.items ++ unit) = rw got.0 got.1 in
-    steps_from serving screen c.args.self.now _ _ unit _
-    (c.take_message.ensures.steps c.gather_head-used.new.part unit refl spelled fine serving screen)
+    let at = (goal.at.returns-in-Got-clause-steps c).In-Got in
+    steps_from serving screen c.args.self.now _ _ (take c.gather_head-used.result.0 c.args.bytes.now) _
+    (c.take_message.ensures.steps c.gather_head-used.new.part _ refl (spelled at) fine serving screen)
     (record { setup = refl; text_limit = refl; format = refl; encodings = refl; known = refl; area = refl }) refl
-    (rw got.0 (sym c.in-Head.is))
+    (part_kept at)
 
 pub returns-in-Got-clause-memory : goal.returns-in-Got-clause-memory
 returns-in-Got-clause-memory c = λ wants serving screen.
-    let unit = take c.gather_head-used.result.0 c.args.bytes.now in
-    let got = rw c.in-Got.is at c.gather_head-used.ensures.got in
-    let spelled : SpellsClientHead c.in-Got.head (c.gather_head-used.new.part.items ++ unit) = rw got.0 got.1 in
-    starved_from serving screen c.args.self.now _ unit
-    (c.take_message.ensures.memory c.gather_head-used.new.part unit refl spelled wants serving screen)
+    let at = (goal.at.returns-in-Got-clause-memory c).In-Got in
+    starved_from serving screen c.args.self.now _ (take c.gather_head-used.result.0 c.args.bytes.now)
+    (c.take_message.ensures.memory c.gather_head-used.new.part _ refl (spelled at) wants serving screen)
     (record { setup = refl; text_limit = refl; format = refl; encodings = refl; known = refl; area = refl }) refl
-    (rw got.0 (sym c.in-Head.is))
+    (part_kept at)
 
 pub returns-in-Bad-clause-steps : goal.returns-in-Bad-clause-steps
 returns-in-Bad-clause-steps c = λ _ serving screen.

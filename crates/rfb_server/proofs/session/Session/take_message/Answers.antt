@@ -8,7 +8,7 @@ returns-in-Ok-clause-steps c = λ part unit was spelled _ serving screen.
     format_taken serving screen c.args.self.now c.set_format.new.self c.begin_message.new.self part unit
     c.in-SetPixelFormat.bytes c.in-Ok.format was
     (rw c.in-SetPixelFormat.is at spelled) c.in-Ok.ensures.found (sym c.in-Ok.ensures.fault)
-    c.set_format.ensures c.begin_message.ensures
+    c.set_format.ensures.format c.set_format.ensures.caught_up c.begin_message.ensures
 
 pub returns-in-Err-clause-steps : goal.returns-in-Err-clause-steps
 returns-in-Err-clause-steps c = λ part unit was spelled _ serving screen.
@@ -26,7 +26,8 @@ pub returns-in-Request-clause-steps : goal.returns-in-Request-clause-steps
 returns-in-Request-clause-steps c = λ part unit was spelled _ serving screen.
     request_taken serving screen c.args.self.now c.request.new.self c.begin_message-in-Request.new.self part unit
     c.in-Request.incremental c.in-Request.rect was
-    (rw c.in-Request.is at spelled) c.request.ensures c.begin_message-in-Request.ensures
+    (rw c.in-Request.is at spelled) c.request.ensures.asked c.request.ensures.caught_up
+    c.begin_message-in-Request.ensures
 
 pub returns-in-Key-clause-steps : goal.returns-in-Key-clause-steps
 returns-in-Key-clause-steps c = λ part unit was spelled _ serving screen.

@@ -1,11 +1,13 @@
-use Rattle.std.proofs.Common.{◌<◌, ◌*◌, ◌∙◌, arith, refl, sym}
+use Rattle.std.proofs.Common.{rules, ◌<◌, ◌*◌, ◌∙◌, arith, refl, sym}
 use Rattle.std.specs.Int.{div_ceil}
 use Rattle.rfb_server.specs.Cells.{IsCell}
+use Rattle.rfb_server.specs.inside.Twins.{ShowsAll}
 use Rattle.rfb_server.proofs.RoomLemmas.{few_cells}
-use Rattle.rfb_server.proofs.SentCells.{kept_same, kept_then}
+use Rattle.rfb_server.proofs.KeptLemmas.{setting_then, kept_then}
 use Rattle.rfb_server.proofs.TakenOverLemmas.{shown_known, some_more, taken_more, taken_all, caught_by}
 use Rattle.rfb_server.proofs.ClaimLemmas.{nothing_claimed}
 use Rattle.rfb_server.proofs.UpdateLemmas.{caught_settled}
+use Rattle.rfb_server.proofs.session.Session.take_shown.Goals.{After-settle}
 use Rattle.rfb_server.proofs.session.Session.take_shown.Goals as goal
 
 pub take_cell-requires-clause-known : goal.take_cell-requires-clause-known
@@ -42,6 +44,14 @@ loop-index-preserved c =
       few = omega (arith, below, cells);
     }
 
+-- each place is known to have the wanted pixel then
+shown : (c : After-settle) → ShowsAll c.args.screen.now c.args.self.now.format c.loop-index.self.known
+shown c =
+    let l = c.loop-index in
+    taken_all c.args.screen.now c.args.self.now l.self c.args.sent.now.known l.next c.requires.about c.requires.asked
+    l.invariant.kept l.invariant.wide l.invariant.high c.requires.columns c.requires.rows c.requires.shown
+    c.in_default.ensures l.invariant.some l.invariant.done
+
 pub returns-clause-about : goal.returns-clause-about
 returns-clause-about c =
     let s = c.args.self.now in
@@ -49,41 +59,31 @@ returns-clause-about c =
     let mid = l.self in
     let settled = c.settle.ensures in
     let about = c.requires.about in
-    let shown = taken_all c.args.screen.now s mid c.args.sent.now.known l.next about c.requires.asked l.invariant.kept
-    l.invariant.wide l.invariant.high c.requires.columns c.requires.rows c.requires.shown c.in_default.ensures
-    l.invariant.some l.invariant.done in
+    let all = shown (goal.at.returns-clause-about c).After-settle in
     record {
       whole = about.whole;
       alike = record {
         columns = rw (settled.known) (about.alike.columns ∙ sym l.invariant.wide);
         rows = rw (settled.known) (about.alike.rows ∙ sym l.invariant.high);
       };
-      caught_up = rw (settled.known, settled.area, settled.format, settled.marks)
+      caught_up = rw (settled.known, settled.area, settled.setting.format, settled.marks)
           (caught_settled c.args.screen.now mid.known mid.area mid.format mid.marks mid.alike
-          (caught_by c.args.screen.now s mid about l.invariant.kept shown)
-          (λ x y p q asked. rw (l.invariant.kept.format) (shown x y p q)));
+          (caught_by c.args.screen.now s mid about l.invariant.kept all)
+          (λ x y p q asked. rw (l.invariant.kept.setting.format) (all x y p q)));
       claimed = nothing_claimed c.args.screen.now _ _ _ refl;
     }
 
 pub returns-clause-taken : goal.returns-clause-taken
 returns-clause-taken c =
-    let s = c.args.self.now in
-    let l = c.loop-index in
-    let mid = l.self in
-    let kept = l.invariant.kept in
+    let now = c.loop-index.invariant in
     let settled = c.settle.ensures in
-    let shown = taken_all c.args.screen.now s mid c.args.sent.now.known l.next c.requires.about c.requires.asked kept
-    l.invariant.wide l.invariant.high c.requires.columns c.requires.rows c.requires.shown c.in_default.ensures
-    l.invariant.some l.invariant.done in
     record {
-      hello = settled.hello ∙ kept.hello;
-      progress = settled.progress ∙ kept.progress;
-      text_limit = settled.text_limit ∙ kept.text_limit;
-      format = settled.format ∙ kept.format;
-      encodings = settled.encodings ∙ kept.encodings;
-      width = rw (settled.known) (l.invariant.wide);
-      height = rw (settled.known) (l.invariant.high);
-      shown = rw (settled.known) shown;
-      area = rw (settled.area, kept.area) refl;
+      setting = setting_then c.args.self.now c.settle.new.self _
+          (setting_then c.args.self.now c.loop-index.self c.settle.new.self now.kept.setting settled.setting)
+          (search rules);
+      width = rw (settled.known) (now.wide);
+      height = rw (settled.known) (now.high);
+      shown = rw (settled.known) (shown (goal.at.returns-clause-taken c).After-settle);
+      area = rw (settled.area, now.kept.area) refl;
       hints = settled.hints;
     }

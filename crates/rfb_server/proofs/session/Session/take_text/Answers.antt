@@ -31,6 +31,7 @@ returns-clause-steps c = λ _ serving screen.
     rw (c.into_vec.ensures.bytes, n)
     (text_told serving screen c.args.self.now _ c.in-CutText.length c.in-CutText.left kept c.in-CutText-whole.kept unit
     c.in-CutText.is (c.replace-whole.ensures.after ∙ ap (λ (ys : List ℕ). Head (as_reply ys)) c.new.ensures)
-    (up_same c.args.self.now _ refl refl refl refl refl refl refl refl)
+    (up_same c.args.self.now _ refl
+    (record { text_limit = refl; format = refl; known = refl; area = refl; marks = refl; hints = refl; claim = refl }))
     (record { setup = refl; text_limit = refl; format = refl; encodings = refl; known = refl; area = refl }) size
     (text ∙ c.keep-2.ensures))

@@ -25,11 +25,7 @@ returns-then-update_by-clause-composed c =
     composed_same c.args.screen.now c.args.self.now _ c.update_by.new.self
     c.args.out.now.items c.update_by.new.out.items
     (record {
-      hello = refl;
-      progress = refl;
-      text_limit = refl;
-      format = refl;
-      encodings = refl;
+      setting = record { hello = refl; progress = refl; text_limit = refl; format = refl; encodings = refl };
       known = refl;
       area = refl;
     })

@@ -2,7 +2,7 @@
 
 ghost use Rattle.std.specs.Prelude.{◌≡◌, ◌+◌, ◌-◌, ◌*◌, ◌/◌, ◌≤◌, ◌<◌, length, map};
 ghost use Rattle.rfb_pixel.specs.Format.{pixel_of};
-ghost use Rattle.rfb_picture.specs.Grid.{row_of};
+ghost use Rattle.rfb_picture.specs.Grid.{Holds, row_of};
 ghost use Rattle.rfb_server.specs.Claims.{IsClaimed};
 ghost use Rattle.rfb_server.specs.KnownScreen.{Follows};
 ghost use Rattle.rfb_server.specs.Composition.{count_row};
@@ -63,9 +63,22 @@ impl Session {
     {
         let mut row = [0; 64];
         let wanted = &mut row[..usize::from(part.to.w)];
-        let colours = screen.row(part.to.x, part.to.y, part.to.w);
-        self.format.pack_row(colours, wanted);
+        self.pack_part(screen, part.to, wanted);
         self.after_by(screen, part, wanted)
+    }
+
+    // The wanted pixels of places of a row.
+    fn pack_part(&self, screen: &Picture<Colour>, part: Rect, wanted: &mut [u32])
+        requires about { Follows screen.now self.now }
+        requires held { Holds self.now.known part }
+        requires single { part.h ≡ 1 }
+        requires len { length wanted.old ≡ part.w }
+        ensures value { wanted.new ≡ map (pixel_of self.now.format)
+            (row_of screen.now part.x part.y part.w) }
+        ensures len { length wanted.new ≡ part.w }
+    {
+        self.format
+            .pack_row(screen.row(part.x, part.y, part.w), wanted);
     }
 
     // The same where the wanted pixels are given. All of the source is known.
@@ -131,8 +144,7 @@ impl Session {
     {
         let mut row = [0; 64];
         let wanted = &mut row[..usize::from(part.to.w)];
-        let colours = screen.row(part.to.x, part.to.y, part.to.w);
-        self.format.pack_row(colours, wanted);
+        self.pack_part(screen, part.to, wanted);
         self.before_by(screen, part, wanted)
     }
 
@@ -209,8 +221,7 @@ impl Session {
     {
         let mut row = [0; 64];
         let wanted = &mut row[..usize::from(part.to.w)];
-        let colours = screen.row(part.to.x, part.to.y, part.to.w);
-        self.format.pack_row(colours, wanted);
+        self.pack_part(screen, part.to, wanted);
         Right {
             before: self.before_by(screen, part, wanted),
             after: self.after_by(screen, part, wanted),

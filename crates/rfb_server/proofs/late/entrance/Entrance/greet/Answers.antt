@@ -16,14 +16,8 @@ returns-in-Ok-clause-takes c = record {
         goes = λ e. ap progress_at c.in_default.is;
         done = λ closed. absurd (not_done c.args.self.now.hello c.feed.new.self _ c.in-Ok.fed.used
             (c.requires.fewer c.in_default.is) c.in-Ok.ensures.used c.in-Ok.ensures.left closed);
-        text_limit = refl;
-        format = refl;
         encodings = refl;
-        known = refl;
-        area = refl;
-        marks = refl;
-        hints = refl;
-        claim = refl;
+        rest = search rules;
       })
       (c.in-Ok.ensures.fed serving.hello));
 }
