@@ -18,7 +18,7 @@ use Rattle.rfb_viewer.specs.declared.fault.CallFault.TheVariants.{AreaOutside}
 use Rattle.rfb_viewer.specs.declared.viewer.Viewer.{Viewer}
 use Rattle.rfb_viewer.specs.declared.viewer.progress.Progress.{Progress}
 use Rattle.rfb_viewer.specs.declared.viewer.progress.Progress.TheVariants.{Handshake, Head, RectHead, Data, Colours}
-use Rattle.rfb_viewer.specs.declared.viewer.progress.Progress.TheVariants.{CutText, Failed}
+use Rattle.rfb_viewer.specs.declared.viewer.progress.Progress.TheVariants.{CutText}
 use Rattle.rfb_viewer.specs.declared.viewer.progress.Request.{Request}
 use Rattle.rfb_viewer.specs.declared.viewer.progress.Request.TheVariants.{Outstanding}
 use Rattle.rfb_viewer.specs.ServerBytes.{ServerAt}
@@ -32,27 +32,24 @@ use Rattle.rfb_viewer.proofs.StepLemmas.{IsMade, made_stands, ready_same}
 -- ---- the screen that an area is judged by
 
 -- pieces of a rectangle leave a picture its size
+shown_size : (f : PixelFormat) (rect : Rect) (front : Front) (g : Grid Colour) →
+    ((shown f rect front g).width ≡ g.width) × ((shown f rect front g).height ≡ g.height)
+unfolding changed
+shown_size f rect NoSource g = (refl, refl)
+shown_size f rect (TheSource x y) g = (refl, refl)
+shown_size f rect (SomePixels count pixels) g = (refl, refl)
+shown_size f rect NoHead g = (refl, refl)
+shown_size f rect (SomeParts count background subs) g = (refl, refl)
+shown_size f rect (SomeTiles tiles) g = (refl, refl)
+shown_size f rect (SomeOfRaw tiles count pixels) g = (refl, refl)
+
 pub shown_columns : (f : PixelFormat) (rect : Rect) (front : Front) (g : Grid Colour) →
     (shown f rect front g).width ≡ g.width
-unfolding changed
-shown_columns f rect NoSource g = refl
-shown_columns f rect (TheSource x y) g = refl
-shown_columns f rect (SomePixels count pixels) g = refl
-shown_columns f rect NoHead g = refl
-shown_columns f rect (SomeParts count background subs) g = refl
-shown_columns f rect (SomeTiles tiles) g = refl
-shown_columns f rect (SomeOfRaw tiles count pixels) g = refl
+shown_columns f rect front g = (shown_size f rect front g).0
 
 pub shown_rows : (f : PixelFormat) (rect : Rect) (front : Front) (g : Grid Colour) →
     (shown f rect front g).height ≡ g.height
-unfolding changed
-shown_rows f rect NoSource g = refl
-shown_rows f rect (TheSource x y) g = refl
-shown_rows f rect (SomePixels count pixels) g = refl
-shown_rows f rect NoHead g = refl
-shown_rows f rect (SomeParts count background subs) g = refl
-shown_rows f rect (SomeTiles tiles) g = refl
-shown_rows f rect (SomeOfRaw tiles count pixels) g = refl
+shown_rows f rect front g = (shown_size f rect front g).1
 
 -- what is stored has the size of the screen
 pub record HasScreen (v : Viewer) (q : UpdatePoint) : Type 0 where
@@ -84,18 +81,13 @@ screen_at : (viewing : Viewing) (v : Viewer) (p : Progress) (at : ServerAt)
     (g : Option (Grid Colour)) (prefix : List ℕ) → ProgressStandsFor viewing v p at g prefix → is_ready p ≡ true →
     (q : UpdatePoint) × (at ≡ Second q) × HasScreen v q
 screen_at viewing v Handshake at g prefix h ready = absurd cc
-screen_at viewing v (Head bytes) (First point) g prefix h ready = absurd h
 screen_at viewing v (Head bytes) (Second q) g prefix h ready = (q, refl, stored_screen v q g 0 h.0 h.1)
-screen_at viewing v (RectHead more head) (First point) g prefix h ready = absurd h
 screen_at viewing v (RectHead more head) (Second q) g prefix h ready = (q, refl, stored_screen v q g (more + 1) h.0 h.1)
-screen_at viewing v (Data more painter) (First point) g prefix h ready = absurd h
 screen_at viewing v (Data more painter) (Second q) g prefix h ready =
     (q, refl, painted_screen v q painter prefix g (more + 1) h.0 h.1)
-screen_at viewing v (Colours more) (First point) g prefix h ready = absurd h
 screen_at viewing v (Colours more) (Second q) g prefix h ready = (q, refl, stored_screen v q g 0 h.0 h.1)
-screen_at viewing v (CutText n more kept) (First point) g prefix h ready = absurd h
 screen_at viewing v (CutText n more kept) (Second q) g prefix h ready = (q, refl, stored_screen v q g 0 h.0 h.1)
-screen_at viewing v (Failed fault) at g prefix h ready = absurd h
+screen_at viewing v p at g prefix h ready = absurd h
 
 screened : (width height : ℕ) (rect : Rect) (g : Grid Colour) → width ≡ g.width → height ≡ g.height →
     (nat_lt 0 rect.w && nat_lt 0 rect.h && is_on_screen width height rect) ≡ is_shown (Some g) rect
@@ -129,18 +121,14 @@ module _ (viewing : Viewing) (old new : Viewer) where
     made.picture_is ∙ h.3,
     h.4,
   )
-  kept_at Handshake r (Second q) g prefix made h = absurd h
-  kept_at (Head bytes) r (First point) g prefix made h = absurd h
   kept_at (Head bytes) r (Second q) g prefix made h =
       (ready_same viewing old new (Head bytes) r old.picture g q 0 made h.0, made.picture_is ∙ h.1, h.2, h.3)
-  kept_at (RectHead more head) r (First point) g prefix made h = absurd h
   kept_at (RectHead more head) r (Second q) g prefix made h = (
     ready_same viewing old new (RectHead more head) r old.picture g q (more + 1) made h.0,
     made.picture_is ∙ h.1,
     h.2,
     h.3,
   )
-  kept_at (Data more painter) r (First point) g prefix made h = absurd h
   kept_at (Data more painter) r (Second q) g prefix made h =
       let p = h.1 in (
         ready_same viewing old new (Data more painter) r old.picture g q (more + 1) made h.0,
@@ -157,13 +145,11 @@ module _ (viewing : Viewing) (old new : Viewer) where
           waits = p.waits;
         },
       )
-  kept_at (Colours more) r (First point) g prefix made h = absurd h
   kept_at (Colours more) r (Second q) g prefix made h =
       (ready_same viewing old new (Colours more) r old.picture g q 0 made h.0, made.picture_is ∙ h.1, h.2)
-  kept_at (CutText n more kept) r (First point) g prefix made h = absurd h
   kept_at (CutText n more kept) r (Second q) g prefix made h =
       (ready_same viewing old new (CutText n more kept) r old.picture g q 0 made h.0, made.picture_is ∙ h.1, h.2)
-  kept_at (Failed fault) r at g prefix made h = absurd h
+  kept_at p r at g prefix made h = absurd h
 
   pub requested_stands : (s : ViewerState) (prefix : List ℕ) → IsMade old new old.progress Outstanding old.picture →
       StandsFor viewing old s prefix → StandsFor viewing new (requested s) prefix

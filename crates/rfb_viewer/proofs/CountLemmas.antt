@@ -1,7 +1,7 @@
 -- What a call leaves whose bytes were counted.
 use Rattle.std.proofs.Common.{◌≡◌, ℕ, List, Option, Some, None, Result, Ok, Err, take, sym, subst, ◌∙◌, ap}
 use Rattle.std.specs.Prelude.{IfOk, IfErr}
-use Rattle.rfb_wire.specs.stream.End.{FedBy}
+use Rattle.rfb_wire.specs.stream.End.{FedBy, Machine}
 use Rattle.rfb_wire.specs.stream.FaultPlace.{counted_on}
 use Rattle.rfb_hello.specs.declared.fed.Fed.{Fed}
 use Rattle.rfb_hello.specs.declared.viewer_hello.ViewerHello.{ViewerHello}
@@ -28,44 +28,43 @@ use Rattle.rfb_viewer.proofs.StepLemmas.{IsMade}
 -- one viewer differs from another by its count alone
 module _ (old mid new : Viewer) (bytes : List ℕ) (made : IsMade mid new mid.progress mid.request mid.picture)
     (ended : ended_of new ≡ ended_of mid) where
+  -- what it was fed it was fed, where what it stands for goes over
+  fed_counted : {S P I F E : Type 0} (m : Machine S P I F E) (stands : Viewer → S → List ℕ → Type 0) →
+      ((s : S) (prefix : List ℕ) → stands mid s prefix → stands new s prefix) →
+      (front : List ℕ) (event : Option E) →
+      FedBy m stands old front event mid → FedBy m stands old front event new
+  fed_counted m stands over front event fed s prefix now =
+      let a = fed s prefix now in
+      (a.0, a.1, over a.0 a.1 a.2, a.3)
+
   pub counted_fed : (result : Result (Fed ViewerEvent) ViewerFault) → IfOk result (λ fed. (viewing : Viewing) →
       FedBy (viewer viewing) (StandsFor viewing) old (take fed.used bytes) (seen fed.event) mid) → IfOk result
       (λ fed. (viewing : Viewing) → FedBy (viewer viewing) (StandsFor viewing) old (take fed.used bytes)
       (seen fed.event) new)
-  counted_fed (Ok fed) one = λ viewing s prefix now. let a = one viewing s prefix now in
-      (a.0, a.1, same_stands viewing mid new a.0 a.1 made a.2, a.3)
+  counted_fed (Ok fed) one = λ viewing. fed_counted (viewer viewing) (StandsFor viewing)
+      (λ s prefix is. same_stands viewing mid new s prefix made is) (take fed.used bytes) (seen fed.event)
+      (one viewing)
   counted_fed (Err fault) one = tt
 
   pub counted_damage : (result : Result (Fed ViewerEvent) ViewerFault) → IfOk result (λ fed. (viewing : Viewing) →
       FedBy (damaging viewing) (IsDamaged viewing) old (take fed.used bytes) (seen fed.event) mid) → IfOk result
       (λ fed. (viewing : Viewing) → FedBy (damaging viewing) (IsDamaged viewing) old (take fed.used bytes)
       (seen fed.event) new)
-  counted_damage (Ok fed) one = λ viewing s prefix now. let a = one viewing s prefix now in (
-    a.0,
-    a.1,
-    record {
-      stands = same_stands viewing mid new a.0.state a.1 made a.2.stands;
-      ended_is = ended ∙
-          a.2.ended_is;
-    },
-    a.3,
-  )
+  counted_damage (Ok fed) one = λ viewing. fed_counted (damaging viewing) (IsDamaged viewing) (λ s prefix is. record {
+    stands = same_stands viewing mid new s.state prefix made is.stands;
+    ended_is = ended ∙ is.ended_is;
+  }) (take fed.used bytes) (seen fed.event) (one viewing)
   counted_damage (Err fault) one = tt
 
   pub counted_moved : moved_of new ≡ moved_of mid → (result : Result (Fed ViewerEvent) ViewerFault) → IfOk result
       (λ fed. (viewing : Viewing) → FedBy (moving viewing) (HasMoved viewing) old (take fed.used bytes)
       (seen fed.event) mid) → IfOk result (λ fed. (viewing : Viewing) → FedBy (moving viewing)
       (HasMoved viewing) old (take fed.used bytes) (seen fed.event) new)
-  counted_moved moves (Ok fed) one = λ viewing s prefix now. let a = one viewing s prefix now in (
-    a.0,
-    a.1,
-    record {
-      stands = same_stands viewing mid new a.0.state a.1 made a.2.stands;
-      moves_are = moves ∙
-          a.2.moves_are;
-    },
-    a.3,
-  )
+  counted_moved moves (Ok fed) one = λ viewing. fed_counted (moving viewing) (HasMoved viewing)
+      (λ s prefix is. record {
+        stands = same_stands viewing mid new s.state prefix made is.stands;
+        moves_are = moves ∙ is.moves_are;
+      }) (take fed.used bytes) (seen fed.event) (one viewing)
   counted_moved moves (Err fault) one = tt
 
   reason_counted : (fault : ViewerFault) → KeepsReason fault old bytes mid → KeepsReason fault old bytes new

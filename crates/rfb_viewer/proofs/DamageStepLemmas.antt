@@ -11,9 +11,8 @@ use Rattle.rfb_wire.specs.RectStream.{rect_head}
 use Rattle.rfb_wire.specs.stream.Reading.{Next, More, Got, Bad}
 use Rattle.rfb_wire.specs.stream.Parts.{named}
 use Rattle.rfb_wire.specs.stream.Sequel.{First, Second}
-use Rattle.rfb_codec.specs.UpdateStream.{UpdatePoint, UpdateItem, UpdateFault, Message, Rectangle, update_stream}
+use Rattle.rfb_codec.specs.UpdateStream.{UpdatePoint, UpdateItem, Message, Rectangle, update_stream}
 use Rattle.rfb_codec.proofs.EffectLaws.{effect_message}
-use Rattle.rfb_hello.specs.declared.fault.HelloFault.{HelloFault}
 use Rattle.rfb_hello.specs.ServerHandshake.{ServerPoint, AwaitsVersion, AwaitsSecurity, AwaitsResult, AwaitsInit}
 use Rattle.rfb_hello.specs.ServerHandshake.{AwaitsName, Begun, ServerItem, ProtocolVersion, SecurityNone, SecurityTypes}
 use Rattle.rfb_hello.specs.ServerHandshake.{SecurityResult, ServerInit, Name, SpellsServerItem}
@@ -240,39 +239,28 @@ at_screen viewing v (Failed fault) at g prefix h = absurd h
 
 -- ---- an item that was read, by the part that it belongs to
 
+module _ {I F : Type 0} (wrap : I → FromServer) (fault : F → ViewerFault) where
+  named_got : (n : Next I F) (i : FromServer) (rest : List ℕ) → named wrap fault n ≡ Got i rest →
+      (item : I) × (i ≡ wrap item) × (n ≡ Got item rest)
+  named_got More i rest e = absurd cc
+  named_got (Got item more) i rest e =
+      let got : Got (wrap item) more ≡ Got i rest = e in
+      let same : i ≡ wrap item = cc in
+      let left : more ≡ rest = cc in
+      (item, same, ap (λ (ys : List ℕ). Got item ys) left)
+  named_got (Bad f) i rest e = absurd cc
+
 pub second_next : (viewing : Viewing) (q : UpdatePoint) (bytes : List ℕ) (i : FromServer) (rest : List ℕ) →
     (server_bytes viewing.form viewing.hello).next (Second q) bytes ≡ Got i rest →
     (item : UpdateItem) × (i ≡ Second item) × (update_stream.next q bytes ≡ Got item rest)
-second_next viewing q bytes i rest e = by (update_stream.next q bytes) refl e
-  where
-    by : (n : Next UpdateItem UpdateFault) → update_stream.next q bytes ≡ n →
-        named (λ j. Second j) fault_of_update (update_stream.next q bytes) ≡ Got i rest →
-        (item : UpdateItem) × (i ≡ Second item) × (update_stream.next q bytes ≡ Got item rest)
-    by More is e = absurd (let none = sym (ap (named (λ j. Second j) fault_of_update) is) ∙ e in cc)
-    by (Got item more) is e =
-        let got : Got (Second item) more ≡ Got i rest = sym (ap (named (λ j. Second j) fault_of_update) is) ∙ e in
-        let same : i ≡ Second item = cc in
-        let left : more ≡ rest = cc in
-        (item, same, is ∙ ap (λ (ys : List ℕ). Got item ys) left)
-    by (Bad fault) is e = absurd (let none = sym (ap (named (λ j. Second j) fault_of_update) is) ∙ e in cc)
+second_next viewing q bytes i rest e =
+    named_got (λ j. Second j) fault_of_update (update_stream.next q bytes) i rest e
 
 first_next : (viewing : Viewing) (p : ServerPoint) (bytes : List ℕ) (i : FromServer) (rest : List ℕ) →
     (server_bytes viewing.form viewing.hello).next (First p) bytes ≡ Got i rest → (step : ServerItem) × (i ≡ First step)
     × ((server_handshake viewing.hello.limit viewing.hello.max_places).next p bytes ≡ Got step rest)
-first_next viewing p bytes i rest e =
-    by ((server_handshake viewing.hello.limit viewing.hello.max_places).next p bytes) refl e
-  where
-    by : (n : Next ServerItem HelloFault) → (server_handshake viewing.hello.limit viewing.hello.max_places).next p bytes
-        ≡ n → named (λ j. First j) fault_of_hello ((server_handshake viewing.hello.limit viewing.hello.max_places).next
-        p bytes) ≡ Got i rest → (step : ServerItem) × (i ≡ First step)
-        × ((server_handshake viewing.hello.limit viewing.hello.max_places).next p bytes ≡ Got step rest)
-    by More is e = absurd (let none = sym (ap (named (λ j. First j) fault_of_hello) is) ∙ e in cc)
-    by (Got step more) is e =
-        let got : Got (First step) more ≡ Got i rest = sym (ap (named (λ j. First j) fault_of_hello) is) ∙ e in
-        let same : i ≡ First step = cc in
-        let left : more ≡ rest = cc in
-        (step, same, is ∙ ap (λ (ys : List ℕ). Got step ys) left)
-    by (Bad fault) is e = absurd (let none = sym (ap (named (λ j. First j) fault_of_hello) is) ∙ e in cc)
+first_next viewing p bytes i rest e = named_got (λ j. First j) fault_of_hello
+    ((server_handshake viewing.hello.limit viewing.hello.max_places).next p bytes) i rest e
 
 -- what an item adds holds what was there, and the rectangle that its bytes began
 step_holds : (step : ServerItem) (d : Option Edges) (x y : ℕ) →

@@ -2,9 +2,7 @@
 use Rattle.std.proofs.Common.{◌≡◌, ◌≢◌, ℕ, true, List, [], ◌++◌, Option, Some, None, take, refl, sym, subst, ◌∙◌, ap}
 use Rattle.std.proofs.Common.{append-nil}
 use Rattle.arrayvec.specs.ArrayVec.{ArrayVec}
-use Rattle.rfb_wire.specs.stream.Sequel.{First}
-use Rattle.rfb_wire.specs.stream.End.{FedBy, RunsOutBy, RefusedBy, acts}
-use Rattle.rfb_wire.specs.stream.Grammar.{ReadsAll}
+use Rattle.rfb_wire.specs.stream.End.{FedBy, RunsOutBy, RefusedBy}
 use Rattle.rfb_hello.specs.declared.fault.HelloFault.{HelloFault}
 use Rattle.rfb_hello.specs.declared.fault.HelloFault.TheVariants.{BadVersion, VersionTooHigh, BadSecurityChoice}
 use Rattle.rfb_hello.specs.declared.fault.HelloFault.TheVariants.{NoneNotOffered, Refused as HelloRefused}
@@ -20,11 +18,8 @@ use Rattle.rfb_hello.specs.declared.version.Version.{Version}
 use Rattle.rfb_hello.specs.declared.step.ViewerStep.{ViewerStep}
 use Rattle.rfb_hello.specs.declared.step.ViewerStep.TheVariants.{Reply as StepReply}
 use Rattle.rfb_hello.specs.declared.viewer_hello.progress.Progress.{Progress as HelloProgress}
-use Rattle.rfb_hello.specs.declared.viewer_hello.progress.Progress.TheVariants.{Version as VersionPart, Word, Count}
-use Rattle.rfb_hello.specs.declared.viewer_hello.progress.Progress.TheVariants.{Types, Result as ResultPart}
-use Rattle.rfb_hello.specs.declared.viewer_hello.progress.Progress.TheVariants.{ReasonLength, Reason, Init, Name, Done}
+use Rattle.rfb_hello.specs.declared.viewer_hello.progress.Progress.TheVariants.{Done}
 use Rattle.rfb_hello.specs.declared.viewer_hello.progress.Progress.TheVariants.{Failed as FailedPart}
-use Rattle.rfb_hello.specs.ServerItems.{server_handshake}
 use Rattle.rfb_hello.specs.ViewerEnd.{ViewerSetup, viewer_end, AsksMemory as HelloAsks, viewer_tells as handshake_tells}
 use Rattle.rfb_hello.specs.declared.offered.Offered.{Offered}
 use Rattle.rfb_hello.specs.Offer.{offered_of as offered_in, IsOfferedAt as IsOfferedIn, IsOfferOn as IsOfferIn}
@@ -45,28 +40,13 @@ use Rattle.rfb_viewer.specs.Progress.{IsScreenAt}
 use Rattle.rfb_viewer.specs.Model.{StandsFor, offered_of}
 use Rattle.rfb_viewer.specs.Offer.{LeadsToOffer, IsOfferedAt, KeepsOffer, IsOfferOn}
 use Rattle.rfb_viewer.specs.Failed.{LeadsTo, LeadsToReason, IsReasonAt, KeepsNone, KeepsReason, ShowsLast}
+use Rattle.rfb_viewer.proofs.FailLemmas.{starved_ends}
 use Rattle.rfb_viewer.proofs.MessageLemmas.{here}
-use Rattle.rfb_viewer.proofs.GreetLemmas.{at_hello, none_quiet}
-use Rattle.rfb_viewer.proofs.GreetRefusalLemmas.{greet_bad, greet_starves, screen_asks}
+use Rattle.rfb_viewer.proofs.GreetLemmas.{at_hello}
+use Rattle.rfb_viewer.proofs.GreetRefusalLemmas.{greet_bad, greet_leads, greet_starves, screen_asks}
 use Rattle.rfb_viewer.proofs.LendLemmas.{hello_unreasoned}
 
 module _ (viewing : Viewing) (old : Viewer) where
-  -- bytes that lead its end somewhere lead the viewer there
-  hello_leads : (Asked : ServerPoint → List ℕ → Type 0) (bytes : List ℕ) → old.progress ≡ Handshake →
-      RunsOutBy (viewer_end viewing.hello) Asked (HelloStandsFor viewing.hello) old.hello bytes →
-      (s : ViewerState) (prefix : List ℕ) → StandsFor viewing old s prefix → (front later : List ℕ)
-      × (point : ServerPoint) × (prefix ++ bytes ≡ front ++ later) × (s.point ≡ First point) × Asked point front
-  hello_leads Asked bytes was out s prefix stands =
-      let h = at_hello viewing old s.point s.picture prefix (here viewing old Handshake s prefix was stands) in
-      let r = out h.0 prefix h.2 in
-      let none = none_quiet viewing.hello h.0 (prefix ++ bytes) (r.front ++ r.later) r.items r.reads r.quiet in
-      let reads : prefix ++ bytes ≡ r.front ++ r.later =
-      subst (λ (items : List ServerItem). ReadsAll (server_handshake viewing.hello.limit viewing.hello.max_places)
-      h.0 (prefix ++ bytes) items (r.front ++ r.later)) none r.reads in
-      let asked : Asked h.0 r.front =
-      subst (λ (items : List ServerItem). Asked (acts (viewer_end viewing.hello) h.0 items) r.front) none r.asked in
-      (r.front, r.later, h.0, reads, h.1, asked)
-
   -- what is stored there is the picture
   first_shown : (s : ViewerState) (prefix bytes : List ℕ) → old.progress ≡ Handshake → StandsFor viewing old s prefix →
       ShowsLast s.point s.picture bytes old.picture
@@ -92,17 +72,8 @@ module _ (viewing : Viewing) (old : Viewer) where
   memory_ends : (bytes : List ℕ) → old.progress ≡ Handshake → ((s : ViewerState) (prefix : List ℕ) →
       StandsFor viewing old s prefix → (front later : List ℕ) × (prefix ++ bytes ≡ front ++ later)
       × AsksMemory viewing s front) → EndsHere viewing NoMemory old.picture old bytes
-  memory_ends bytes was asks s prefix stands =
-      let r = asks s prefix stands in (
-        r.0,
-        r.1,
-        r.2,
-        record {
-          bad = λ other. absurd (other refl);
-          asks = λ _. r.3;
-          shows = first_shown s prefix r.0 was stands;
-        },
-      )
+  memory_ends bytes was =
+      starved_ends viewing old bytes (λ s prefix front stands. first_shown s prefix front was stands)
 
   pub greet_ends : (bytes : List ℕ) (fault : HelloFault) → old.progress ≡ Handshake → (fault ≢ HelloMemory →
       RefusedBy (viewer_end viewing.hello) (HelloStandsFor viewing.hello) old.hello bytes fault) →
@@ -137,17 +108,9 @@ module _ (viewing : Viewing) (old : Viewer) where
 
 reason_leads : (old : Viewer) (cause : Cause) (n : ℕ) (kept : KeptText) (bytes : List ℕ) → old.progress ≡ Handshake →
     HelloLeads cause n kept old.hello bytes → LeadsToReason cause n kept old bytes
-reason_leads old cause n kept bytes was leads = λ viewing s prefix stands.
-    let r = hello_leads viewing old (IsReasonKept viewing.hello.text_limit cause n kept) bytes was
-    (leads viewing.hello) s prefix stands in
-    record {
-      items = [];
-      front = r.0;
-      later = r.1;
-      reads = r.3;
-      quiet = refl;
-      asked = subst (λ (a : ServerAt). IsReasonAt viewing.hello.text_limit cause n kept a r.0) (sym r.4) r.5;
-    }
+reason_leads old cause n kept bytes was leads = λ viewing.
+    greet_leads viewing old (IsReasonKept viewing.hello.text_limit cause n kept)
+    (IsReasonAt viewing.hello.text_limit cause n kept) (λ p front is. is) bytes was (leads viewing.hello)
 
 no_reason : (old new : Viewer) → reason_in new.hello ≡ no_text → KeepsNone old new
 no_reason old new none = λ viewing s prefix stands. ap (λ (k : KeptText). k.bytes) none
@@ -170,17 +133,9 @@ greet_keeps HelloMemory old new bytes was kept = no_reason old new kept
 
 offer_leads : (old : Viewer) (offered : Offered) (bytes : List ℕ) → old.progress ≡ Handshake →
     HelloOffers offered old.hello bytes → LeadsToOffer offered old bytes
-offer_leads old offered bytes was leads = λ viewing s prefix stands.
-    let r = hello_leads viewing old (IsOfferedIn offered) bytes was (leads viewing.hello) s prefix stands in
-    record {
-      items = [];
-      front = r.0;
-      later = r.1;
-      reads = r.3;
-      quiet = refl;
-      asked =
-          subst (λ (a : ServerAt). IsOfferedAt offered a r.0) (sym r.4) r.5;
-    }
+offer_leads old offered bytes was leads = λ viewing.
+    greet_leads viewing old (IsOfferedIn offered) (IsOfferedAt offered) (λ p front is. is) bytes was
+    (leads viewing.hello)
 
 pub greet_offers : (fault : HelloFault) (old new : Viewer) (bytes : List ℕ) → old.progress ≡ Handshake →
     HelloKeepsOffer fault old.hello bytes new.hello → KeepsOffer (fault_of_hello fault) old bytes new
@@ -199,17 +154,9 @@ greet_offers HelloMemory old new bytes was kept = kept
 pub answer_offers : (old : Viewer) (after : ViewerHello) (bytes : List ℕ) (reply : ArrayVec ℕ) →
     old.progress ≡ Handshake → HelloTakesOffer (Some (StepReply reply)) old.hello bytes after →
     LeadsTo (λ viewing s front. IsOfferOn (offered_of old) (offered_in after) s.point front) old bytes
-answer_offers old after bytes reply was leads = λ viewing s prefix stands.
-    let r = hello_leads viewing old (IsOfferIn (offered_of old) (offered_in after)) bytes was
-    (leads viewing.hello) s prefix stands in
-    record {
-      items = [];
-      front = r.0;
-      later = r.1;
-      reads = r.3;
-      quiet = refl;
-      asked = subst (λ (a : ServerAt). IsOfferOn (offered_of old) (offered_in after) a r.0) (sym r.4) r.5;
-    }
+answer_offers old after bytes reply was leads = λ viewing.
+    greet_leads viewing old (IsOfferIn (offered_of old) (offered_in after))
+    (IsOfferOn (offered_of old) (offered_in after)) (λ p front is. is) bytes was (leads viewing.hello)
 
 -- an end that goes on has no reason
 pub fed_keeps : (old : Viewer) (after : ViewerHello) (bytes : List ℕ) (event : Option ViewerStep) →
@@ -227,14 +174,6 @@ pub open_going : (hello : ViewerHello) → is_open hello ≡ true → hello_faul
 open_going hello e = by hello.progress e
   where
     by : (p : HelloProgress) → goes_on p ≡ true → hello_fault_in p ≡ None
-    by (VersionPart part) e = refl
-    by (Word part) e = refl
-    by (Count version) e = refl
-    by (Types version list) e = refl
-    by (ResultPart version part) e = refl
-    by (ReasonLength cause part) e = refl
-    by (Reason cause n more kept) e = refl
-    by (Init version part) e = refl
-    by (Name version width height n more kept) e = refl
     by Done e = absurd cc
     by (FailedPart fault kept) e = absurd cc
+    by p e = refl

@@ -224,7 +224,7 @@ module _ (viewing : Viewing) (old after : Viewer) where
 
   pub opened_ends : (more : ℕ) (part : ArrayVec ℕ) (unit whole rest : List ℕ) (head : HeadOfRect)
       (picture now : Grid Colour) (painter : UnderWay) (fault : PaintFault) (bytes : List ℕ) → bytes ≡ unit ++ rest →
-      IsOpened viewing old after more part unit whole head picture painter → Refuses painter picture rest now fault →
+      IsOpened old more part unit whole head picture painter → Refuses painter picture rest now fault →
       StepsBy (viewer viewing) (StandsFor viewing) old (unit ++ rest) (Err (fault_of_paint fault)) after →
       EndsHere viewing (fault_of_paint fault) (Some now) old bytes
   opened_ends more part unit whole rest head picture now painter fault bytes cut opened refuses steps =
@@ -282,25 +282,37 @@ module _ (viewing : Viewing) (old after : Viewer) where
         },
       )))
 
--- ---- want of memory after a head
+-- ---- want of memory
 
-pub asked_ends : (viewing : Viewing) (old : Viewer) (part : ArrayVec ℕ) (bytes : List ℕ) → old.progress ≡ Head part →
+-- where what is stored shows what came before
+pub starved_ends : (viewing : Viewing) (old : Viewer) (bytes : List ℕ) →
+    ((s : ViewerState) (prefix front : List ℕ) →
+    StandsFor viewing old s prefix → ShowsLast s.point s.picture front old.picture) →
     ((s : ViewerState) (prefix : List ℕ) → StandsFor viewing old s prefix → (front later : List ℕ)
     × (prefix ++ bytes ≡ front ++ later) × AsksMemory viewing s front) → EndsHere viewing NoMemory old.picture old bytes
-asked_ends viewing old part bytes was asks s prefix stands =
-    let r = asks s prefix stands in
-    let h = at_head viewing old part s.point s.picture prefix (here viewing old (Head part) s prefix was stands) in
-    let left = h.2.left_is in (
+starved_ends viewing old bytes shown asks s prefix stands =
+    let r = asks s prefix stands in (
       r.0,
       r.1,
       r.2,
       record {
         bad = λ other. absurd (other refl);
         asks = λ _. r.3;
-        shows = subst (λ (a : ServerAt). ShowsLast a s.picture r.0 old.picture) (sym h.1)
-            (inl (λ some. absurd (omega (arith, some, left)), h.3));
+        shows = shown s prefix r.0 stands;
       },
     )
+
+-- after a head
+pub asked_ends : (viewing : Viewing) (old : Viewer) (part : ArrayVec ℕ) (bytes : List ℕ) →
+    old.progress ≡ Head part →
+    ((s : ViewerState) (prefix : List ℕ) → StandsFor viewing old s prefix → (front later : List ℕ)
+    × (prefix ++ bytes ≡ front ++ later) × AsksMemory viewing s front) →
+    EndsHere viewing NoMemory old.picture old bytes
+asked_ends viewing old part bytes was = starved_ends viewing old bytes (λ s prefix front stands.
+    let h = at_head viewing old part s.point s.picture prefix (here viewing old (Head part) s prefix was stands) in
+    let left = h.2.left_is in
+    subst (λ (a : ServerAt). ShowsLast a s.picture front old.picture) (sym h.1)
+    (inl (λ some. absurd (omega (arith, some, left)), h.3)))
 
 -- and after the head of a text
 pub head_memory : (viewing : Viewing) (old : Viewer) (part : ArrayVec ℕ)

@@ -73,10 +73,5 @@ pub starts : (viewing : Viewing) (v : Viewer) → FedBy (viewer viewing) (Stands
 starts viewing v = fed_start (viewer viewing) (StandsFor viewing) v (stands_waits viewing v)
 
 pub not_failed : (p : Progress) → ((fault : ViewerFault) → p ≡ Failed fault → ⊥) → fault_in p ≡ None
-not_failed Handshake not = refl
-not_failed (Head bytes) not = refl
-not_failed (RectHead more head) not = refl
-not_failed (Data more painter) not = refl
-not_failed (Colours more) not = refl
-not_failed (CutText n more kept) not = refl
 not_failed (Failed fault) not = absurd (not fault refl)
+not_failed p not = refl

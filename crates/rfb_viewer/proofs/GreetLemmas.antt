@@ -20,19 +20,12 @@ use Rattle.rfb_hello.specs.declared.fault.HelloFault.{HelloFault}
 use Rattle.rfb_hello.specs.declared.step.ViewerStep.{ViewerStep}
 use Rattle.rfb_hello.specs.declared.step.ViewerStep.TheVariants.{Reply, Screen, Ready}
 use Rattle.rfb_hello.specs.declared.viewer_hello.ViewerHello.{ViewerHello}
-use Rattle.rfb_hello.specs.declared.viewer_hello.progress.Progress.{Progress as HelloProgress}
-use Rattle.rfb_hello.specs.declared.viewer_hello.progress.Progress.TheVariants.{Version as VersionPart, Word, Count}
-use Rattle.rfb_hello.specs.declared.viewer_hello.progress.Progress.TheVariants.{Types, Result as ResultPart}
-use Rattle.rfb_hello.specs.declared.viewer_hello.progress.Progress.TheVariants.{ReasonLength, Reason, Init}
-use Rattle.rfb_hello.specs.declared.viewer_hello.progress.Progress.TheVariants.{Name as NamePart, Done}
-use Rattle.rfb_hello.specs.declared.viewer_hello.progress.Progress.TheVariants.{Failed as HelloFailed}
-use Rattle.rfb_hello.specs.KeptText.{KeptText, no_text}
+use Rattle.rfb_hello.specs.KeptText.{KeptText}
 use Rattle.rfb_hello.specs.ServerHandshake.{ServerPoint, AwaitsVersion, AwaitsSecurity, AwaitsResult, AwaitsInit}
 use Rattle.rfb_hello.specs.ServerHandshake.{AwaitsName, Begun, ServerItem, ProtocolVersion, SecurityNone, SecurityTypes}
 use Rattle.rfb_hello.specs.ServerHandshake.{SecurityResult, ServerInit, Name, SpellsServerItem, past_server_item}
 use Rattle.rfb_hello.specs.ServerItems.{server_handshake}
 use Rattle.rfb_hello.specs.ViewerEnd.{ViewerSetup, viewer_tells as handshake_tells, viewer_end}
-use Rattle.rfb_hello.specs.ViewerProgress.{ProgressStandsFor as HelloProgressStandsFor, reason_in}
 use Rattle.rfb_hello.specs.ViewerModel.{StandsFor as HelloStandsFor, setup_of, is_open, reason_of}
 use Rattle.rfb_hello.proofs.ServerStreamLaws.{server_handshake_spelled}
 use Rattle.rfb_hello.proofs.ToldOfLaws.{screen_at, viewer_ready_at}
@@ -49,6 +42,7 @@ use Rattle.rfb_viewer.specs.Viewer.{ends_update, black}
 use Rattle.rfb_viewer.specs.Progress.{ProgressStandsFor, Stores, IsScreenAt}
 use Rattle.rfb_viewer.specs.Model.{StandsFor, is_outstanding}
 use Rattle.rfb_viewer.specs.inside.Steps.{at_message, screen_or}
+use Rattle.rfb_viewer.proofs.LendLemmas.{hello_unreasoned}
 use Rattle.rfb_viewer.proofs.MessageLemmas.{here}
 
 -- ---- each step of a handshake has an event
@@ -142,21 +136,6 @@ reply_keeps setup form (AwaitsInit version) (ServerInit width height zero) g r e
 reply_keeps setup form (AwaitsInit version) (ServerInit width height (suc n)) g r e = absurd cc
 reply_keeps setup form (AwaitsName version width height name_length) (Name text) g r e = absurd cc
 reply_keeps setup form p i g r e = absurd cc
-
--- an end that stands for a point keeps no reason
-none_kept : (limit : ℕ) (progress : HelloProgress) (p : ServerPoint) (prefix : List ℕ) →
-    HelloProgressStandsFor limit progress p prefix → reason_in progress ≡ no_text
-none_kept limit (VersionPart part) p prefix h = refl
-none_kept limit (Word part) p prefix h = refl
-none_kept limit (Count version) p prefix h = refl
-none_kept limit (Types version list) p prefix h = refl
-none_kept limit (ResultPart version part) p prefix h = refl
-none_kept limit (ReasonLength cause part) p prefix h = refl
-none_kept limit (Reason cause n more kept) p prefix h = refl
-none_kept limit (Init version part) p prefix h = refl
-none_kept limit (NamePart version width height n more kept) p prefix h = refl
-none_kept limit Done p prefix h = refl
-none_kept limit (HelloFailed fault kept) p prefix h = absurd h
 
 pub at_hello : (viewing : Viewing) (v : Viewer) (at : ServerAt) (g : Option (Grid Colour)) (prefix : List ℕ) →
     ProgressStandsFor viewing v Handshake at g prefix → (p : ServerPoint) × (at ≡ First p) × HelloStandsFor
@@ -315,7 +294,8 @@ module _ (viewing : Viewing) (old new : Viewer) (after : ViewerHello) where
     record {
       closed = ap is_open made.hello ∙ closed;
       unreasoned = ap reason_of made.hello
-          ∙ none_kept viewing.hello.text_limit after.progress (Begun version width height) [] stands.progress_is;
+          ∙ hello_unreasoned viewing.hello.text_limit after.progress (Begun version width height) []
+          stands.progress_is;
       form_is = form ∙ sym made.form;
       left_is = refl;
       screen = uniform width height black;

@@ -70,26 +70,34 @@ module _ (viewing : Viewing) (old : Viewer) where
   asks_too (AwaitsName version width height name_length) bytes a = a
   asks_too (Begun version width height) bytes a = a
 
-  abbrev pub greet_starves : (bytes : List ℕ) → old.progress ≡ Handshake →
-      RunsOutBy (viewer_end viewing.hello) (HelloAsks viewing.hello) (HelloStandsFor viewing.hello) old.hello bytes →
-      RunsOutBy (viewer viewing) (AsksMemory viewing) (StandsFor viewing) old bytes
-  greet_starves bytes was out s prefix stands =
+  -- bytes that lead its end somewhere, lead the viewer to where that is in the words of its points
+  abbrev pub greet_leads : (Asked : ServerPoint → List ℕ → Type 0) (There : ServerAt → List ℕ → Type 0) →
+      ((p : ServerPoint) (front : List ℕ) → Asked p front → There (First p) front) → (bytes : List ℕ) →
+      old.progress ≡ Handshake →
+      RunsOutBy (viewer_end viewing.hello) Asked (HelloStandsFor viewing.hello) old.hello bytes →
+      RunsOutBy (viewer viewing) (λ s front. There s.point front) (StandsFor viewing) old bytes
+  greet_leads Asked There at bytes was out s prefix stands =
       let h = at_hello viewing old s.point s.picture prefix (here viewing old Handshake s prefix was stands) in
       let r = out h.0 prefix h.2 in
       let none = none_quiet viewing.hello h.0 (prefix ++ bytes) (r.front ++ r.later) r.items r.reads r.quiet in
       let reads : prefix ++ bytes ≡ r.front ++ r.later =
       subst (λ (items : List ServerItem). ReadsAll (server_handshake viewing.hello.limit viewing.hello.max_places)
       h.0 (prefix ++ bytes) items (r.front ++ r.later)) none r.reads in
-      let asked : HelloAsks viewing.hello h.0 r.front = subst (λ (items : List ServerItem). HelloAsks viewing.hello
-      (acts (viewer_end viewing.hello) h.0 items) r.front) none r.asked in
+      let asked : Asked h.0 r.front =
+      subst (λ (items : List ServerItem). Asked (acts (viewer_end viewing.hello) h.0 items) r.front) none r.asked in
       record {
         items = [];
         front = r.front;
         later = r.later;
         reads = reads;
         quiet = refl;
-        asked = subst (λ (a : ServerAt). AsksAt viewing.hello a r.front) (sym h.1) (asks_too h.0 r.front asked);
+        asked = subst (λ (a : ServerAt). There a r.front) (sym h.1) (at h.0 r.front asked);
       }
+
+  abbrev pub greet_starves : (bytes : List ℕ) → old.progress ≡ Handshake →
+      RunsOutBy (viewer_end viewing.hello) (HelloAsks viewing.hello) (HelloStandsFor viewing.hello) old.hello bytes →
+      RunsOutBy (viewer viewing) (AsksMemory viewing) (StandsFor viewing) old bytes
+  greet_starves bytes was out = greet_leads (HelloAsks viewing.hello) (AsksAt viewing.hello) asks_too bytes was out
 
   -- no memory for a screen, where there was none
   abbrev pub screen_asks : (bytes : List ℕ) (n : ℕ) (after : ViewerHello) (d : ViewerStep) →

@@ -24,14 +24,11 @@ use Rattle.rfb_hello.specs.ServerHandshake.{ServerPoint}
 use Rattle.rfb_hello.specs.ViewerModel.{StandsFor as HelloStandsFor, reason_of as hello_reason}
 use Rattle.rfb_hello.specs.ViewerProgress.{ProgressStandsFor as HelloProgressStandsFor, reason_in}
 use Rattle.rfb_hello.specs.declared.viewer_hello.progress.Progress.{Progress as HelloProgress}
-use Rattle.rfb_hello.specs.declared.viewer_hello.progress.Progress.TheVariants.{Version as VersionPart, Word, Count}
-use Rattle.rfb_hello.specs.declared.viewer_hello.progress.Progress.TheVariants.{Types, Result as ResultPart}
-use Rattle.rfb_hello.specs.declared.viewer_hello.progress.Progress.TheVariants.{ReasonLength, Reason, Init, Name, Done}
 use Rattle.rfb_hello.specs.declared.viewer_hello.progress.Progress.TheVariants.{Failed as HelloFailed}
 use Rattle.rfb_viewer.specs.declared.viewer.Viewer.{Viewer}
 use Rattle.rfb_viewer.specs.declared.viewer.progress.Progress.{Progress}
 use Rattle.rfb_viewer.specs.declared.viewer.progress.Progress.TheVariants.{Handshake, Head, RectHead, Data, Colours}
-use Rattle.rfb_viewer.specs.declared.viewer.progress.Progress.TheVariants.{CutText, Failed}
+use Rattle.rfb_viewer.specs.declared.viewer.progress.Progress.TheVariants.{CutText}
 use Rattle.rfb_viewer.specs.ServerBytes.{ServerAt, is_between, server_bytes_pending}
 use Rattle.rfb_viewer.specs.inside.Sound.{is_idle}
 use Rattle.rfb_viewer.specs.Viewer.{Viewing}
@@ -58,58 +55,37 @@ pieces_shown viewing v q painter before prefix p =
 pub shows_at : (viewing : Viewing) (v : Viewer) (p : Progress) (at : ServerAt) (g : Option (Grid Colour))
     (prefix : List ℕ) → ProgressStandsFor viewing v p at g prefix → ShowsAt at g prefix v.picture
 shows_at viewing v Handshake (First point) g prefix h = h.3
-shows_at viewing v Handshake (Second q) g prefix h = absurd h
-shows_at viewing v (Head bytes) (First point) g prefix h = absurd h
 shows_at viewing v (Head bytes) (Second q) g prefix h =
     let left = h.0.left_is in
     inl (λ some. absurd (omega (arith, some, left)), h.1)
-shows_at viewing v (RectHead more head) (First point) g prefix h = absurd h
 shows_at viewing v (RectHead more head) (Second q) g prefix h = let short = h.3 in inl (λ some. rw h.2 short, h.1)
-shows_at viewing v (Data more painter) (First point) g prefix h = absurd h
 shows_at viewing v (Data more painter) (Second q) g prefix h =
     inr (h.0.screen, h.1.now, h.0.picture_is, h.1.now_is, pieces_shown viewing v q painter h.0.screen prefix h.1)
-shows_at viewing v (Colours more) (First point) g prefix h = absurd h
 shows_at viewing v (Colours more) (Second q) g prefix h =
     let left = h.0.left_is in
     inl (λ some. absurd (omega (arith, some, left)), h.1)
-shows_at viewing v (CutText n more kept) (First point) g prefix h = absurd h
 shows_at viewing v (CutText n more kept) (Second q) g prefix h =
     let left = h.0.left_is in
     inl (λ some. absurd (omega (arith, some, left)), h.1)
-shows_at viewing v (Failed fault) at g prefix h = absurd h
+shows_at viewing v p at g prefix h = absurd h
 
 -- ---- reasons
 
 pub hello_unreasoned : (limit : ℕ) (p : HelloProgress) (point : ServerPoint) (prefix : List ℕ) →
     HelloProgressStandsFor limit p point prefix → reason_in p ≡ no_text
-hello_unreasoned limit (VersionPart part) point prefix h = refl
-hello_unreasoned limit (Word part) point prefix h = refl
-hello_unreasoned limit (Count version) point prefix h = refl
-hello_unreasoned limit (Types version list) point prefix h = refl
-hello_unreasoned limit (ResultPart version part) point prefix h = refl
-hello_unreasoned limit (ReasonLength cause part) point prefix h = refl
-hello_unreasoned limit (Reason cause n more kept) point prefix h = refl
-hello_unreasoned limit (Init version part) point prefix h = refl
-hello_unreasoned limit (Name version width height n more kept) point prefix h = refl
-hello_unreasoned limit Done point prefix h = refl
 hello_unreasoned limit (HelloFailed fault kept) point prefix h = absurd h
+hello_unreasoned limit p point prefix h = refl
 
 pub unreasoned_at : (viewing : Viewing) (v : Viewer) (p : Progress) (at : ServerAt) (g : Option (Grid Colour))
     (prefix : List ℕ) → ProgressStandsFor viewing v p at g prefix → hello_reason v.hello ≡ no_text
 unreasoned_at viewing v Handshake (First point) g prefix h =
     hello_unreasoned viewing.hello.text_limit v.hello.progress point prefix h.0.progress_is
-unreasoned_at viewing v Handshake (Second q) g prefix h = absurd h
-unreasoned_at viewing v (Head bytes) (First point) g prefix h = absurd h
 unreasoned_at viewing v (Head bytes) (Second q) g prefix h = h.0.unreasoned
-unreasoned_at viewing v (RectHead more head) (First point) g prefix h = absurd h
 unreasoned_at viewing v (RectHead more head) (Second q) g prefix h = h.0.unreasoned
-unreasoned_at viewing v (Data more painter) (First point) g prefix h = absurd h
 unreasoned_at viewing v (Data more painter) (Second q) g prefix h = h.0.unreasoned
-unreasoned_at viewing v (Colours more) (First point) g prefix h = absurd h
 unreasoned_at viewing v (Colours more) (Second q) g prefix h = h.0.unreasoned
-unreasoned_at viewing v (CutText n more kept) (First point) g prefix h = absurd h
 unreasoned_at viewing v (CutText n more kept) (Second q) g prefix h = h.0.unreasoned
-unreasoned_at viewing v (Failed fault) at g prefix h = absurd h
+unreasoned_at viewing v p at g prefix h = absurd h
 
 -- ---- between two messages
 
@@ -129,31 +105,20 @@ some_bytes q (first ∷ front) rest some = refl
 pub idle_is : (viewing : Viewing) (v : Viewer) (p : Progress) (at : ServerAt) (g : Option (Grid Colour))
     (prefix : List ℕ) → ProgressStandsFor viewing v p at g prefix → is_idle p ≡ is_between at prefix
 idle_is viewing v Handshake (First point) g prefix h = refl
-idle_is viewing v Handshake (Second q) g prefix h = absurd h
-idle_is viewing v (Head bytes) (First point) g prefix h = absurd h
 idle_is viewing v (Head bytes) (Second q) g prefix h = rw h.2 (no_bytes q bytes.items h.0.left_is)
-idle_is viewing v (RectHead more head) (First point) g prefix h = absurd h
 idle_is viewing v (RectHead more head) (Second q) g prefix h = some_left q prefix more h.0.left_is
-idle_is viewing v (Data more painter) (First point) g prefix h = absurd h
 idle_is viewing v (Data more painter) (Second q) g prefix h = some_left q prefix more h.0.left_is
-idle_is viewing v (Colours more) (First point) g prefix h = absurd h
 idle_is viewing v (Colours more) (Second q) g prefix h =
     let size = h.2.head_is.size in
     rw h.2.prefix_is (some_bytes q h.2.head h.2.colours (omega (arith, size)))
-idle_is viewing v (CutText n more kept) (First point) g prefix h = absurd h
 idle_is viewing v (CutText n more kept) (Second q) g prefix h =
     let size = h.2.head_is.size in
     rw h.2.prefix_is (some_bytes q h.2.head h.2.text (omega (arith, size)))
-idle_is viewing v (Failed fault) at g prefix h = absurd h
+idle_is viewing v p at g prefix h = absurd h
 
 pub failed_idle : (p : Progress) → fault_in p ≢ None → is_idle p ≡ false
-failed_idle Handshake not = refl
 failed_idle (Head bytes) not = absurd (not refl)
-failed_idle (RectHead more head) not = refl
-failed_idle (Data more painter) not = refl
-failed_idle (Colours more) not = refl
-failed_idle (CutText n more kept) not = refl
-failed_idle (Failed fault) not = refl
+failed_idle p not = refl
 
 -- ---- pending bytes
 

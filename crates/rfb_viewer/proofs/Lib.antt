@@ -22,3 +22,6 @@ pub mod DamageStepLemmas
 pub mod DamageFeedLemmas
 pub mod TakingLemmas
 pub mod MovedLemmas
+pub mod GreetStepLemmas
+pub mod TakeAllLemmas
+pub mod RectStepLemmas

@@ -1,5 +1,5 @@
 -- What a viewer makes of the colours and of the text that follow a head.
-use Rattle.std.proofs.Common.{◌≡◌, ℕ, zero, suc, ◌+◌, ◌*◌, ◌<◌, ◌≤◌, List, [], ◌∷◌, ◌++◌}
+use Rattle.std.proofs.Common.{◌≡◌, ℕ, zero, suc, ◌+◌, ◌*◌, ◌≤◌, List, [], ◌∷◌, ◌++◌}
 use Rattle.std.proofs.Common.{Some, None, Ok, length, take, drop, min, refl, sym, subst, ◌∙◌, ap}
 use Rattle.std.proofs.Common.{arith, length-append, append_assoc, take-append-drop, length-drop}
 use Rattle.std.proofs.lemmas.List.{length-take-le}
@@ -12,13 +12,14 @@ use Rattle.rfb_wire.specs.stream.End.{StepsBy}
 use Rattle.rfb_wire.proofs.WaitLaws.{colours_wait, server_text_waits}
 use Rattle.rfb_codec.specs.UpdateStream.{Message}
 use Rattle.rfb_codec.proofs.UpdateWaitLaws.{past_left, message_waits}
-use Rattle.rfb_hello.specs.KeptText.{KeptText, kept_of}
+use Rattle.rfb_hello.specs.KeptText.{KeptText}
 use Rattle.rfb_hello.proofs.KeptTextLaws.{kept_on}
 use Rattle.rfb_viewer.specs.declared.viewer.Viewer.{Viewer}
 use Rattle.rfb_viewer.specs.declared.viewer.progress.Progress.TheVariants.{Colours, CutText}
 use Rattle.rfb_viewer.specs.Told.{ColourMapSkipped, CutText as CutTextTold}
 use Rattle.rfb_viewer.specs.Viewer.{Viewing, viewer}
 use Rattle.rfb_viewer.specs.Model.{StandsFor}
+use Rattle.rfb_viewer.specs.Progress.{AreColoursBegun, IsTextBegun}
 use Rattle.rfb_viewer.specs.inside.Steps.{at_message}
 use Rattle.rfb_viewer.proofs.StepLemmas.{IsMade, more_step, got_step}
 use Rattle.rfb_viewer.proofs.MessageLemmas.{here, at_colours, at_text, part_stands, next_stands, got_whole}
@@ -41,13 +42,40 @@ are_colours (suc count) bytes size =
       (take 6 bytes, drop 6 bytes, sym (take-append-drop 6 bytes), one, rest.2),
     )
 
+-- more of them have come
+colours_on : (more left : ℕ) (prefix unit : List ℕ) → AreColoursBegun (more + 1) prefix →
+    length unit + left ≡ more + 1 → AreColoursBegun left (prefix ++ unit)
+colours_on more left prefix unit b count =
+    let missing = b.missing in
+    record {
+      head = b.head;
+      colours = b.colours ++ unit;
+      first = b.first;
+      count = b.count;
+      prefix_is = ap (λ (ys : List ℕ). ys ++ unit) b.prefix_is ∙ append_assoc b.head b.colours unit;
+      head_is = b.head_is;
+      missing = omega (arith, missing, length-append b.colours unit, count);
+    }
+
 -- ---- texts of which the first bytes are kept
 
-kept_joined : (limit n : ℕ) (text unit : List ℕ) (kept now : KeptText) → kept ≡ kept_of limit n text →
-    now ≡ record kept { bytes = take kept.room (kept.bytes ++ unit) } → length (text ++ unit) ≤ n →
-    now ≡ kept_of limit n (text ++ unit)
-kept_joined limit n text unit kept now is made within =
-    made ∙ rw is (ap (λ (ys : List ℕ). record { room = min n limit; bytes = ys }) (kept_on limit n text unit within))
+-- more of it has come
+text_on : (limit n more left : ℕ) (kept now : KeptText) (prefix unit : List ℕ) →
+    IsTextBegun limit n (more + 1) kept prefix → length unit + left ≡ more + 1 →
+    now ≡ record kept { bytes = take kept.room (kept.bytes ++ unit) } →
+    IsTextBegun limit n left now (prefix ++ unit)
+text_on limit n more left kept now prefix unit b count made =
+    let missing = b.missing in
+    let size : length (b.text ++ unit) + left ≡ n = omega (arith, missing, length-append b.text unit, count) in
+    record {
+      head = b.head;
+      text = b.text ++ unit;
+      prefix_is = ap (λ (ys : List ℕ). ys ++ unit) b.prefix_is ∙ append_assoc b.head b.text unit;
+      head_is = b.head_is;
+      missing = size;
+      kept_is = made ∙ rw b.kept_is (ap (λ (ys : List ℕ). record { room = min n limit; bytes = ys })
+          (kept_on limit n b.text unit (omega (arith, size))));
+    }
 
 -- ---- after a part of a message
 
@@ -61,31 +89,14 @@ module _ (viewing : Viewing) (old new : Viewer) where
       more_step viewing old new unit (λ s prefix stands.
       let h =
       at_colours viewing old more s.point s.picture prefix (here viewing old (Colours more) s prefix was stands) in
-      let b = h.4 in
-      let all : prefix ++ unit ≡ b.head ++ (b.colours ++ unit) =
-      ap (λ (ys : List ℕ). ys ++ unit) b.prefix_is ∙ append_assoc b.head b.colours unit in
-      let missing = b.missing in
-      let long = length-append b.colours unit in (
+      let t = colours_on more (left + 1) prefix unit h.4 (omega (arith, count)) in
+      let missing = t.missing in (
         h.0,
         h.1,
-        rw all (message_waits h.0 (b.head ++ (b.colours ++ unit)) h.2.left_is
-            (colours_wait b.first b.count b.head (b.colours ++ unit) b.head_is (omega (arith, missing, long, count)))),
-        rw all (part_stands viewing old new s prefix (b.head ++ (b.colours ++ unit))
-            h.0 (Colours left) stands h.1 h.2 h.3
-            made
-            (λ ready stored. (
-              ready,
-              stored,
-              record {
-                head = b.head;
-                colours = b.colours ++ unit;
-                first = b.first;
-                count = b.count;
-                prefix_is = refl;
-                head_is = b.head_is;
-                missing = omega (arith, missing, long, count);
-              },
-            ))),
+        rw t.prefix_is (message_waits h.0 (t.head ++ t.colours) h.2.left_is
+            (colours_wait t.first t.count t.head t.colours t.head_is (omega (arith, missing)))),
+        part_stands viewing old new s prefix (prefix ++ unit) h.0 (Colours left) stands h.1 h.2 h.3 made
+            (λ ready stored. (ready, stored, t)),
       ))
 
   pub colours_got : (more : ℕ) (unit : List ℕ) →
@@ -95,23 +106,20 @@ module _ (viewing : Viewing) (old new : Viewer) where
       got_step viewing old new unit (Some ColourMapSkipped) (λ s prefix stands.
       let h =
       at_colours viewing old more s.point s.picture prefix (here viewing old (Colours more) s prefix was stands) in
-      let b = h.4 in
-      let all : prefix ++ unit ≡ b.head ++ (b.colours ++ unit) =
-      ap (λ (ys : List ℕ). ys ++ unit) b.prefix_is ∙ append_assoc b.head b.colours unit in
-      let missing = b.missing in
-      let long = length-append b.colours unit in
-      let list = are_colours b.count (b.colours ++ unit) (omega (arith, missing, long, count)) in
-      got_whole viewing old new s prefix unit (b.head ++ (b.colours ++ unit)) h.0 (SetColorMapEntries b.first list.0)
-      (Some ColourMapSkipped) all h.1 h.2.left_is
+      let t = colours_on more 0 prefix unit h.4 (omega (arith, count)) in
+      let missing = t.missing in
+      let list = are_colours t.count t.colours (omega (arith, missing)) in
+      got_whole viewing old new s prefix unit (t.head ++ t.colours) h.0 (SetColorMapEntries t.first list.0)
+      (Some ColourMapSkipped) t.prefix_is h.1 h.2.left_is
       (record {
-        head = b.head;
-        list = b.colours ++ unit;
+        head = t.head;
+        list = t.colours;
         whole = refl;
-        head_is = subst (λ (k : ℕ). SpellsColourMap b.first k b.head) (sym list.1) b.head_is;
+        head_is = subst (λ (k : ℕ). SpellsColourMap t.first k t.head) (sym list.1) t.head_is;
         listed = list.2;
       }) refl
-      (next_stands viewing old new s prefix h.0 (SetColorMapEntries b.first list.0) stands h.1 h.2 h.3 made
-      (past_left h.0 (Message (SetColorMapEntries b.first list.0))) refl))
+      (next_stands viewing old new s prefix h.0 (SetColorMapEntries t.first list.0) stands h.1 h.2 h.3 made
+      (past_left h.0 (Message (SetColorMapEntries t.first list.0))) refl))
 
   -- ---- texts
 
@@ -123,33 +131,14 @@ module _ (viewing : Viewing) (old new : Viewer) where
       more_step viewing old new unit (λ s prefix stands.
       let h = at_text viewing old n more kept s.point s.picture prefix
       (here viewing old (CutText n more kept) s prefix was stands) in
-      let b = h.4 in
-      let all : prefix ++ unit ≡ b.head ++ (b.text ++ unit) =
-      ap (λ (ys : List ℕ). ys ++ unit) b.prefix_is ∙ append_assoc b.head b.text unit in
-      let missing = b.missing in
-      let long = length-append b.text unit in
-      let few : length (b.text ++ unit) < n = omega (arith, missing, long, count) in
-      let now_is : now ≡ kept_of viewing.hello.text_limit n (b.text ++ unit) =
-      kept_joined viewing.hello.text_limit n b.text unit kept now b.kept_is is (omega (arith, few)) in (
+      let t = text_on viewing.hello.text_limit n more (left + 1) kept now prefix unit h.4 (omega (arith, count)) is in
+      let missing = t.missing in (
         h.0,
         h.1,
-        rw all (message_waits h.0 (b.head ++ (b.text ++ unit)) h.2.left_is
-            (server_text_waits n b.head (b.text ++ unit) b.head_is few)),
-        rw all (part_stands viewing old new s prefix (b.head ++ (b.text ++ unit))
-            h.0 (CutText n left now) stands h.1 h.2 h.3
-            made
-            (λ ready stored. (
-              ready,
-              stored,
-              record {
-                head = b.head;
-                text = b.text ++ unit;
-                prefix_is = refl;
-                head_is = b.head_is;
-                missing = omega (arith, missing, long, count);
-                kept_is = now_is;
-              },
-            ))),
+        rw t.prefix_is (message_waits h.0 (t.head ++ t.text) h.2.left_is
+            (server_text_waits n t.head t.text t.head_is (omega (arith, missing)))),
+        part_stands viewing old new s prefix (prefix ++ unit) h.0 (CutText n left now) stands h.1 h.2 h.3 made
+            (λ ready stored. (ready, stored, t)),
       ))
 
   pub text_got : (n more : ℕ) (kept now : KeptText) (unit : List ℕ) → old.progress ≡ CutText n more kept →
@@ -160,25 +149,19 @@ module _ (viewing : Viewing) (old new : Viewer) where
       got_step viewing old new unit (Some (CutTextTold now.bytes n)) (λ s prefix stands.
       let h = at_text viewing old n more kept s.point s.picture prefix
       (here viewing old (CutText n more kept) s prefix was stands) in
-      let b = h.4 in
-      let text = b.text ++ unit in
-      let all : prefix ++ unit ≡ b.head ++ text =
-      ap (λ (ys : List ℕ). ys ++ unit) b.prefix_is ∙ append_assoc b.head b.text unit in
-      let missing = b.missing in
-      let long = length-append b.text unit in
-      let size : length text ≡ n = omega (arith, missing, long, count) in
-      let now_is : now ≡ kept_of viewing.hello.text_limit n text =
-      kept_joined viewing.hello.text_limit n b.text unit kept now b.kept_is is (omega (arith, size)) in
-      let told : Some (CutTextTold (take viewing.hello.text_limit text) (length text))
+      let t = text_on viewing.hello.text_limit n more 0 kept now prefix unit h.4 (omega (arith, count)) is in
+      let missing = t.missing in
+      let size : length t.text ≡ n = omega (arith, missing) in
+      let told : Some (CutTextTold (take viewing.hello.text_limit t.text) (length t.text))
       ≡ Some (CutTextTold now.bytes n) =
-      ap (λ (k : ℕ). Some (CutTextTold (take viewing.hello.text_limit text) k)) size
-      ∙ ap (λ (ys : List ℕ). Some (CutTextTold ys n)) (sym (ap (λ (k : KeptText). k.bytes) now_is)) in
-      got_whole viewing old new s prefix unit (b.head ++ text) h.0 (ServerCutText text)
-      (Some (CutTextTold now.bytes n)) all h.1 h.2.left_is
+      ap (λ (k : ℕ). Some (CutTextTold (take viewing.hello.text_limit t.text) k)) size
+      ∙ ap (λ (ys : List ℕ). Some (CutTextTold ys n)) (sym (ap (λ (k : KeptText). k.bytes) t.kept_is)) in
+      got_whole viewing old new s prefix unit (t.head ++ t.text) h.0 (ServerCutText t.text)
+      (Some (CutTextTold now.bytes n)) t.prefix_is h.1 h.2.left_is
       (record {
-        head = b.head;
+        head = t.head;
         whole = refl;
-        head_is = subst (λ (k : ℕ). SpellsServerCutText k b.head) (sym size) b.head_is;
+        head_is = subst (λ (k : ℕ). SpellsServerCutText k t.head) (sym size) t.head_is;
       }) told
-      (next_stands viewing old new s prefix h.0 (ServerCutText text) stands h.1 h.2 h.3 made
-      (past_left h.0 (Message (ServerCutText text))) refl))
+      (next_stands viewing old new s prefix h.0 (ServerCutText t.text) stands h.1 h.2 h.3 made
+      (past_left h.0 (Message (ServerCutText t.text))) refl))

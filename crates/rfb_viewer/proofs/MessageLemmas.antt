@@ -56,13 +56,14 @@ at_head viewing v part (Second q) g prefix h = (q, refl, h.0, h.1, h.2, h.3)
 
 pub at_colours : (viewing : Viewing) (v : Viewer) (more : ℕ) (at : ServerAt) (g : Option (Grid Colour))
     (prefix : List ℕ) → ProgressStandsFor viewing v (Colours more) at g prefix →
-    (q : UpdatePoint) × (at ≡ Second q) × IsReadyAt v q g 0 × Stores v g × AreColoursBegun more prefix
+    (q : UpdatePoint) × (at ≡ Second q) × IsReadyAt v q g 0 × Stores v g × AreColoursBegun (more + 1) prefix
 at_colours viewing v more (First p) g prefix h = absurd h
 at_colours viewing v more (Second q) g prefix h = (q, refl, h.0, h.1, h.2)
 
 pub at_text : (viewing : Viewing) (v : Viewer) (n more : ℕ) (kept : KeptText) (at : ServerAt) (g : Option (Grid Colour))
     (prefix : List ℕ) → ProgressStandsFor viewing v (CutText n more kept) at g prefix → (q : UpdatePoint)
-    × (at ≡ Second q) × IsReadyAt v q g 0 × Stores v g × IsTextBegun viewing.hello.text_limit n more kept prefix
+    × (at ≡ Second q) × IsReadyAt v q g 0 × Stores v g × IsTextBegun viewing.hello.text_limit n (more + 1) kept
+    prefix
 at_text viewing v n more kept (First p) g prefix h = absurd h
 at_text viewing v n more kept (Second q) g prefix h = (q, refl, h.0, h.1, h.2)
 

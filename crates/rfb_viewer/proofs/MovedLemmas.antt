@@ -23,6 +23,7 @@ use Rattle.rfb_codec.proofs.UpdateStreamLaws.{update_spelled}
 use Rattle.rfb_hello.specs.declared.fault.HelloFault.{HelloFault}
 use Rattle.rfb_hello.specs.ServerHandshake.{ServerPoint, ServerItem}
 use Rattle.rfb_hello.specs.ServerItems.{server_handshake}
+use Rattle.rfb_viewer.specs.declared.event.ViewerEvent.{ViewerEvent}
 use Rattle.rfb_viewer.specs.declared.fault.ViewerFault.{ViewerFault}
 use Rattle.rfb_viewer.specs.declared.viewer.Viewer.{Viewer}
 use Rattle.rfb_viewer.specs.declared.viewer.moved.Move.{Move}
@@ -36,15 +37,18 @@ use Rattle.rfb_viewer.specs.Moved.{moved_of, moved_if, item_moves, moving, HasMo
 use Rattle.rfb_viewer.specs.Progress.{ProgressStandsFor}
 use Rattle.rfb_viewer.specs.ServerBytes.{ServerAt, FromServer, server_bytes}
 use Rattle.rfb_viewer.specs.Model.{StandsFor, picture_of, fault_of, making_of, offered_of, taken_of}
-use Rattle.rfb_viewer.specs.Told.{ViewerTold}
+use Rattle.rfb_viewer.specs.Offer.{TakesOffer}
+use Rattle.rfb_viewer.specs.Told.{ViewerTold, seen}
 use Rattle.rfb_viewer.specs.Viewer.{Viewing, ViewerState, viewer, shows}
 use Rattle.rfb_viewer.specs.inside.ItemMoves.{moves_by, MovesTo, Moves}
-use Rattle.rfb_viewer.specs.inside.ItemDamage.{Damages, EndsIn}
+use Rattle.rfb_viewer.specs.inside.FedBytes.{StepsOn}
+use Rattle.rfb_viewer.specs.inside.ItemDamage.{Damages, DamagesAt, EndsIn}
 use Rattle.rfb_viewer.specs.inside.StepPromises.{Takes}
 use Rattle.rfb_viewer.proofs.DamageLemmas.{fresh_begun, under_begun}
 use Rattle.rfb_viewer.proofs.FeedLemmas.{stands_waits}
 use Rattle.rfb_viewer.proofs.MessageLemmas.{here}
 use Rattle.rfb_viewer.proofs.RectLemmas.{IsOpened, opened_at, at_rect_head, at_data, data_done, joined, painted_now}
+use Rattle.rfb_viewer.proofs.TakingLemmas.{damages_at}
 use Rattle.rfb_viewer.proofs.ViewerLaws.{server_bytes_laws}
 
 pub moving_machine : (viewing : Viewing) → IsMachine (moving viewing)
@@ -139,31 +143,25 @@ message_moves viewing q bytes moves none = by (update_stream.next q bytes) refl
 
 -- no rectangle is under way, or its head
 abbrev pub IsQuiet : Progress → Type 0
-IsQuiet Handshake = Unit {0}
-IsQuiet (Head part) = Unit {0}
 IsQuiet (RectHead more part) = ⊥
 IsQuiet (Data more painter) = ⊥
-IsQuiet (Colours more) = Unit {0}
-IsQuiet (CutText n more kept) = Unit {0}
 IsQuiet (Failed fault) = ⊥
+IsQuiet progress = Unit {0}
 
 quiet_at : (viewing : Viewing) (v : Viewer) (p : Progress) (at : ServerAt) (g : Option (Grid Colour))
     (prefix bytes : List ℕ) (moves : List Move) →
     ProgressStandsFor viewing v p at g prefix → IsQuiet p →
     moves_by ((server_bytes viewing.form viewing.hello).next at bytes) moves ≡ moves
 quiet_at viewing v Handshake (First p) g prefix bytes moves h quiet = step_moves viewing p bytes moves
-quiet_at viewing v Handshake (Second q) g prefix bytes moves h quiet = absurd h
-quiet_at viewing v (Head part) (First p) g prefix bytes moves h quiet = absurd h
 quiet_at viewing v (Head part) (Second q) g prefix bytes moves h quiet = message_moves viewing q bytes moves h.0.left_is
 quiet_at viewing v (RectHead more part) at g prefix bytes moves h quiet = absurd quiet
 quiet_at viewing v (Data more painter) at g prefix bytes moves h quiet = absurd quiet
-quiet_at viewing v (Colours more) (First p) g prefix bytes moves h quiet = absurd h
 quiet_at viewing v (Colours more) (Second q) g prefix bytes moves h quiet =
     message_moves viewing q bytes moves h.0.left_is
-quiet_at viewing v (CutText n more kept) (First p) g prefix bytes moves h quiet = absurd h
 quiet_at viewing v (CutText n more kept) (Second q) g prefix bytes moves h quiet =
     message_moves viewing q bytes moves h.0.left_is
 quiet_at viewing v (Failed fault) at g prefix bytes moves h quiet = absurd quiet
+quiet_at viewing v p at g prefix bytes moves h quiet = absurd h
 
 -- bytes of any other item
 pub quiet_moves : (old : Viewer) (moves : List Move) (unit : List ℕ) (p : Progress) → old.progress ≡ p → IsQuiet p →
@@ -171,6 +169,25 @@ pub quiet_moves : (old : Viewer) (moves : List Move) (unit : List ℕ) (p : Prog
 quiet_moves old moves unit p was quiet same = λ viewing s prefix stands.
     same ∙ sym (quiet_at viewing old p s.point s.picture prefix (prefix ++ unit) (moved_of old)
     (here viewing old p s prefix was stands) quiet)
+
+-- what such steps promise
+pub quiet_takes : (old new : Viewer) (bytes : List ℕ) (used : ℕ) (event : Option ViewerEvent) (p : Progress) →
+    old.progress ≡ p → IsQuiet p → DamagesAt p old (take used bytes) new → 0 < used →
+    used ≤ length bytes →
+    StepsOn old (take used bytes) event new → TakesOffer (seen event) old bytes new → fault_of new ≡ None →
+    moved_of new ≡ moved_of old → making_of new ≡ making_of old → taken_of new ≡ taken_of old →
+    Takes old bytes used event new
+quiet_takes old new bytes used event p was quiet damage some within steps offered going same made taken = record {
+  some = some;
+  within = within;
+  steps = steps;
+  damage = damages_at old new (take used bytes) p was damage;
+  moved = quiet_moves old (moved_of new) (take used bytes) p was quiet same;
+  offered = offered;
+  going = going;
+  made = made;
+  taken = taken;
+}
 
 -- ---- rectangles that wait for more
 
@@ -222,32 +239,27 @@ module _ (old new : Viewer) (bytes : List ℕ) (used : ℕ) (some : 0 < used) (w
     (damage : Damages old (take used bytes) new) (going : fault_of new ≡ None) (made : making_of new ≡ making_of old)
     (same : moved_of new ≡ moved_of old) (offered : offered_of new ≡ offered_of old)
     (taken : taken_of new ≡ taken_of old) where
-  pub under_takes : (r : Rect) → under_way new.progress ≡ Some r → Takes old bytes used None new
-  under_takes r under = record {
+  inside_takes : Moves old (take used bytes) new → Takes old bytes used None new
+  inside_takes moves = record {
     some = some;
     within = within;
     steps = steps;
     damage = damage;
-    moved = under_moves old new (take used bytes) r steps under same;
+    moved = moves;
     offered = offered;
     going = going;
     made = made;
     taken = taken;
   }
 
+  pub under_takes : (r : Rect) → under_way new.progress ≡ Some r → Takes old bytes used None new
+  under_takes r under = inside_takes (under_moves old new (take used bytes) r steps under same)
+
   pub part_takes : (more : ℕ) (part now : ArrayVec ℕ) → new.progress ≡ RectHead more now →
       now.items ≡ part.items ++ take used bytes → Takes old bytes used None new
-  part_takes more part now at is = record {
-    some = some;
-    within = within;
-    steps = steps;
-    damage = damage;
-    moved = part_moves old new (take used bytes) more part now steps at is (some_taken used bytes some within) same;
-    offered = offered;
-    going = going;
-    made = made;
-    taken = taken;
-  }
+  part_takes more part now at is =
+      inside_takes (part_moves old new (take used bytes) more part now steps at is (some_taken used bytes some within)
+      same)
 
 -- ---- rectangles that have ended
 
@@ -288,12 +300,12 @@ module _ (old : Viewer) (moves : List Move) where
 
   pub rect_moves : (more : ℕ) (part : ArrayVec ℕ) (unit whole rest all : List ℕ) (head : HeadOfRect)
       (picture now : Grid Colour) (painter next : UnderWay) →
-      all ≡ unit ++ rest → ((viewing : Viewing) → IsOpened viewing old old more part unit whole head picture painter) →
+      all ≡ unit ++ rest → IsOpened old more part unit whole head picture painter →
       Paints painter picture rest next now → CopiesFrom painter picture rest next →
       moves ≡ moved_if (moved_of old) painter.rect (copied_from next.stage) → MovesTo old all moves
   rect_moves more part unit whole rest all head picture now painter next same opened paints copies moved =
       λ viewing s prefix stands.
-      let o = opened_at viewing old old s prefix more part unit whole head picture painter (opened viewing) stands in
+      let o = opened_at viewing old old s prefix more part unit whole head picture painter opened stands in
       let data_is =
       data_done o.q head whole o.ready.screen o.awaits painter o.painting_is [] rest picture now next o.fresh
       paints in
@@ -307,20 +319,3 @@ module _ (old : Viewer) (moves : List Move) where
       ∙ source_same painter next o.q head.encoding head.rect picture ([] ++ rest) (moved_of old) o.painting_is
       (copies o.ready.screen [] o.fresh)
       ∙ sym (ap (λ (n : Next FromServer ViewerFault). moves_by n (moved_of old)) next_is)
-
--- what is known after a head does not depend on what the viewer becomes
-pub reopened : (viewing : Viewing) (old new : Viewer) (more : ℕ) (part : ArrayVec ℕ) (unit whole : List ℕ)
-    (head : HeadOfRect) (picture : Grid Colour) (painter : UnderWay) →
-    IsOpened viewing old old more part unit whole head picture painter →
-    IsOpened viewing old new more part unit whole head picture painter
-reopened viewing old new more part unit whole head picture painter o =
-    record {
-      was = o.was;
-      whole_is = o.whole_is;
-      shown = o.shown;
-      spelled = o.spelled;
-      on_screen =
-          o.on_screen;
-      painting_is = o.painting_is;
-      fresh = o.fresh;
-    }

@@ -144,7 +144,7 @@ DataAre painter picture bytes next =
 module _ (viewing : Viewing) (old : Viewer) where
   opened_refuses : (more : ℕ) (part : ArrayVec ℕ) (unit whole rest : List ℕ) (head : HeadOfRect)
       (picture : Grid Colour) (painter : UnderWay) (fault : PaintFault) →
-      IsOpened viewing old old more part unit whole head picture painter → DataAre painter picture rest
+      IsOpened old more part unit whole head picture painter → DataAre painter picture rest
       (Bad fault) → RefusedBy (viewer viewing) (StandsFor viewing) old (unit ++ rest) (fault_of_paint fault)
   opened_refuses more part unit whole rest head picture painter fault opened bad =
       step_refuses (viewer viewing) (StandsFor viewing) old old (unit ++ rest) (fault_of_paint fault)
@@ -155,7 +155,7 @@ module _ (viewing : Viewing) (old : Viewer) where
       (o.q, o.at, rw (o.all rest) (body_bad o.q head whole o.ready.screen o.awaits ([] ++ rest) fault read))))
 
   opened_awaits : (more : ℕ) (part : ArrayVec ℕ) (unit whole rest : List ℕ) (head : HeadOfRect)
-      (picture : Grid Colour) (painter : UnderWay) → IsOpened viewing old old more part unit whole head picture
+      (picture : Grid Colour) (painter : UnderWay) → IsOpened old more part unit whole head picture
       painter → DataAre painter picture rest More → (s : ViewerState) (prefix : List ℕ) →
       StandsFor viewing old s prefix → (server_bytes viewing.form viewing.hello).next s.point (prefix ++
       (unit ++ rest)) ≡ More
@@ -203,7 +203,7 @@ module _ (viewing : Viewing) (old : Viewer) where
 -- data that begin in the slice of their head
 pub opened_placed : (old : Viewer) (more : ℕ) (part : ArrayVec ℕ) (front : ℕ) (bytes whole : List ℕ)
     (head : HeadOfRect) (picture : Grid Colour) (painter : UnderWay) (flaw : Flaw) → front ≤ length bytes →
-    ((viewing : Viewing) → IsOpened viewing old old more part (take front bytes) whole head picture painter) →
+    IsOpened old more part (take front bytes) whole head picture painter →
     0 < flaw.used → flaw.used ≤ length (drop front bytes) → ShowsWith painter picture (drop front bytes) flaw →
     IsPlacedAt (front + flaw.used) (fault_of_paint flaw.fault) old bytes
 opened_placed old more part front bytes whole head picture painter flaw few opened some within shows =
@@ -212,13 +212,13 @@ opened_placed old more part front bytes whole head picture painter flaw few open
     let awaits : AwaitsMore old (take (front + (flaw.used - 1)) bytes) = rw (take_add front (flaw.used - 1) bytes)
     (λ viewing s prefix stands.
     opened_awaits viewing old more part (take front bytes) whole (take (flaw.used - 1)
-    (drop front bytes)) head picture painter (opened viewing) (λ before body stood.
+    (drop front bytes)) head picture painter opened (λ before body stood.
     (shows before body stood).waits) s prefix stands) in
     bad_placed old bytes (front + flaw.used) (fault_of_paint flaw.fault) (omega (arith, some)) (omega
     (arith, left, within, few)) (paint_other flaw.fault)
     (λ viewing. rw (take_add front flaw.used bytes)
     (opened_refuses viewing old more part (take front bytes) whole (take flaw.used
-    (drop front bytes)) head picture painter flaw.fault (opened viewing) (λ before body stood.
+    (drop front bytes)) head picture painter flaw.fault opened (λ before body stood.
     (shows before body stood).bad)))
     (subst (λ (n : ℕ). AwaitsMore old (take n bytes)) last awaits)
 

@@ -92,6 +92,17 @@ module _ (q : UpdatePoint) (head : HeadOfRect) (front : List ℕ) (before : Grid
       body_bad q head front before awaits (body ++ bytes) fault
       (subst (λ (p : Painting). data_of p before (body ++ bytes) ≡ Bad fault) is (refuses before body stands).0)
 
+-- what is known after a head
+pub record IsOpened (old : Viewer) (more : ℕ) (part : ArrayVec ℕ) (unit whole : List ℕ) (head : HeadOfRect)
+    (picture : Grid Colour) (painter : UnderWay) : Type 0 where
+  pub was : old.progress ≡ RectHead more part
+  pub whole_is : whole ≡ part.items ++ unit
+  pub shown : old.picture ≡ Some picture
+  pub spelled : SpellsRectHead head whole
+  pub on_screen : IsOnScreen picture.width picture.height head.rect
+  pub painting_is : painting painter ≡ record { rect = head.rect; encoding = head.encoding; form = old.format }
+  pub fresh : PainterStandsFor painter picture picture []
+
 -- ---- after a rectangle
 
 module _ (viewing : Viewing) (old new : Viewer) where
@@ -111,6 +122,32 @@ module _ (viewing : Viewing) (old new : Viewer) where
       ∙ kept.columns) (ap (λ (g : Grid Colour). g.height) (sym has) ∙ kept.rows)
       (past_request more old.request s.outstanding (q.left == 1) (one_left q.left more left) stands.outstanding_is)
       (λ ready'. past_progress viewing old new more (record q { left = more }) now made.picture_is ready')
+
+  -- where its data go on
+  going_stands : (s : ViewerState) (prefix all : List ℕ) (q : UpdatePoint) (more : ℕ) (head : HeadOfRect)
+      (front body : List ℕ) (next : UnderWay) (now : Grid Colour) → StandsFor viewing old s prefix →
+      s.point ≡ Second q → (ready : IsReadyAt old q s.picture (more + 1)) →
+      IsMade old new (Data more next) old.request (Some now) → all ≡ front ++ body →
+      AwaitsData q head front ready.screen → painting next ≡ painting_of q head →
+      PainterStandsFor next now ready.screen body → update_stream.next q all ≡ More → StandsFor viewing new s all
+  going_stands s prefix all q more head front body next now stands at ready made all_is awaits painting_is shows waits =
+      made_stands viewing old new (Data more next) old.request (Some now) s s prefix all made stands
+      stands.outstanding_is
+      (subst (λ (a : ServerAt). ProgressStandsFor viewing new (Data more next) a s.picture all) (sym at) (
+        ready_same viewing old new (Data more next) old.request (Some now) s.picture q (more + 1) made ready,
+        record {
+          head = head;
+          front = front;
+          body = body;
+          prefix_is = all_is;
+          awaits = awaits;
+          painting_is = painting_is;
+          now = now;
+          now_is = made.picture_is;
+          shows = shows;
+          waits = waits;
+        },
+      ))
 
   -- ---- heads
 
@@ -170,17 +207,6 @@ module _ (viewing : Viewing) (old new : Viewer) where
         rows = ready.rows;
       }
 
-  -- what is known after a head
-  pub record IsOpened (more : ℕ) (part : ArrayVec ℕ) (unit whole : List ℕ) (head : HeadOfRect) (picture : Grid Colour)
-      (painter : UnderWay) : Type 0 where
-    pub was : old.progress ≡ RectHead more part
-    pub whole_is : whole ≡ part.items ++ unit
-    pub shown : old.picture ≡ Some picture
-    pub spelled : SpellsRectHead head whole
-    pub on_screen : IsOnScreen picture.width picture.height head.rect
-    pub painting_is : painting painter ≡ record { rect = head.rect; encoding = head.encoding; form = old.format }
-    pub fresh : PainterStandsFor painter picture picture []
-
   -- the same at a state
   pub record IsOpenedAt (s : ViewerState) (prefix : List ℕ) (more : ℕ) (unit whole : List ℕ) (head : HeadOfRect)
       (picture : Grid Colour) (painter : UnderWay) : Type 0 where
@@ -194,7 +220,7 @@ module _ (viewing : Viewing) (old new : Viewer) where
 
   pub opened_at : (s : ViewerState) (prefix : List ℕ) (more : ℕ)
       (part : ArrayVec ℕ) (unit whole : List ℕ) (head : HeadOfRect) (picture : Grid Colour) (painter : UnderWay) →
-      IsOpened more part unit whole head picture painter → StandsFor viewing old s prefix →
+      IsOpened old more part unit whole head picture painter → StandsFor viewing old s prefix →
       IsOpenedAt s prefix more unit whole head picture painter
   opened_at s prefix more part unit whole head picture painter o stands =
       let h = at_rect_head viewing old more part s.point s.picture prefix
@@ -215,7 +241,7 @@ module _ (viewing : Viewing) (old new : Viewer) where
 
   pub rect_more : (more : ℕ) (part : ArrayVec ℕ) (unit whole rest : List ℕ)
       (head : HeadOfRect) (picture now : Grid Colour) (painter next : UnderWay) →
-      IsOpened more part unit whole head picture painter → Waits painter picture rest next now →
+      IsOpened old more part unit whole head picture painter → Waits painter picture rest next now →
       painting next ≡ painting painter → IsMade old new (Data more next) old.request (Some now) →
       StepsBy (viewer viewing) (StandsFor viewing) old (unit ++ rest) (Ok None) new
   rect_more more part unit whole rest head picture now painter next opened waits same made =
@@ -227,29 +253,13 @@ module _ (viewing : Viewing) (old new : Viewer) where
         o.q,
         o.at,
         more_is,
-        made_stands viewing old new (Data more next) old.request (Some now) s s prefix (prefix ++ (unit ++ rest))
-            made stands stands.outstanding_is
-            (subst (λ (a : ServerAt). ProgressStandsFor viewing new (Data more next) a s.picture
-            (prefix ++ (unit ++ rest))) (sym o.at) (
-              ready_same viewing old new (Data more next) old.request (Some now) s.picture o.q (more + 1) made o.ready,
-              record {
-                head = head;
-                front = whole;
-                body = [] ++ rest;
-                prefix_is = o.all rest;
-                awaits = o.awaits;
-                painting_is = same ∙ o.painting_is;
-                now = now;
-                now_is = made.picture_is;
-                shows = data_is.1;
-                waits = more_is;
-              },
-            )),
+        going_stands s prefix (prefix ++ (unit ++ rest)) o.q more head whole ([] ++ rest) next now stands o.at o.ready
+            made (o.all rest) o.awaits (same ∙ o.painting_is) data_is.1 more_is,
       ))
 
   pub rect_done : (more : ℕ) (part : ArrayVec ℕ) (unit whole rest : List ℕ)
       (head : HeadOfRect) (picture now : Grid Colour) (painter next : UnderWay) →
-      IsOpened more part unit whole head picture painter → Paints painter picture rest next now →
+      IsOpened old more part unit whole head picture painter → Paints painter picture rest next now →
       IsMade old new (progress_past more) (request_past more old.request) (Some now) →
       StepsBy (viewer viewing) (StandsFor viewing) old (unit ++ rest) (Ok (told_past more)) new
   rect_done more part unit whole rest head picture now painter next opened paints made =
@@ -267,7 +277,7 @@ module _ (viewing : Viewing) (old new : Viewer) where
 
   pub rect_fault : (more : ℕ) (part : ArrayVec ℕ) (unit whole rest : List ℕ)
       (head : HeadOfRect) (picture now : Grid Colour) (painter : UnderWay) (fault : PaintFault) →
-      IsOpened more part unit whole head picture painter → Refuses painter picture rest now fault →
+      IsOpened old more part unit whole head picture painter → Refuses painter picture rest now fault →
       StepsBy (viewer viewing) (StandsFor viewing) old (unit ++ rest) (Err (fault_of_paint fault)) new
   rect_fault more part unit whole rest head picture now painter fault opened refuses =
       bad_step viewing old new (unit ++ rest) (InData fault) (λ s prefix stands.
@@ -307,24 +317,8 @@ module _ (viewing : Viewing) (old new : Viewer) where
         h.0,
         h.1,
         more_is,
-        made_stands viewing old new (Data more next) old.request (Some now) s s prefix (prefix ++ unit)
-            made stands stands.outstanding_is
-            (subst (λ (a : ServerAt). ProgressStandsFor viewing new (Data more next) a s.picture (prefix ++ unit))
-            (sym h.1) (
-              ready_same viewing old new (Data more next) old.request (Some now) s.picture h.0 (more + 1) made h.2,
-              record {
-                head = p.head;
-                front = p.front;
-                body = p.body ++ unit;
-                prefix_is = all;
-                awaits = p.awaits;
-                painting_is = same ∙ p.painting_is;
-                now = now;
-                now_is = made.picture_is;
-                shows = data_is.1;
-                waits = more_is;
-              },
-            )),
+        going_stands s prefix (prefix ++ unit) h.0 more p.head p.front (p.body ++ unit) next now stands h.1 h.2 made all
+            p.awaits (same ∙ p.painting_is) data_is.1 more_is,
       ))
 
   pub paint_done : (more : ℕ) (painter next : UnderWay) (picture now : Grid Colour) (unit : List ℕ) →

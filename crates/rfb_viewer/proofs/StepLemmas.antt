@@ -2,14 +2,18 @@
 use Rattle.std.proofs.Common.{◌≡◌, ℕ, zero, suc, ◌+◌, ◌==◌, Bool, false, List, [], ◌++◌, Option, Some, None, Ok, Err}
 use Rattle.std.proofs.Common.{if◌then◌else◌, refl, sym, subst, ◌∙◌, ap, arith}
 use Rattle.std.proofs.lemmas.Bool.Decides.{nat_tests}
+use Rattle.arrayvec.specs.ArrayVec.{ArrayVec}
 use Rattle.rfb_pixel.specs.declared.colour.Colour.{Colour}
+use Rattle.rfb_pixel.specs.Format.{PixelFormat}
 use Rattle.rfb_picture.specs.Grid.{Grid}
+use Rattle.rfb_wire.specs.declared.encoding.Encoding.{Encoding}
 use Rattle.rfb_wire.specs.stream.Reading.{Next, More, Got, Bad}
 use Rattle.rfb_wire.specs.stream.Parts.{named}
 use Rattle.rfb_wire.specs.stream.Sequel.{Second, past_in}
 use Rattle.rfb_wire.specs.stream.End.{Steps, StepsBy}
 use Rattle.rfb_codec.specs.Effect.{effect}
 use Rattle.rfb_codec.specs.UpdateStream.{UpdatePoint, UpdateItem, UpdateFault, update_stream}
+use Rattle.rfb_hello.specs.declared.viewer_hello.ViewerHello.{ViewerHello}
 use Rattle.rfb_hello.specs.ViewerModel.{setup_of, is_open, reason_of}
 use Rattle.rfb_viewer.specs.declared.fault.ViewerFault.{ViewerFault}
 use Rattle.rfb_viewer.specs.declared.viewer.Viewer.{Viewer}
@@ -35,6 +39,28 @@ pub record IsMade (old new : Viewer) (progress : Progress) (request : Request) (
   pub progress_is : new.progress ≡ progress
   pub request_is : new.request ≡ request
   pub picture_is : new.picture ≡ picture
+
+-- what no step changes once the handshake is done
+abbrev Lasting : Type 0
+Lasting = ViewerHello × PixelFormat × ArrayVec Encoding × ℕ
+
+abbrev pub lasting : Viewer → Lasting
+lasting v = (v.hello, v.format, v.encodings, v.text_limit)
+
+-- it is enough to know these to be the same
+pub made_so : {old new : Viewer} {progress : Progress} {request : Request} {picture : Option (Grid Colour)} →
+    lasting new ≡ lasting old → new.progress ≡ progress → new.request ≡ request →
+    new.picture ≡ picture →
+    IsMade old new progress request picture
+made_so {old} {new} same progress_is request_is picture_is = record {
+  hello = ap (λ (l : Lasting). l.0) same;
+  form = ap (λ (l : Lasting). l.1) same;
+  encodings = ap (λ (l : Lasting). l.2) same;
+  limit = ap (λ (l : Lasting). l.3) same;
+  progress_is = progress_is;
+  request_is = request_is;
+  picture_is = picture_is;
+}
 
 module _ (viewing : Viewing) (old new : Viewer) where
   pub made_stands : (p : Progress) (r : Request) (g : Option (Grid Colour)) (s t : ViewerState) (prefix rest : List ℕ) →

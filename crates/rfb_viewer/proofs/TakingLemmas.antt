@@ -14,19 +14,20 @@ use Rattle.rfb_codec.specs.declared.fault.PaintFault.{PaintFault}
 use Rattle.rfb_codec.specs.Stage.{is_ended}
 use Rattle.rfb_codec.specs.UnderWay.{UnderWay}
 use Rattle.rfb_hello.specs.ViewerEnd.{ViewerSetup}
+use Rattle.rfb_viewer.specs.declared.fault.ViewerFault.{ViewerFault}
 use Rattle.rfb_viewer.specs.declared.fault.ViewerFault.TheVariants.{NoMemory}
 use Rattle.rfb_viewer.specs.declared.viewer.Viewer.{Viewer}
 use Rattle.rfb_viewer.specs.declared.viewer.progress.Progress.{Progress}
 use Rattle.rfb_viewer.specs.declared.viewer.progress.Progress.TheVariants.{Handshake, RectHead, Data, Failed}
 use Rattle.rfb_viewer.specs.Damage.{joined, under_way, ended_of}
 use Rattle.rfb_viewer.specs.Counted.{IsPlacedAt}
-use Rattle.rfb_viewer.specs.Failed.{KeepsNone}
+use Rattle.rfb_viewer.specs.Failed.{KeepsNone, KeepsReason}
 use Rattle.rfb_viewer.specs.Fault.{fault_of_wire, fault_of_paint}
 use Rattle.rfb_viewer.specs.Moved.{moved_of}
 use Rattle.rfb_viewer.specs.Progress.{fault_in}
 use Rattle.rfb_viewer.specs.Model.{Making, making_of, offered_of, taken_of}
 use Rattle.rfb_viewer.specs.inside.ItemDamage.{screen_made, ended_with, begun_on, Damages, DamagesAt, EndsIn}
-use Rattle.rfb_viewer.specs.Offer.{TakesOffer}
+use Rattle.rfb_viewer.specs.Offer.{KeepsOffer, TakesOffer}
 use Rattle.rfb_viewer.specs.inside.Steps.{progress_after, told_after, told_past}
 use Rattle.rfb_viewer.specs.inside.StepPromises.{Fails}
 use Rattle.rfb_viewer.proofs.DamageStepLemmas.{made_same}
@@ -77,17 +78,20 @@ module _ (old new : Viewer) (unit : List ℕ) (same : offered_of new ≡ offered
 
 -- ---- what a step adds to the damage
 
+-- a handshake that makes no screen
+pub unmade : (old new : Viewer) → new.picture ≡ old.picture → ended_of new ≡ ended_of old →
+    ended_of new ≡ screen_made old.picture new.picture (ended_of old)
+unmade old new shown same =
+    same ∙ sym (made_same old.picture (ended_of old))
+    ∙ ap (λ (g : Option (Grid Colour)). screen_made old.picture g (ended_of old)) (sym shown)
+
 module _ (old new : Viewer) (bytes : List ℕ) where
   pub damages_at : (p : Progress) → old.progress ≡ p → DamagesAt p old bytes new → Damages old bytes new
   damages_at p was d = subst (λ (q : Progress). DamagesAt q old bytes new) (sym was) d
 
-  -- a handshake that makes no screen
-  pub unmade_damages : old.progress ≡ Handshake → new.picture ≡ old.picture →
-      ended_of new ≡ ended_of old → Damages old bytes new
-  unmade_damages was shown same =
-      damages_at Handshake was
-      (same ∙ sym (made_same old.picture (ended_of old))
-      ∙ ap (λ (g : Option (Grid Colour)). screen_made old.picture g (ended_of old)) (sym shown))
+  pub unmade_damages : old.progress ≡ Handshake → new.picture ≡ old.picture → ended_of new ≡ ended_of old →
+      Damages old bytes new
+  unmade_damages was shown same = damages_at Handshake was (unmade old new shown same)
 
   kept_under : (r : Rect) (b : Option Rect) (ended : ended_of new ≡ ended_of old) →
       ended_of new ≡ ended_with (Some r) b (ended_of old)
@@ -122,49 +126,39 @@ module _ (old new : Viewer) (bytes : List ℕ) where
 module _ (old new : Viewer) (bytes : List ℕ) (damages : Damages old bytes new)
     (moved : moved_of new ≡ moved_of old) (made : making_of new ≡ making_of old)
     (taken : taken_of new ≡ taken_of old) (offered : offered_of new ≡ offered_of old) where
-  -- by a fault of a head
-  pub wire_fails : (used : ℕ) (fault : WireFault) → IsPlacedAt used (fault_of_wire fault) old bytes → EndsIn
-      (fault_of_wire fault) old bytes new → new.hello ≡ old.hello → new.progress ≡ Failed (fault_of_wire fault) →
-      Fails old bytes used (fault_of_wire fault) new
-  wire_fails used fault placed ends same failed = record {
+  -- by any fault
+  fails_so : (used : ℕ) (fault : ViewerFault) → KeepsReason fault old bytes new →
+      KeepsOffer fault old bytes new →
+      IsPlacedAt used fault old bytes → EndsIn fault old bytes new → new.progress ≡ Failed fault →
+      Fails old bytes used fault new
+  fails_so used fault reason offer placed ends failed = record {
     placed = placed;
     picture = ends;
-    reason = wire_keeps fault old new bytes same;
-    offer = wire_offers fault old new bytes offered;
+    reason = reason;
+    offer = offer;
     damage = damages;
     moved = moved;
     failed = ap fault_in failed;
     made = made;
     taken = taken;
   }
+
+  -- by a fault of a head
+  pub wire_fails : (used : ℕ) (fault : WireFault) → IsPlacedAt used (fault_of_wire fault) old bytes → EndsIn
+      (fault_of_wire fault) old bytes new → new.hello ≡ old.hello →
+      new.progress ≡ Failed (fault_of_wire fault) →
+      Fails old bytes used (fault_of_wire fault) new
+  wire_fails used fault placed ends same = fails_so used (fault_of_wire fault)
+      (wire_keeps fault old new bytes same) (wire_offers fault old new bytes offered) placed ends
 
   -- by a fault of data
   pub paint_fails : (used : ℕ) (fault : PaintFault) → IsPlacedAt used (fault_of_paint fault) old bytes → EndsIn
       (fault_of_paint fault) old bytes new → new.hello ≡ old.hello → new.progress ≡ Failed
       (fault_of_paint fault) → Fails old bytes used (fault_of_paint fault) new
-  paint_fails used fault placed ends same failed = record {
-    placed = placed;
-    picture = ends;
-    reason = paint_keeps fault old new bytes same;
-    offer = paint_offers fault old new bytes offered;
-    damage = damages;
-    moved = moved;
-    failed = ap fault_in failed;
-    made = made;
-    taken = taken;
-  }
+  paint_fails used fault placed ends same = fails_so used (fault_of_paint fault)
+      (paint_keeps fault old new bytes same) (paint_offers fault old new bytes offered) placed ends
 
   -- for want of memory
   pub memory_fails : (used : ℕ) → IsPlacedAt used NoMemory old bytes → EndsIn NoMemory old bytes new →
       KeepsNone old new → new.progress ≡ Failed NoMemory → Fails old bytes used NoMemory new
-  memory_fails used placed ends none failed = record {
-    placed = placed;
-    picture = ends;
-    reason = none;
-    offer = offered;
-    damage = damages;
-    moved = moved;
-    failed = ap fault_in failed;
-    made = made;
-    taken = taken;
-  }
+  memory_fails used placed ends none = fails_so used NoMemory none offered placed ends

@@ -23,13 +23,8 @@ use Rattle.rfb_viewer.specs.Viewer.{Viewing, black}
 
 -- the fault that it has failed with, if it has
 abbrev pub fault_in : Progress → Option ViewerFault
-fault_in Handshake = None
-fault_in (Head bytes) = None
-fault_in (RectHeadPart more head) = None
-fault_in (Data more painter) = None
-fault_in (Colours more) = None
-fault_in (CutText text_length more kept) = None
 fault_in (Failed fault) = Some fault
+fault_in progress = None
 
 -- ---- items under way
 
@@ -39,25 +34,25 @@ IsHeadBegun [] = Unit {0}
 IsHeadBegun (first ∷ rest) =
     (size : ℕ) × (server_head_size first ≡ Some size) × (length (first ∷ rest) < size)
 
--- the bytes are a SetColorMapEntries of which `more` bytes are missing after the next one
-pub record AreColoursBegun (more : ℕ) (prefix : List ℕ) : Type 0 where
+-- the bytes are a SetColorMapEntries of which `left` bytes are missing
+pub record AreColoursBegun (left : ℕ) (prefix : List ℕ) : Type 0 where
   pub head : List ℕ
   pub colours : List ℕ
   pub first : ℕ
   pub count : ℕ
   pub prefix_is : prefix ≡ head ++ colours
   pub head_is : SpellsColourMap first count head
-  pub missing : length colours + (more + 1) ≡ count * 6
+  pub missing : length colours + left ≡ count * 6
 
--- the bytes are a ServerCutText of `text_length` bytes of which `more` are missing after the next
--- one, and `kept` is kept of it
-pub record IsTextBegun (text_limit text_length more : ℕ) (kept : KeptText)
+-- the bytes are a ServerCutText of `text_length` bytes of which `left` are missing, and `kept` is
+-- kept of it
+pub record IsTextBegun (text_limit text_length left : ℕ) (kept : KeptText)
     (prefix : List ℕ) : Type 0 where
   pub head : List ℕ
   pub text : List ℕ
   pub prefix_is : prefix ≡ head ++ text
   pub head_is : SpellsServerCutText text_length head
-  pub missing : length text + (more + 1) ≡ text_length
+  pub missing : length text + left ≡ text_length
   pub kept_is : kept ≡ kept_of text_limit text_length text
 
 -- ---- points
@@ -126,9 +121,9 @@ ProgressStandsFor viewing viewer (Data more painter) (Second p) picture prefix =
     × IsPainting viewer p painter ready.screen prefix
 ProgressStandsFor viewing viewer (Colours more) (First point) picture prefix = ⊥
 ProgressStandsFor viewing viewer (Colours more) (Second p) picture prefix =
-    IsReadyAt viewer p picture 0 × Stores viewer picture × AreColoursBegun more prefix
+    IsReadyAt viewer p picture 0 × Stores viewer picture × AreColoursBegun (more + 1) prefix
 ProgressStandsFor viewing viewer (CutText text_length more kept) (First point) picture prefix = ⊥
 ProgressStandsFor viewing viewer (CutText text_length more kept) (Second p) picture prefix =
     IsReadyAt viewer p picture 0 × Stores viewer picture
-    × IsTextBegun viewing.hello.text_limit text_length more kept prefix
+    × IsTextBegun viewing.hello.text_limit text_length (more + 1) kept prefix
 ProgressStandsFor viewing viewer (Failed fault) point picture prefix = ⊥

@@ -10,7 +10,7 @@ use Rattle.rfb_viewer.specs.declared.viewer.Viewer.{Viewer}
 use Rattle.rfb_viewer.specs.declared.viewer.progress.Progress.{Progress}
 use Rattle.rfb_viewer.specs.declared.viewer.progress.Progress.TheVariants.{Handshake, Head}
 use Rattle.rfb_viewer.specs.declared.viewer.progress.Progress.TheVariants.{RectHead as RectHeadPart}
-use Rattle.rfb_viewer.specs.declared.viewer.progress.Progress.TheVariants.{Data, Colours, CutText}
+use Rattle.rfb_viewer.specs.declared.viewer.progress.Progress.TheVariants.{Data}
 use Rattle.rfb_viewer.specs.declared.viewer.progress.Progress.TheVariants.{Failed}
 use Rattle.rfb_viewer.specs.Calls.{is_inside, refusal_if}
 use Rattle.rfb_viewer.specs.Model.{is_outstanding}
@@ -20,22 +20,15 @@ use Rattle.rfb_viewer.specs.Model.{is_outstanding}
 -- the handshake is done, and it has not failed
 abbrev pub is_ready : Progress → Bool
 is_ready Handshake = false
-is_ready (Head bytes) = true
-is_ready (RectHeadPart more head) = true
-is_ready (Data more painter) = true
-is_ready (Colours more) = true
-is_ready (CutText text_length more kept) = true
 is_ready (Failed fault) = false
+is_ready progress = true
 
 -- the bytes stand inside an update, from its type byte on
 abbrev pub is_updating : Progress → Bool
-is_updating Handshake = false
 is_updating (Head bytes) = is_inside 0 bytes.items
 is_updating (RectHeadPart more head) = true
 is_updating (Data more painter) = true
-is_updating (Colours more) = false
-is_updating (CutText text_length more kept) = false
-is_updating (Failed fault) = false
+is_updating progress = false
 
 -- the area has a place, and lies on the screen
 abbrev pub is_shown : Option (Grid Colour) → Rect → Bool

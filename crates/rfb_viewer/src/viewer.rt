@@ -57,11 +57,11 @@ impl Viewer {
     ghost use Rattle.rfb_viewer.specs.Damage.{IsSameOutside, KeepsDamage};
     ghost use Rattle.rfb_viewer.specs.Moved.{moved_of, moving, HasMoved, KeepsMoved};
     ghost use Rattle.rfb_viewer.specs.inside.Sound.{IsElsewhere};
-    ghost use Rattle.rfb_viewer.specs.inside.StepPromises.{Steps};
+    ghost use Rattle.rfb_viewer.specs.inside.StepPromises.{Steps, TakesAll};
     ghost use Rattle.rfb_viewer.specs.Failed.{KeepsPicture, KeepsReason};
     ghost use Rattle.rfb_viewer.specs.Offer.{KeepsOffer, TakesOffer};
     ghost use Rattle.rfb_hello.specs.declared.offered.Offered.TheVariants.{Nothing};
-    ghost use Rattle.rfb_viewer.specs.Counted.{IsPlacedAt, CountsTo};
+    ghost use Rattle.rfb_viewer.specs.Counted.{CountsTo};
     ghost use Rattle.rfb_wire.specs.stream.FaultPlace.{counted_on};
 
     /// A viewer that was fed nothing. It goes up to version `limit`, asks for the screen alone
@@ -190,48 +190,7 @@ impl Viewer {
     fn take_all(&mut self, bytes: &[u8], used: &mut usize) -> Result<Fed<ViewerEvent>, ViewerFault>
         requires none { used.old ≡ 0 }
         requires going { fault_of self.old ≡ None }
-        // What was taken, what it was, and what is left.
-        ensures used { IfOk result (λ fed. fed.used ≤ length bytes.now) }
-        ensures all { IfOk result (λ fed. fed.event ≡ None → fed.used ≡ length bytes.now) }
-        ensures some { IfOk result (λ fed. 0 < length bytes.now → 0 < fed.used) }
-        ensures fed { IfOk result (λ fed. (viewing : Viewing)
-            → FedBy (viewer viewing) (StandsFor viewing)
-            self.old (take fed.used bytes.now) (seen fed.event) self.new) }
-        ensures made { making_of self.new ≡ making_of self.old }
-        ensures offered { IfOk result (λ fed.
-            TakesOffer (seen fed.event) self.old bytes.now self.new) }
-
-        // What of the picture it changes, and the damage that it makes.
-        ensures outside { (viewing : Viewing) (s : ViewerState) (prefix : List ℕ)
-            → StandsFor viewing self.old s prefix
-            → IsSameOutside (damage_of self.new) (picture_of self.old) (picture_of self.new) }
-        ensures damage { IfOk result (λ fed. (viewing : Viewing)
-            → FedBy (damaging viewing) (IsDamaged viewing)
-            self.old (take fed.used bytes.now) (seen fed.event) self.new) }
-        ensures damaged { IfErr result (λ fault. fault_of self.old ≡ None
-            → KeepsDamage fault self.old bytes.now self.new) }
-
-        // When a fault comes, when memory is wanting, what is kept, and that it stays.
-        ensures fault { IfErr result (λ fault. fault ≢ NoMemory → (viewing : Viewing)
-            → RefusedBy (viewer viewing) (StandsFor viewing) self.old bytes.now fault) }
-        ensures memory { IfErr result (λ fault. fault ≡ NoMemory → (viewing : Viewing)
-            → RunsOutBy (viewer viewing) (AsksMemory viewing) (StandsFor viewing)
-            self.old bytes.now) }
-        ensures picture { IfErr result (λ fault. fault_of self.old ≡ None
-            → KeepsPicture fault self.old bytes.now self.new) }
-        ensures reason { IfErr result (λ fault. fault_of self.old ≡ None
-            → KeepsReason fault self.old bytes.now self.new) }
-        ensures offer { IfErr result (λ fault. fault_of self.old ≡ None
-            → KeepsOffer fault self.old bytes.now self.new) }
-        ensures fails { IfErr result (λ fault. fault_of self.new ≡ Some fault) }
-        ensures moved { IfOk result (λ fed. (viewing : Viewing)
-            → FedBy (moving viewing) (HasMoved viewing)
-            self.old (take fed.used bytes.now) (seen fed.event) self.new) }
-        ensures unmoved { IfErr result (λ fault. fault_of self.old ≡ None
-            → KeepsMoved fault self.old bytes.now self.new) }
-        ensures taken { IfOk result (λ fed. used.new ≡ fed.used) }
-        ensures place { IfErr result (λ fault. IsPlacedAt used.new fault self.old bytes.now) }
-        ensures kept { taken_of self.new ≡ taken_of self.old }
+        ensures { TakesAll self.old bytes.now used.new result self.new }
     {
         while *used < bytes.len() {
             if let Progress::Data { .. } = self.progress {

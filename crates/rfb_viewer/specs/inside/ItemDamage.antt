@@ -9,8 +9,8 @@ use Rattle.rfb_viewer.specs.declared.fault.ViewerFault.{ViewerFault}
 use Rattle.rfb_viewer.specs.declared.viewer.Viewer.{Viewer}
 use Rattle.rfb_viewer.specs.declared.viewer.damage.Edges.{Edges}
 use Rattle.rfb_viewer.specs.declared.viewer.progress.Progress.{Progress}
-use Rattle.rfb_viewer.specs.declared.viewer.progress.Progress.TheVariants.{Handshake, Head, RectHead as RectHeadPart}
-use Rattle.rfb_viewer.specs.declared.viewer.progress.Progress.TheVariants.{Data, Colours, CutText, Failed}
+use Rattle.rfb_viewer.specs.declared.viewer.progress.Progress.TheVariants.{Handshake, RectHead as RectHeadPart}
+use Rattle.rfb_viewer.specs.declared.viewer.progress.Progress.TheVariants.{Data}
 use Rattle.rfb_viewer.specs.Damage.{joined, under_way, ended_of, damage_of, head_rect, holds, colour_at}
 use Rattle.rfb_viewer.specs.Failed.{EndsAt}
 use Rattle.rfb_viewer.specs.Model.{StandsFor, picture_of}
@@ -36,15 +36,12 @@ begun_on (Some g) bytes = head_rect (rect_head g.width g.height bytes)
 abbrev pub DamagesAt : Progress → Viewer → List ℕ → Viewer → Type 0
 DamagesAt Handshake old bytes new =
     ended_of new ≡ screen_made old.picture new.picture (ended_of old)
-DamagesAt (Head part) old bytes new = ended_of new ≡ ended_of old
 DamagesAt (RectHeadPart more part) old bytes new =
     ended_of new ≡ ended_with (under_way new.progress)
     (begun_on old.picture (part.items ++ bytes)) (ended_of old)
 DamagesAt (Data more painter) old bytes new =
     ended_of new ≡ ended_with (under_way new.progress) (Some painter.rect) (ended_of old)
-DamagesAt (Colours more) old bytes new = ended_of new ≡ ended_of old
-DamagesAt (CutText text_length more kept) old bytes new = ended_of new ≡ ended_of old
-DamagesAt (Failed fault) old bytes new = ended_of new ≡ ended_of old
+DamagesAt progress old bytes new = ended_of new ≡ ended_of old
 
 -- what bytes of one item add, wherever they come
 abbrev pub Damages : Viewer → List ℕ → Viewer → Type 0

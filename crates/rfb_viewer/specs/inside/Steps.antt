@@ -7,6 +7,8 @@ use Rattle.rfb_wire.specs.declared.server_head.ServerHead.{ServerHead}
 use Rattle.rfb_wire.specs.declared.server_head.ServerHead.TheVariants.{Update, ColourMap, Bell as BellHead}
 use Rattle.rfb_wire.specs.declared.server_head.ServerHead.TheVariants.{CutText as CutTextHead}
 use Rattle.rfb_hello.specs.KeptText.{kept_of}
+use Rattle.rfb_hello.specs.declared.step.ViewerStep.{ViewerStep}
+use Rattle.rfb_hello.specs.declared.step.ViewerStep.TheVariants.{Reply, Screen, Ready}
 use Rattle.rfb_viewer.specs.declared.viewer.progress.Progress.{Progress}
 use Rattle.rfb_viewer.specs.declared.viewer.progress.Progress.TheVariants.{Head, RectHead, Colours}
 use Rattle.rfb_viewer.specs.declared.viewer.progress.Progress.TheVariants.{CutText as CutTextPart}
@@ -73,3 +75,15 @@ AsksAfter (CutTextHead text_length) = 0 < text_length
 abbrev pub screen_or : ℕ → ℕ → Option (Grid Colour) → Grid Colour
 screen_or width height None = uniform width height black
 screen_or width height (Some picture) = picture
+
+-- a step of the handshake tells the screen's size
+abbrev pub TellsScreen : ViewerStep → Type 0
+TellsScreen (Reply reply) = ⊥
+TellsScreen step = Unit {0}
+
+-- the screen after it
+abbrev pub screen_past : ViewerStep → Option (Grid Colour) → Option (Grid Colour)
+screen_past (Reply reply) picture = picture
+screen_past (Screen width height) picture = Some (screen_or width height picture)
+screen_past (Ready width height version name name_length) picture =
+    Some (screen_or width height picture)

@@ -1,8 +1,8 @@
 //! The handshake of a viewer.
 
-ghost use Rattle.std.specs.Prelude.{◌≡◌, length, OnOk, OnErr, None, Some};
+ghost use Rattle.std.specs.Prelude.{◌≡◌, length, OnOk, OnErr, None};
 ghost use Rattle.rfb_viewer.specs.inside.ItemDamage.{screen_made};
-ghost use Rattle.rfb_viewer.specs.inside.Steps.{screen_or};
+ghost use Rattle.rfb_viewer.specs.inside.Steps.{TellsScreen, screen_past};
 
 use crate::client_messages::ready_answer;
 use crate::event::ViewerEvent;
@@ -42,24 +42,16 @@ impl Viewer {
             None => return Ok(Fed { used, event: None }),
             Some(step) => step,
         };
+        let Ok(()) = make_screen(self.alloc, &mut self.picture, &mut self.damage, &step) else {
+            let fault = self.progress.fail(ViewerFault::NoMemory);
+            return Err(Failure { used: 1, fault });
+        };
         match step {
             ViewerStep::Reply(reply) => Ok(Fed {
                 used,
                 event: Some(ViewerEvent::Reply(reply)),
             }),
-            ViewerStep::Screen { width, height } => {
-                let Ok(()) = make_screen(
-                    self.alloc,
-                    &mut self.picture,
-                    &mut self.damage,
-                    width,
-                    height,
-                ) else {
-                    let fault = self.progress.fail(ViewerFault::NoMemory);
-                    return Err(Failure { used: 1, fault });
-                };
-                Ok(Fed { used, event: None })
-            }
+            ViewerStep::Screen { .. } => Ok(Fed { used, event: None }),
             ViewerStep::Ready {
                 width,
                 height,
@@ -67,16 +59,6 @@ impl Viewer {
                 name,
                 name_length,
             } => {
-                let Ok(()) = make_screen(
-                    self.alloc,
-                    &mut self.picture,
-                    &mut self.damage,
-                    width,
-                    height,
-                ) else {
-                    let fault = self.progress.fail(ViewerFault::NoMemory);
-                    return Err(Failure { used: 1, fault });
-                };
                 self.progress = Progress::Head(ArrayVec::new());
                 Ok(Fed {
                     used,
@@ -93,21 +75,27 @@ impl Viewer {
     }
 }
 
-// Makes the screen, black, unless there is one. All of it is damage, since all of it is new.
+// Makes the screen where a step tells its size, black, unless there is one. All of it is damage,
+// since all of it is new.
 fn make_screen(
     alloc: Global,
     picture: &mut Option<Picture<Colour>>,
     damage: &mut Option<Edges>,
-    width: u16,
-    height: u16,
+    step: &ViewerStep,
 ) -> Result<(), AllocError>
-    ensures made { OnOk result (picture.new ≡ Some (screen_or width height picture.old)) }
+    ensures made { OnOk result (picture.new ≡ screen_past step.now picture.old) }
+    ensures tells { OnErr result (TellsScreen step.now) }
     ensures none { OnErr result (picture.old ≡ None) }
     ensures kept { OnErr result (picture.new ≡ picture.old) }
     ensures damage { OnOk result (damage.new ≡
         screen_made picture.old picture.new damage.old) }
     ensures undamaged { OnErr result (damage.new ≡ damage.old) }
 {
+    let (width, height) = match step {
+        ViewerStep::Reply(_) => return Ok(()),
+        ViewerStep::Screen { width, height } => (*width, *height),
+        ViewerStep::Ready { width, height, .. } => (*width, *height),
+    };
     if picture.is_none() {
         let screen = Picture::new(alloc, width, height, BLACK)?;
         join(

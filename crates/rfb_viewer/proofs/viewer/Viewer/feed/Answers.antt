@@ -1,6 +1,7 @@
 use Rattle.std.proofs.Common.{◌≡◌, ℕ, ◌∙◌, None, refl, ap}
 use Rattle.rfb_wire.specs.stream.FaultPlace.{counted_on}
 use Rattle.rfb_viewer.specs.Model.{fault_of}
+use Rattle.rfb_viewer.proofs.StepLemmas.{made_so}
 use Rattle.rfb_viewer.proofs.CountLemmas.{counted_fed, counted_damage, counted_moved, counted_reason}
 use Rattle.rfb_viewer.proofs.CountLemmas.{counted_offer, counted_offered}
 use Rattle.rfb_viewer.proofs.CountLemmas.{count_of_fed, count_of_fault}
@@ -21,71 +22,22 @@ returns c =
       used = told.used;
       all = told.all;
       some = told.some;
-      fed = counted_fed old mid _ bytes (record {
-        hello = refl;
-        form = refl;
-        encodings = refl;
-        limit = refl;
-        progress_is = refl;
-        request_is = refl;
-        picture_is = refl;
-      }) refl result told.fed;
+      fed = counted_fed old mid _ bytes (made_so refl refl refl refl) refl result told.fed;
       made = told.made;
       outside = told.outside;
-      damage = counted_damage old mid _ bytes (record {
-        hello = refl;
-        form = refl;
-        encodings = refl;
-        limit = refl;
-        progress_is = refl;
-        request_is = refl;
-        picture_is = refl;
-      }) refl result told.damage;
+      damage = counted_damage old mid _ bytes (made_so refl refl refl refl) refl result told.damage;
       damaged = told.damaged;
-      moved = counted_moved old mid _ bytes (record {
-        hello = refl;
-        form = refl;
-        encodings = refl;
-        limit = refl;
-        progress_is = refl;
-        request_is = refl;
-        picture_is = refl;
-      }) refl refl result told.moved;
+      moved = counted_moved old mid _ bytes (made_so refl refl refl refl) refl refl result told.moved;
       unmoved = told.unmoved;
       fault = told.fault;
       memory = told.memory;
       picture = told.picture;
       reason = counted_reason old mid (record mid { taken = c.saturating_add-self.result; sound = _ }) bytes
-          (record {
-            hello = refl;
-            form = refl;
-            encodings = refl;
-            limit = refl;
-            progress_is = refl;
-            request_is =
-                refl;
-            picture_is = refl;
-          }) refl result told.reason;
+          (made_so refl refl refl refl) refl result told.reason;
       offer = counted_offer old mid (record mid { taken = c.saturating_add-self.result; sound = _ }) bytes
-          (record {
-            hello = refl;
-            form = refl;
-            encodings = refl;
-            limit = refl;
-            progress_is = refl;
-            request_is = refl;
-            picture_is = refl;
-          }) refl result told.offer;
+          (made_so refl refl refl refl) refl result told.offer;
       offered = counted_offered old mid (record mid { taken = c.saturating_add-self.result; sound = _ }) bytes
-          (record {
-            hello = refl;
-            form = refl;
-            encodings = refl;
-            limit = refl;
-            progress_is = refl;
-            request_is = refl;
-            picture_is = refl;
-          }) refl result told.offered;
+          (made_so refl refl refl refl) refl result told.offered;
       fails = told.fails;
       failed = λ f h. absurd cc;
       taken = count_of_fed old.taken c.saturating_add-self.result used count result told.taken;

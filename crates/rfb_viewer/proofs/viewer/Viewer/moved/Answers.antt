@@ -1,17 +1,9 @@
 use Rattle.std.proofs.Common.{refl}
+use Rattle.rfb_viewer.proofs.StepLemmas.{made_so}
 use Rattle.rfb_viewer.proofs.CallLemmas.{same_stands}
 use Rattle.rfb_viewer.proofs.viewer.Viewer.moved.Goals as goal
 
 pub returns-clause-stands : goal.returns-clause-stands
 returns-clause-stands c = λ viewing s prefix stands.
     same_stands viewing c.args.self.now _ s prefix
-    (record {
-      hello = refl;
-      form = refl;
-      encodings = refl;
-      limit = refl;
-      progress_is = refl;
-      request_is =
-          refl;
-      picture_is = refl;
-    }) stands
+    (made_so refl refl refl refl) stands

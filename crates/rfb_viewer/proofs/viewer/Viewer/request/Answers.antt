@@ -1,15 +1,8 @@
 use Rattle.std.proofs.Common.{refl}
+use Rattle.rfb_viewer.proofs.StepLemmas.{made_so}
 use Rattle.rfb_viewer.proofs.CallLemmas.{requested_stands}
 use Rattle.rfb_viewer.proofs.viewer.Viewer.request.Goals as goal
 
 pub returns-clause-stands : goal.returns-clause-stands
 returns-clause-stands c = λ viewing s prefix stands.
-    requested_stands viewing c.args.self.now _ s prefix (record {
-      hello = refl;
-      form = refl;
-      encodings = refl;
-      limit = refl;
-      progress_is = refl;
-      request_is = refl;
-      picture_is = refl;
-    }) stands
+    requested_stands viewing c.args.self.now _ s prefix (made_so refl refl refl refl) stands

@@ -7,6 +7,7 @@ use Rattle.rfb_viewer.specs.declared.fault.ViewerFault.{ViewerFault}
 use Rattle.rfb_viewer.specs.declared.viewer.progress.Progress.TheVariants.{Failed}
 use Rattle.rfb_viewer.specs.Damage.{joined, under_way}
 use Rattle.rfb_viewer.specs.Moved.{moved_if}
+use Rattle.rfb_viewer.proofs.StepLemmas.{made_so}
 use Rattle.rfb_viewer.proofs.RectLemmas.{paint_more, paint_done, paint_fault, painting_same, not_false, not_true}
 use Rattle.rfb_viewer.proofs.RectLemmas.{past_going}
 use Rattle.rfb_viewer.proofs.FailLemmas.{paint_ends}
@@ -55,15 +56,7 @@ returns-then-not-painted c =
     paint_more viewing old _ c.in-Data.more painter c.take.new.self picture c.take.new.picture
     (take used bytes) c.in-Data.is c.in-Some.is waits
     (painting_same painter c.take.new.self c.take.ensures.rect c.take.ensures.form c.take.ensures.encoding)
-    (record {
-      hello = refl;
-      form = refl;
-      encodings = refl;
-      limit = refl;
-      progress_is = refl;
-      request_is = refl;
-      picture_is = refl;
-    }))
+    (made_so refl refl refl refl))
     (going_damages old _ (take used bytes) c.in-Data.more painter c.take.new.self.rect c.in-Data.is refl refl)
     refl refl refl refl refl c.take.new.self.rect refl
 
@@ -84,15 +77,7 @@ returns c =
       steps = λ viewing. rw after.told
           (paint_done viewing old _ more painter c.take.new.self picture c.take.new.picture
           (take used bytes) c.in-Data.is c.in-Some.is (c.in-Ok.ensures.done done)
-          (record {
-            hello = refl;
-            form = refl;
-            encodings = refl;
-            limit = refl;
-            progress_is = after.progress;
-            request_is = after.request;
-            picture_is = refl;
-          }));
+          (made_so refl after.progress after.request refl));
       damage = ended_damages old _ (take used bytes) more painter c.in-Data.is
           (ap under_way after.progress ∙ past_none more) (c.join-2.ensures ∙ ap (joined old.damage) rect);
       moved = paint_moves old _ more painter c.take.new.self picture c.take.new.picture

@@ -1,4 +1,4 @@
-use Rattle.std.proofs.Common.{◌∙◌, ℕ, List, ◌++◌, take, slice_index, ap, sym, subst, refl, arith}
+use Rattle.std.proofs.Common.{◌∙◌, ℕ, List, ◌++◌, None, take, slice_index, ap, sym, subst, refl, arith}
 use Rattle.rfb_wire.specs.Heads.{IsUnknown}
 use Rattle.rfb_wire.specs.ServerHead.{SpellsServerHead}
 use Rattle.rfb_wire.proofs.stream_laws.FeedLaws.{step_refuses}
@@ -8,12 +8,13 @@ use Rattle.rfb_viewer.specs.Fault.{fault_of_wire}
 use Rattle.rfb_viewer.specs.Viewer.{viewer}
 use Rattle.rfb_viewer.specs.Progress.{IsHeadBegun}
 use Rattle.rfb_viewer.specs.Model.{StandsFor}
+use Rattle.rfb_viewer.proofs.StepLemmas.{made_so}
 use Rattle.rfb_viewer.proofs.HeadLemmas.{misses_begun, one_byte, head_whole}
 use Rattle.rfb_viewer.proofs.MessageLemmas.{head_part, head_bad, head_got, head_asks}
 use Rattle.rfb_viewer.proofs.FailLemmas.{head_ends, head_memory, none_at, wire_other}
 use Rattle.rfb_viewer.proofs.PlaceLemmas.{first_bad_placed, first_memory_placed}
 use Rattle.rfb_viewer.proofs.TakingLemmas.{damages_at, after_going, head_keeps, wire_fails, memory_fails}
-use Rattle.rfb_viewer.proofs.MovedLemmas.{quiet_moves}
+use Rattle.rfb_viewer.proofs.MovedLemmas.{quiet_takes}
 use Rattle.rfb_viewer.proofs.viewer.Viewer.take_head.Goals as goal
 
 pub returns-in-More : goal.returns-in-More
@@ -21,29 +22,12 @@ returns-in-More c =
     let old = c.args.self.now in
     let one = one_byte c.args.bytes.now c.requires.some in
     let part = c.in-Head.part in
-    record {
-      some = omega arith;
-      within = omega (arith, c.requires.some);
-      steps = λ viewing.
-          head_part viewing old _ part c.read_head.new.part (take 1 c.args.bytes.now) c.in-Head.is
-          (c.in-More.ensures.kept ∙ ap (λ (ys : List ℕ). part.items ++ ys) (sym one))
-          (subst IsHeadBegun (sym c.in-More.ensures.kept) (misses_begun _ _ c.in-More.ensures.more))
-          (record {
-            hello = refl;
-            form = refl;
-            encodings = refl;
-            limit = refl;
-            progress_is = refl;
-            request_is = refl;
-            picture_is = refl;
-          });
-      damage = damages_at old _ (take 1 c.args.bytes.now) (Head part) c.in-Head.is refl;
-      moved = quiet_moves old _ (take 1 c.args.bytes.now) (Head part) c.in-Head.is tt refl;
-      offered = refl;
-      going = refl;
-      made = refl;
-      taken = refl;
-    }
+    quiet_takes c.args.self.now _ c.args.bytes.now 1 None (Head part) c.in-Head.is tt refl (omega arith)
+    (omega (arith, c.requires.some)) (λ viewing. head_part viewing old _ part c.read_head.new.part
+    (take 1 c.args.bytes.now) c.in-Head.is (c.in-More.ensures.kept ∙ ap (λ (ys : List ℕ). part.items ++ ys)
+    (sym one))
+    (subst IsHeadBegun (sym c.in-More.ensures.kept) (misses_begun _ _ c.in-More.ensures.more))
+    (made_so refl refl refl refl)) refl refl refl refl refl
 
 pub returns-in-Bad : goal.returns-in-Bad
 returns-in-Bad c =
@@ -89,26 +73,10 @@ returns c =
     let one = one_byte bytes c.requires.some in
     let part = c.in-Head.part in
     let got = c.in-Got.ensures.got in
-    record {
-      some = omega arith;
-      within = omega (arith, c.requires.some);
-      steps = λ viewing. rw (c.in-Ok.ensures.told)
-          (head_got viewing old _ part (take 1 bytes) c.in-Got.head c.in-Head.is
-          (λ begun. subst (λ (ys : List ℕ). SpellsServerHead c.in-Got.head (part.items ++ ys)) (sym one)
-          (head_whole c.in-Got.head part.items (slice_index bytes 0) _ begun got.0 got.1))
-          (record {
-            hello = refl;
-            form = refl;
-            encodings = refl;
-            limit = refl;
-            progress_is = c.in-Ok.ensures.progress;
-            request_is = c.in-Ok.ensures.request;
-            picture_is = refl;
-          }));
-      damage = damages_at old _ (take 1 bytes) (Head part) c.in-Head.is refl;
-      moved = quiet_moves old _ (take 1 bytes) (Head part) c.in-Head.is tt refl;
-      offered = rw c.in-Ok.ensures.told (head_keeps old _ bytes refl c.in-Got.head);
-      going = rw c.in-Ok.ensures.progress (after_going old.text_limit c.in-Got.head);
-      made = refl;
-      taken = refl;
-    }
+    quiet_takes old _ bytes 1 _ (Head part) c.in-Head.is tt refl (omega arith) (omega (arith, c.requires.some))
+    (λ viewing. rw c.in-Ok.ensures.told (head_got viewing old _ part (take 1 bytes) c.in-Got.head c.in-Head.is
+    (λ begun. subst (λ (ys : List ℕ). SpellsServerHead c.in-Got.head (part.items ++ ys)) (sym one)
+    (head_whole c.in-Got.head part.items (slice_index bytes 0) _ begun got.0 got.1))
+    (made_so refl c.in-Ok.ensures.progress c.in-Ok.ensures.request refl)))
+    (rw c.in-Ok.ensures.told (head_keeps old _ bytes refl c.in-Got.head))
+    (rw c.in-Ok.ensures.progress (after_going old.text_limit c.in-Got.head)) refl refl refl

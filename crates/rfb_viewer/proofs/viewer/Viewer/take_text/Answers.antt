@@ -1,11 +1,12 @@
-use Rattle.std.proofs.Common.{rules, ◌≡◌, ◌∙◌, ◌+◌, ◌-◌, ◌++◌, ℕ, List, length, take, refl, ap, sym, arith}
+use Rattle.std.proofs.Common.{rules, ◌≡◌, ◌∙◌, ◌+◌, ◌-◌, ◌++◌, ℕ, List, None, length, take}
+use Rattle.std.proofs.Common.{refl, ap, sym, arith}
 use Rattle.std.proofs.lemmas.List.{length-take-le, take_all}
 use Rattle.rfb_hello.specs.KeptText.{KeptText}
 use Rattle.rfb_viewer.specs.declared.viewer.progress.Progress.TheVariants.{Head, CutText}
 use Rattle.rfb_viewer.specs.Progress.{fault_in}
+use Rattle.rfb_viewer.proofs.StepLemmas.{made_so}
 use Rattle.rfb_viewer.proofs.MessageBodyLemmas.{text_part, text_got}
-use Rattle.rfb_viewer.proofs.TakingLemmas.{damages_at}
-use Rattle.rfb_viewer.proofs.MovedLemmas.{quiet_moves}
+use Rattle.rfb_viewer.proofs.MovedLemmas.{quiet_takes}
 use Rattle.rfb_viewer.proofs.viewer.Viewer.take_text.Goals as goal
 
 pub returns-then-bytes-missing : goal.returns-then-bytes-missing
@@ -13,36 +14,14 @@ returns-then-bytes-missing c =
     let old = c.args.self.now in
     let bytes = c.args.bytes.now in
     let kept = c.in-CutText.kept in
-    let long : length (take (length bytes) bytes) ≡ length bytes = length-take-le (length bytes) bytes (omega arith) in
-    let left : length (take (length bytes) bytes) + (c.in-CutText.more - length bytes) ≡ c.in-CutText.more =
-    omega (arith, long, c.if-bytes-missing.true) in
     let now : c.keep.new.self ≡ record kept { bytes = take kept.room (kept.bytes ++ take (length bytes) bytes) } =
     c.keep.ensures ∙ ap (λ (ys : List ℕ). record kept { bytes = take kept.room (kept.bytes ++ ys) })
     (sym (take_all (length bytes) bytes (omega arith))) in
-    record {
-      some = c.requires.some;
-      within = omega arith;
-      steps = λ viewing.
-          text_part viewing old _ c.in-CutText.length c.in-CutText.more (c.in-CutText.more - length bytes) kept
-          c.keep.new.self (take (length bytes) bytes) c.in-CutText.is left now
-          (record {
-            hello = refl;
-            form = refl;
-            encodings = refl;
-            limit = refl;
-            progress_is = refl;
-            request_is = refl;
-            picture_is = refl;
-          });
-      damage = damages_at old _ (take (length bytes) bytes)
-          (CutText c.in-CutText.length c.in-CutText.more kept) c.in-CutText.is refl;
-      moved = quiet_moves old _ (take (length bytes) bytes) (CutText c.in-CutText.length c.in-CutText.more kept)
-          c.in-CutText.is tt refl;
-      offered = refl;
-      going = refl;
-      made = refl;
-      taken = refl;
-    }
+    quiet_takes old _ bytes (length bytes) None (CutText c.in-CutText.length c.in-CutText.more kept) c.in-CutText.is tt
+    refl c.requires.some (omega arith) (λ viewing. text_part viewing old _ c.in-CutText.length c.in-CutText.more
+    (c.in-CutText.more - length bytes) kept c.keep.new.self (take (length bytes) bytes) c.in-CutText.is
+    (omega (arith, length-take-le (length bytes) bytes (omega arith), c.if-bytes-missing.true)) now
+    (made_so refl refl refl refl)) refl refl refl refl refl
 
 pub returns : goal.returns
 returns c =
@@ -59,27 +38,8 @@ returns c =
     let is : c.in-CutText-replace.kept ≡ c.keep-2.new.self = cc in
     let told : c.into_vec.result.items ≡ c.keep-2.new.self.bytes =
     c.into_vec.ensures.bytes ∙ ap (λ (k : KeptText). k.bytes) is in
-    record {
-      some = omega arith;
-      within = omega (arith, c.if-bytes-missing.false);
-      steps = λ viewing. rw (told, n)
-          (text_got viewing old _ c.in-CutText.length c.in-CutText.more kept c.keep-2.new.self
-          (take missing bytes) c.in-CutText.is long now
-          (record {
-            hello = refl;
-            form = refl;
-            encodings = refl;
-            limit = refl;
-            progress_is = c.replace.ensures.after ∙ ap (λ (ys : List ℕ). Head (record { items = ys })) c.new.ensures;
-            request_is = refl;
-            picture_is = refl;
-          }));
-      damage = damages_at old _ (take missing bytes)
-          (CutText c.in-CutText.length c.in-CutText.more kept) c.in-CutText.is refl;
-      moved = quiet_moves old _ (take missing bytes) (CutText c.in-CutText.length c.in-CutText.more kept)
-          c.in-CutText.is tt refl;
-      offered = refl;
-      going = ap fault_in c.replace.ensures.after;
-      made = refl;
-      taken = refl;
-    }
+    quiet_takes old _ bytes missing _ (CutText c.in-CutText.length c.in-CutText.more kept) c.in-CutText.is tt refl
+    (omega arith) (omega (arith, c.if-bytes-missing.false)) (λ viewing. rw (told, n) (text_got viewing old _
+    c.in-CutText.length c.in-CutText.more kept c.keep-2.new.self (take missing bytes) c.in-CutText.is long now
+    (made_so refl (c.replace.ensures.after ∙ ap (λ (ys : List ℕ). Head (record { items = ys })) c.new.ensures) refl
+    refl))) refl (ap fault_in c.replace.ensures.after) refl refl refl
