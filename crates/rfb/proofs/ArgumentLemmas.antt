@@ -3,24 +3,11 @@ use Rattle.std.proofs.Common.{Option, Some, None, MatchOption, ◌≡◌, ◌≢
 use Rattle.std.proofs.Common.{ℕ, List, [], ◌∷◌, Bor, codes}
 use Rattle.rfb_picture.specs.declared.rect.Rect.{Rect}
 use Rattle.rfb_pixel.specs.Format.{PixelFormat}
-use Rattle.rfb_session.specs.language.Number.{IsCount}
 use Rattle.rfb.specs.declared.script.line.Wants.{Wants}
 use Rattle.rfb_session.specs.language.Words.{AreRect, IsFormatWord, texts}
-use Rattle.rfb.specs.Words.{AreWants, AreRequest, IsCountAlone, IsFormatAlone, kind_of}
+use Rattle.rfb.specs.Words.{AreWants, AreRequest, IsFormatAlone, kind_of}
 use Rattle.rfb_session.proofs.ArgumentLaws.{word, one_words, five_words}
 use Rattle.rfb_session.proofs.WordLaws.{heads, texts_length}
-
-pub no_count : (words : List (Bor (List ℕ))) (d : Bor (List ℕ)) → length words ≡ 1 → (¬ (IsCount (word words 0 d))) →
-    (n : ℕ) → ¬ (IsCountAlone (texts words) n)
-no_count words d len none n said =
-    let f = sym (one_words words d len) ∙ said.1 in
-    let e0 : word words 0 d ≡ said.0 = cc in
-    none (rw e0 said.2)
-
-pub not_count : (words : List (Bor (List ℕ))) → length words ≢ 1 → (n : ℕ) → ¬ (IsCountAlone (texts words) n)
-not_count words other n said =
-    let s : length (texts words) ≡ 1 = ap (λ (l : List (List ℕ)). length l) said.1 in
-    other (sym (texts_length words) ∙ s)
 
 pub no_format : (words : List (Bor (List ℕ))) (d : Bor (List ℕ)) →
     length words ≡ 1 → ((format : PixelFormat) → ¬ (IsFormatWord (word words 0 d) format)) → (format : PixelFormat) →
@@ -29,12 +16,6 @@ no_format words d len none format said =
     let f = sym (one_words words d len) ∙ said.1 in
     let e0 : word words 0 d ≡ said.0 = cc in
     none format (rw e0 said.2)
-
-pub not_format : (words : List (Bor (List ℕ))) → length words ≢ 1 → (format : PixelFormat) →
-    ¬ (IsFormatAlone (texts words) format)
-not_format words other format said =
-    let s : length (texts words) ≡ 1 = ap (λ (l : List (List ℕ)). length l) said.1 in
-    other (sym (texts_length words) ∙ s)
 
 pub no_request : (words : List (Bor (List ℕ))) (d : Bor (List ℕ)) →
     length words ≡ 5 → ((incremental : Bool) (rect : Rect) → word words 0 d ≡ kind_of incremental →

@@ -1,16 +1,14 @@
 -- What a command has done, from its parts.
-use Rattle.std.proofs.Common.{◌≡◌, ◌∙◌, ◌⊎◌, ap, sym, subst, inl, inr, ℕ, Bool, true, false, [], List, Option, OnOk}
-use Rattle.std.proofs.Common.{OnErr, Result, Ok, Err}
+use Rattle.std.proofs.Common.{◌≡◌, ◌∙◌, sym, subst, inl, inr, ℕ, Bool, true, false, [], List, Option, OnOk, OnErr}
+use Rattle.std.proofs.Common.{Result, Ok, Err}
 use Rattle.clap.specs.Values.{kind_of}
 use Rattle.clap.specs.Words.{HasKind, IsAmong, Kinds, Text}
 use Rattle.clap.specs.declared.error.Error.{Error}
 use Rattle.clap.specs.declared.error.kind.ErrorKind.TheVariants.{OutOfMemory}
 use Rattle.rfb.specs.declared.fault.Failure.{Failure}
 use Rattle.rfb.specs.declared.options.Order.{Order}
-use Rattle.rfb.specs.declared.options.WrongWords.{WrongWords}
-use Rattle.rfb.specs.declared.options.WrongWords.TheVariants.{Words}
-use Rattle.rfb.specs.CommandLine.{Does, DoesAsked, Leaves, LeavesAsked, Through}
-use Rattle.rfb.specs.Options.{AreCommand, AreOrdered, AreWrong}
+use Rattle.rfb.specs.CommandLine.{Does, DoesAsked, Through}
+use Rattle.rfb.specs.Options.{AreOrdered}
 
 pub zero_not_one : (n : ℕ) → n ≡ 0 → n ≡ 1 → ⊥
 zero_not_one n is not = let both : 0 ≡ 1 = sym is ∙ not in cc
@@ -23,25 +21,10 @@ does_asked words order read before after status (Ok u) asked does failed zero = 
 does_asked words order read before after status (Err failure) asked does failed zero =
     absurd (zero_not_one status zero failed)
 
-pub leaves_asked : {P W : Type 0} (contents : W → Option (List ℕ)) (words : List Text)
-    (order : Order) (read : Option (List ℕ))
-    (old new : W) (status : ℕ) (r : Result (Unit {0}) Failure) → AreOrdered words order →
-    OnErr r ((new ≡ old) ⊎ Through order.paths (Leaves P order.task) read (contents old) (contents new)) →
-    OnOk r (status ≡ 0) → status ≡ 1 → LeavesAsked P words read (contents old) (contents new)
-leaves_asked contents words order read old new status (Ok u) asked leaves done one =
-    absurd (zero_not_one status done one)
-leaves_asked contents words order read old new status (Err failure) asked (inl kept) done one = inl (ap contents kept)
-leaves_asked contents words order read old new status (Err failure) asked (inr left) done one = inr (order, asked, left)
-
 -- of a list without kinds the one kind is want of memory
 pub only_memory : (kinds : Kinds) (e : Error) → kinds ≡ [] → HasKind kinds e → kind_of e ≡ OutOfMemory
 only_memory kinds e none (inl is) = is
 only_memory kinds e none (inr among) = absurd (subst (λ (ks : Kinds). IsAmong (kind_of e) ks) none among)
-
-pub wrong_memory : (words : List Text) (wrong : WrongWords) (e : Error) → AreCommand words →
-    AreWrong words wrong → wrong ≡ Words e → kind_of e ≡ OutOfMemory
-wrong_memory words wrong e command is same =
-    only_memory _ e command (subst (λ (w : WrongWords). AreWrong words w) same is)
 
 pub not_both : (b : Bool) → b ≡ true → b ≡ false → ⊥
 not_both b is not = let both : true ≡ false = sym is ∙ not in cc

@@ -4,10 +4,8 @@ use Rattle.std.proofs.Common.{[], ◌++◌, List, length, take}
 use Rattle.std.proofs.Common.{drop, length-append, Option}
 use Rattle.std.proofs.KnownBytes.{Appends-nil, Appends-trans, Consumes-nil, Consumes-trans}
 use lib.Seq.{take-add, take-append_seam}
-use Rattle.rfb_server.specs.declared.server.Server.{Server}
-use Rattle.rfb_viewer.specs.declared.viewer.Viewer.{Viewer}
-use Rattle.rfb.specs.Delivery.{Crosses, ReachesServer, ReachesViewer}
-use Rattle.rfb.proofs.DeliveryLemmas.{hearing_none, hears_all, hears_then, watches_all, watches_then, watching_none}
+use Rattle.rfb.specs.Delivery.{Crosses, Reaches, Receiver}
+use Rattle.rfb.proofs.DeliveryLemmas.{IsReceiver, takes_none, takes_then}
 
 -- ---- a connection
 
@@ -33,62 +31,29 @@ next_part all now part rest n k m is parts size sum =
     ap (λ (l : List ℕ). take n all ++ l) (sym seam ∙ ap (take k) is) ∙ sym (take-add n k all)
     ∙ ap (λ (i : ℕ). take i all) sum
 
--- no part yet
-pub reaches_server_none : (all : List ℕ) (n : ℕ) (unsent unread : Option (List ℕ)) (old : Server) (before : List ℕ) →
-    0 ≡ n →
-    ReachesServer (take n all) unsent unsent unread unread old before before old
-reaches_server_none all n unsent unread old before none =
-    subst (λ (k : ℕ). ReachesServer (take k all) unsent unsent unread unread old before before old) none
-    (record {
-      came = [];
-      crosses = nothing_crosses unsent unread;
-      hears = hears_all old [] [] before before old (hearing_none old [] before) refl;
-    })
+module _ {E F S C : Type 0} {r : Receiver E F S C} (is : IsReceiver r) where
+  -- no part yet
+  pub reaches_none : (all : List ℕ) (n : ℕ) (unsent unread : Option (List ℕ)) (old : E) (before : List ℕ) →
+      0 ≡ n → Reaches r (take n all) unsent unsent unread unread old before before old
+  reaches_none all n unsent unread old before none =
+      subst (λ (k : ℕ). Reaches r (take k all) unsent unsent unread unread old before before old) none
+      (record { came = []; crosses = nothing_crosses unsent unread; takes = takes_none is old before })
 
-pub reaches_viewer_none : (all : List ℕ) (n : ℕ) (unsent unread : Option (List ℕ)) (old : Viewer) (before : List ℕ) →
-    0 ≡ n →
-    ReachesViewer (take n all) unsent unsent unread unread old before before old
-reaches_viewer_none all n unsent unread old before none =
-    subst (λ (k : ℕ). ReachesViewer (take k all) unsent unsent unread unread old before before old) none
-    (record {
-      came = [];
-      crosses = nothing_crosses unsent unread;
-      watches = watches_all old [] [] before before old (watching_none old [] before) refl;
-    })
-
--- one part more
-pub reaches_server_more : (all now part rest : List ℕ) (n k m : ℕ)
-    (unsent mid sent unread between left : Option (List ℕ))
-    (old last new : Server) (before after later : List ℕ) →
-    now ≡ drop n all → now ≡ part ++ rest → length part ≡ k →
-    n + k ≡ m → ReachesServer (take n all) unsent mid unread between old before after last →
-    ReachesServer part mid sent between left last after later new →
-    ReachesServer (take m all) unsent sent unread left old before later new
-reaches_server_more all now part rest n k m unsent mid sent unread between left old last new before after
-    later is parts size sum was more =
-    subst (λ (l : List ℕ). ReachesServer l unsent sent unread left old before later new)
-    (next_part all now part rest n k m is parts size sum)
-    (record {
-      came = was.came ++ more.came;
-      crosses = crosses_then (take n all) part unsent mid sent unread between left was.came
-          more.came was.crosses more.crosses;
-      hears = hears_then old last new was.came more.came before after later was.hears more.hears;
-    })
-
-pub reaches_viewer_more : (all now part rest : List ℕ) (n k m : ℕ)
-    (unsent mid sent unread between left : Option (List ℕ))
-    (old last new : Viewer) (before after later : List ℕ) →
-    now ≡ drop n all → now ≡ part ++ rest → length part ≡ k →
-    n + k ≡ m → ReachesViewer (take n all) unsent mid unread between old before after last →
-    ReachesViewer part mid sent between left last after later new →
-    ReachesViewer (take m all) unsent sent unread left old before later new
-reaches_viewer_more all now part rest n k m unsent mid sent unread between left old last new before after
-    later is parts size sum was more =
-    subst (λ (l : List ℕ). ReachesViewer l unsent sent unread left old before later new)
-    (next_part all now part rest n k m is parts size sum)
-    (record {
-      came = was.came ++ more.came;
-      crosses = crosses_then (take n all) part unsent mid sent unread between left was.came
-          more.came was.crosses more.crosses;
-      watches = watches_then old last new was.came more.came before after later was.watches more.watches;
-    })
+  -- one part more
+  pub reaches_more : (all now part rest : List ℕ) (n k m : ℕ)
+      (unsent mid sent unread between left : Option (List ℕ))
+      (old last new : E) (before after later : List ℕ) →
+      now ≡ drop n all → now ≡ part ++ rest → length part ≡ k →
+      n + k ≡ m → Reaches r (take n all) unsent mid unread between old before after last →
+      Reaches r part mid sent between left last after later new →
+      Reaches r (take m all) unsent sent unread left old before later new
+  reaches_more all now part rest n k m unsent mid sent unread between left old last new before after later here parts
+      size sum was more =
+      subst (λ (l : List ℕ). Reaches r l unsent sent unread left old before later new)
+      (next_part all now part rest n k m here parts size sum)
+      (record {
+        came = was.came ++ more.came;
+        crosses = crosses_then (take n all) part unsent mid sent unread between left was.came
+            more.came was.crosses more.crosses;
+        takes = takes_then is old last new was.came more.came before after later was.takes more.takes;
+      })

@@ -149,41 +149,33 @@ becomes state old new (Err fault) (Ok refused) stands picture told =
     let is = answer_in (Ok refused) refused (refused_as (Some fault)) refl told in
     record { stands = λ none. absurd (is_refused fault (sym is ∙ none)); picture = picture }
 
--- a call that may change the viewer
-pub call_taken : {A : Type 0} (items : A → List ℕ)
-    (refusal_in : ViewerState → List ℕ → Option CallFault) (message : List ℕ)
-    (state : ViewerState → ViewerState) (old new : Ends) (called : Result A CallFault)
-    (answer : Result (Option Refused) Fault) →
-    IsCall items refusal_in message old.viewer new.viewer called →
-    IsSent items called answer old.to_server.items new.to_server.items →
-    OnErr called (new.to_server ≡ old.to_server) →
-    new ≡ record old { viewer = new.viewer; to_server = new.to_server } →
-    IfOk called (λ bytes. (viewing : Viewing) (s : ViewerState) (prefix : List ℕ) →
-    StandsFor viewing old.viewer s prefix → StandsFor viewing new.viewer (state s) prefix) →
-    picture_of new.viewer ≡ picture_of old.viewer →
-    IfOk answer (λ refused. Sends refusal_in message old refused new
-    × Becomes state old.viewer refused new.viewer)
-call_taken items refusal_in message state old new called answer call sent kept others stands picture =
-    both_ok answer (λ refused. Sends refusal_in message old refused new)
-    (λ refused. Becomes state old.viewer refused new.viewer)
-    (sends items refusal_in message old new called answer call sent kept others)
-    (becomes state old.viewer new.viewer called answer stands picture sent.refused)
+module _ {A : Type 0} (items : A → List ℕ) (refusal_in : ViewerState → List ℕ → Option CallFault)
+    (message : List ℕ) (old new : Ends) (called : Result A CallFault) (answer : Result (Option Refused) Fault)
+    (call : IsCall items refusal_in message old.viewer new.viewer called)
+    (sent : IsSent items called answer old.to_server.items new.to_server.items)
+    (kept : OnErr called (new.to_server ≡ old.to_server))
+    (others : new ≡ record old { viewer = new.viewer; to_server = new.to_server }) where
+  -- a call that may change the viewer
+  pub call_taken : (state : ViewerState → ViewerState) →
+      IfOk called (λ bytes. (viewing : Viewing) (s : ViewerState) (prefix : List ℕ) →
+      StandsFor viewing old.viewer s prefix → StandsFor viewing new.viewer (state s) prefix) →
+      picture_of new.viewer ≡ picture_of old.viewer →
+      IfOk answer (λ refused. Sends refusal_in message old refused new
+      × Becomes state old.viewer refused new.viewer)
+  call_taken state stands picture =
+      both_ok answer (λ refused. Sends refusal_in message old refused new)
+      (λ refused. Becomes state old.viewer refused new.viewer)
+      (sends items refusal_in message old new called answer call sent kept others)
+      (becomes state old.viewer new.viewer called answer stands picture sent.refused)
 
--- a call that leaves the viewer as it was
-pub message_taken : {A : Type 0} (items : A → List ℕ)
-    (refusal_in : ViewerState → List ℕ → Option CallFault) (message : List ℕ) (old new : Ends)
-    (called : Result A CallFault) (answer : Result (Option Refused) Fault) →
-    IsCall items refusal_in message old.viewer new.viewer called →
-    IsSent items called answer old.to_server.items new.to_server.items →
-    OnErr called (new.to_server ≡ old.to_server) →
-    new ≡ record old { viewer = new.viewer; to_server = new.to_server } →
-    new.viewer ≡ old.viewer →
-    IfOk answer (λ refused. Sends refusal_in message old refused new × (new.viewer ≡ old.viewer))
-message_taken items refusal_in message old new called answer call sent kept others same =
-    both_ok answer (λ refused. Sends refusal_in message old refused new)
-    (λ refused. new.viewer ≡ old.viewer)
-    (sends items refusal_in message old new called answer call sent kept others)
-    (always_ok answer (new.viewer ≡ old.viewer) same)
+  -- a call that leaves the viewer as it was
+  pub message_taken : new.viewer ≡ old.viewer →
+      IfOk answer (λ refused. Sends refusal_in message old refused new × (new.viewer ≡ old.viewer))
+  message_taken same =
+      both_ok answer (λ refused. Sends refusal_in message old refused new)
+      (λ refused. new.viewer ≡ old.viewer)
+      (sends items refusal_in message old new called answer call sent kept others)
+      (always_ok answer (new.viewer ≡ old.viewer) same)
 
 not_ok : {A E : Type 0} (r : Result A E) (a : A) (e : E) → r ≡ Ok a → r ≡ Err e → ⊥
 not_ok r a e is other = cc

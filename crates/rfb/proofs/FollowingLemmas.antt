@@ -14,28 +14,19 @@ use Rattle.rfb.specs.declared.fault.Fault.{Fault as OwnFault}
 use Rattle.rfb.specs.declared.viewing.film.Film.{Film}
 use Rattle.rfb.specs.declared.viewing.filming.Filming.{Filming}
 use Rattle.rfb.specs.Explain.{updates_told}
-use Rattle.rfb.specs.Film.{Counts, EndsCounted, EndsEarly, EndsFilm, FailsToFollow, Follows, Shoots}
+use Rattle.rfb.specs.Film.{Counts, EndsCounted, EndsEarly, EndsFilm, FailsToFollow, Filmed, Follows, Shoots}
 use Rattle.rfb.specs.Film.{cut_of, filmed_on, is_over, judged, most_of, reel, reel_of, told_of}
 use Rattle.rfb.specs.Recording.{IsFresh}
 use Rattle.rfb.specs.View.{Saw, StopsSeeing}
+use Rattle.rfb.proofs.FilmingLemmas.{heard_as}
 
 ends_as : {A : Type 0} (steps : Listening A) (Ends Others : ℕ → List ℕ → Viewer → Type 0)
     (unread left : Option (List ℕ)) (first : Viewer) (old new : A) →
     ((updates : ℕ) (later : List ℕ) (last : Viewer) → Ends updates later last → Others updates later last) →
     HearsRead steps Ends unread left first old new → HearsRead steps Others unread left first old new
-ends_as steps Ends Others unread left first old new gives (bytes, read, heard) = (
-  bytes,
-  read,
-  record {
-    fed = heard.fed;
-    later = heard.later;
-    updates = heard.updates;
-    last = heard.last;
-    bytes_are = heard.bytes_are;
-    hears = heard.hears;
-    ends = gives heard.updates heard.later heard.last heard.ends;
-  },
-)
+ends_as steps Ends Others unread left first old new gives =
+    heard_as steps steps Ends Others unread left first old new old new (λ fed updates last hears. hears)
+    (λ fed later updates last hears ends. gives updates later last ends)
 
 is_some : (told updates : ℕ) → 0 < told → Counts told updates → 0 < updates
 is_some told updates some (inl none) = let e = none.0 in omega (arith, some, e)
@@ -171,6 +162,21 @@ seen_so (Some count) told between (Err (engine.Server fault)) S T saw stops = tt
 seen_so None told between (Err (engine.Viewer fault)) S T saw stops = tt
 seen_so (Some count) told between (Err (engine.Viewer fault)) S T saw stops = tt
 
+-- it was filmed, and its end is told by what is known of it
+filmed_so : (film : Film) (read answered before after : Option (List ℕ)) (cut : Option OwnFault) (told : ℕ)
+    (between : Bool) (ended : Result ℕ EngineFault) (first last : Viewer)
+    (Ends : ℕ → List ℕ → Viewer → Type 0) →
+    Over film read answered before after cut told between ended first last →
+    ((updates : ℕ) (later : List ℕ) (now : Viewer) →
+    EndsCounted (most_of film.updates) ended last told updates later now → Ends updates later now) →
+    Filmed film Ends read before after cut first
+filmed_so film read answered before after cut told between ended first last Ends over gives = record {
+  fresh = over.fresh;
+  left = over.left;
+  shot = ends_as Shoots (EndsCounted (most_of film.updates) ended last told) Ends read over.left first
+      (reel before None) (reel after cut) gives over.shot;
+}
+
 done_so : (film : Film) (read answered before after : Option (List ℕ)) (cut : Option OwnFault) (told : ℕ)
     (between : Bool) (ended : Result ℕ EngineFault) (first last : Viewer) →
     Over film read answered before after cut told between ended first last →
@@ -185,12 +191,8 @@ done_so film read answered before after None told between ended first last over 
     (λ well saw. record {
       first = first;
       last = last;
-      filmed = record {
-        fresh = over.fresh;
-        left = over.left;
-        shot = ends_as Shoots (EndsCounted (most_of film.updates) ended last told) (EndsFilm film.updates last)
-            read over.left first (reel before None) (reel after None) well over.shot;
-      };
+      filmed = filmed_so film read answered before after None told between ended first last
+          (EndsFilm film.updates last) over well;
       saw = saw;
     })
     (well_ended film.updates told between ended last over.stands)
@@ -211,13 +213,8 @@ failed_so film read answered before after (Some fault) told between ended first 
   last,
   (
     ended,
-    record {
-      fresh = over.fresh;
-      left = over.left;
-      shot = ends_as Shoots (EndsCounted (most_of film.updates) ended last told)
-          (EndsViewing (most_of film.updates) ended last) read over.left first (reel before None)
-          (reel after (Some fault)) (λ updates later now ends. ends.0) over.shot;
-    },
+    filmed_so film read answered before after (Some fault) told between ended first last
+        (EndsViewing (most_of film.updates) ended last) over (λ updates later now ends. ends.0),
   ),
 )
 failed_so film read answered before after None told between ended first last over =
@@ -227,36 +224,28 @@ failed_so film read answered before after None told between ended first last ove
       first,
       last,
       (
-        record {
-          fresh = over.fresh;
-          left = over.left;
-          shot = ends_as Shoots (EndsCounted (most_of film.updates) ended last told)
-              (EndsEarly film.updates bad.0 last) read over.left first (reel before None) (reel after None) bad.3
-              over.shot;
-        },
+        filmed_so film read answered before after None told between ended first last
+            (EndsEarly film.updates bad.0 last) over bad.3,
         of_fault ended bad.0
             (λ fault. StopsSeeing read answered None None first (most_of film.updates) fault last) bad.2 over.stopped,
       ),
     ))
     (badly_ended film.updates told between ended last over.stands)
 
-pub film_done : (film : Film) (read answered before after : Option (List ℕ)) (cut : Option OwnFault) (told : ℕ)
-    (between : Bool) (ended : Result ℕ EngineFault) (first last : Viewer) (r : Result (Unit {0}) Failure) →
-    r ≡ judged cut ended (is_over film.updates told between ended) →
-    Over film read answered before after cut told between ended first last →
-    OnOk r (Follows film read answered before after)
-film_done film read answered before after cut told between ended first last r is over =
-    subst (λ (e : Result (Unit {0}) Failure). OnOk e (Follows film read answered before after)) (sym is)
-    (done_so film read answered before after cut told between ended first last over)
+-- the same of what was judged
+module _ (film : Film) (read answered before after : Option (List ℕ)) (cut : Option OwnFault) (told : ℕ)
+    (between : Bool) (ended : Result ℕ EngineFault) (first last : Viewer) (r : Result (Unit {0}) Failure)
+    (is : r ≡ judged cut ended (is_over film.updates told between ended))
+    (over : Over film read answered before after cut told between ended first last) where
+  pub film_done : OnOk r (Follows film read answered before after)
+  film_done =
+      subst (λ (e : Result (Unit {0}) Failure). OnOk e (Follows film read answered before after)) (sym is)
+      (done_so film read answered before after cut told between ended first last over)
 
-pub film_fails : (film : Film) (read answered before after : Option (List ℕ)) (cut : Option OwnFault) (told : ℕ)
-    (between : Bool) (ended : Result ℕ EngineFault) (first last : Viewer) (r : Result (Unit {0}) Failure) →
-    r ≡ judged cut ended (is_over film.updates told between ended) →
-    Over film read answered before after cut told between ended first last →
-    IfErr r (FailsToFollow film read answered before after)
-film_fails film read answered before after cut told between ended first last r is over =
-    subst (λ (e : Result (Unit {0}) Failure). IfErr e (FailsToFollow film read answered before after)) (sym is)
-    (failed_so film read answered before after cut told between ended first last over)
+  pub film_fails : IfErr r (FailsToFollow film read answered before after)
+  film_fails =
+      subst (λ (e : Result (Unit {0}) Failure). IfErr e (FailsToFollow film read answered before after)) (sym is)
+      (failed_so film read answered before after cut told between ended first last over)
 
 -- from what a watcher that films becomes, which was given the output, and gives it back
 module _ {W C N : Type 0} (contents : W → Option (List ℕ)) where

@@ -1,20 +1,18 @@
 -- Lines of a hub's script, read one after another.
 use Rattle.std.proofs.Common.{◌==◌, Bool, true, false, is_some, ◌≡◌, ◌≢◌, ◌<◌, ◌+◌, ◌∙◌, ℕ, Option, Some, None}
 use Rattle.std.proofs.Common.{MatchOption, codes, subst, List, [], ◌∷◌, ◌++◌, Bor, ap, sym, refl, inl, inr, ◌⊎◌, length}
-use Rattle.std.proofs.Common.{take, drop, get_or, arith, append_assoc, length-append}
-use Rattle.std.specs.Iterator.{Yields}
-use Rattle.std.proofs.lemmas.Iterator.{YieldsList}
-use Rattle.std.proofs.lemmas.Iterator.Consumers.{YieldsList-turn, YieldsList-so_far}
+use Rattle.std.proofs.Common.{take, drop, get_or, arith}
 use Rattle.std.proofs.lemmas.List.Splits.{slice_split_none}
-use Rattle.std.proofs.lemmas.List.Elements.{All-nil, All-cons, All-head, All-tail}
+use Rattle.std.proofs.lemmas.List.Elements.{All-nil, All-head, All-tail}
 use Rattle.rfb.specs.declared.script.hub.hub_step.HubNumbered.{HubNumbered}
 use Rattle.rfb_session.specs.declared.language.screen.Screen.{Screen as Size}
-use Rattle.rfb.specs.HubScript.{AreHubScript, AreOpenHub, AskInHub, AsksInHub, BeginHub, GivesHub, IsBadInHub}
-use Rattle.rfb.specs.HubScript.{IsFirstBadInHub, IsWithoutShow, NamesShown, SaysHub, SaysHubStep, SaysShow, first_line}
-use Rattle.rfb.specs.HubScript.{line_after}
-use Rattle.rfb.specs.Script.{AreEmpty}
+use Rattle.rfb.specs.HubScript.{AreHubScript, AreOpenHub, AsksInHub, BeginHub, GivesHub, IsBadInHub, IsWithoutShow}
+use Rattle.rfb.specs.HubScript.{NamesShown, SaysHub, SaysHubStep, SaysShow, first_line, line_after}
+use Rattle.rfb.specs.Lines.{AreEmpty}
 use Rattle.rfb_session.specs.language.Words.{words_of, texts}
-use Rattle.rfb.proofs.LinesLemmas.{parted, texts_more}
+use Rattle.rfb.proofs.LinesLemmas.{texts_more}
+use Rattle.rfb.proofs.OrderLemmas.{IsEmpty, asks_blank, asks_more, empty_more, later_more, led_count, led_first}
+use Rattle.rfb.proofs.OrderLemmas.{led_more, no_lines, parted}
 use Rattle.rfb_session.proofs.WordLaws.{heads, texts_length}
 
 -- what lines are that were read so far: empty, a hub's script without its last line, or a whole one
@@ -23,56 +21,19 @@ ReadHub lines None steps shown = AreEmpty lines × (steps ≡ []) × (shown ≡ 
 ReadHub lines (Some size) steps None = AreOpenHub lines size steps
 ReadHub lines (Some size) steps (Some slot) = AreHubScript lines size steps slot
 
-abbrev IsEmpty : List ℕ → Type 0
-IsEmpty line = line ≡ []
-
-empty_more : (lines : List (List ℕ)) (line : List ℕ) → AreEmpty lines → line ≡ [] → AreEmpty (lines ++ line ∷ [])
-empty_more [] line all none = All-cons IsEmpty line [] none (All-nil IsEmpty)
-empty_more (l ∷ lines) line all none =
-    All-cons IsEmpty l (lines ++ line ∷ []) (All-head IsEmpty l lines all)
-    (empty_more lines line (All-tail IsEmpty l lines all) none)
-
-later_more : (lines blank later : List (List ℕ)) (first line : List ℕ) → lines ≡ blank ++ first ∷ later →
-    lines ++ line ∷ [] ≡ blank ++ first ∷ (later ++ line ∷ [])
-later_more lines blank later first line whole =
-    ap (λ (l : List (List ℕ)). l ++ line ∷ []) whole ∙ append_assoc blank (first ∷ later) (line ∷ [])
-
--- ---- the lines after the first
-
-asks_blank : (n : ℕ) (lines : List (List ℕ)) (line : List ℕ) (steps : List HubNumbered) → line ≡ [] →
-    AskInHub n lines steps → AskInHub n (lines ++ line ∷ []) steps
-asks_blank n [] line [] none asks = rw none tt
-asks_blank n [] line (step ∷ steps) none asks = absurd asks
-asks_blank n ([] ∷ lines) line steps none asks = asks_blank (n + 1) lines line steps none asks
-asks_blank n ((char ∷ l) ∷ lines) line [] none asks = absurd asks
-asks_blank n ((char ∷ l) ∷ lines) line (step ∷ steps) none asks =
-    (asks.0, asks.1, asks_blank (n + 1) lines line steps none asks.2)
-
-asks_more : (n m : ℕ) (lines : List (List ℕ)) (line : List ℕ) (steps : List HubNumbered) (step : HubNumbered) →
-    AskInHub n lines steps → m ≡ n + length lines → step.line ≡ m → line ≢ [] → SaysHubStep (words_of line) step.step →
-    AskInHub n (lines ++ line ∷ []) (steps ++ step ∷ [])
-asks_more n m [] [] [] step asks count at some says = absurd (some refl)
-asks_more n m [] (char ∷ line) [] step asks count at some says = (at ∙ (omega (arith, count)), says, tt)
-asks_more n m [] line (e ∷ steps) step asks count at some says = absurd asks
-asks_more n m ([] ∷ lines) line steps step asks count at some says =
-    asks_more (n + 1) m lines line steps step asks (omega (arith, count)) at some says
-asks_more n m ((char ∷ l) ∷ lines) line [] step asks count at some says = absurd asks
-asks_more n m ((char ∷ l) ∷ lines) line (e ∷ steps) step asks count at some says =
-    (asks.0, asks.1, asks_more (n + 1) m lines line steps step asks.2 (omega (arith, count)) at some says)
-
 -- ---- one line more
+
+abbrev number : HubNumbered → ℕ
+number step = step.line
+
+abbrev Asks : List ℕ → HubNumbered → Type 0
+Asks line step = SaysHubStep (words_of line) step.step
 
 open_blank : (lines : List (List ℕ)) (line : List ℕ) (size : Size) (steps : List HubNumbered) → line ≡ [] →
     AreOpenHub lines size steps → AreOpenHub (lines ++ line ∷ []) size steps
-open_blank lines line size steps none read = record {
-  blank = read.blank;
-  first = read.first;
-  later = read.later ++ line ∷ [];
-  whole = later_more lines read.blank read.later read.first line read.whole;
-  blank_is = read.blank_is;
-  size_is = read.size_is;
-  later_are = asks_blank (length read.blank + 2) read.later line steps none read.later_are;
-}
+open_blank lines line size steps none read =
+    led_more 1 lines line read
+    (asks_blank number Asks (1 + length read.blank + 1) read.later line steps none read.later_are)
 
 blank_read : (lines : List (List ℕ)) (line : List ℕ) (screen : Option Size) (steps : List HubNumbered)
     (shown : Option ℕ) → line ≡ [] → ReadHub lines screen steps shown → ReadHub (lines ++ line ∷ []) screen steps shown
@@ -90,15 +51,7 @@ blank_read lines line (Some size) steps (Some slot) none read = record {
 
 size_read : (lines : List (List ℕ)) (line : List ℕ) (size : Size) (steps : List HubNumbered) → AreEmpty lines →
     steps ≡ [] → SaysHub (words_of line) size → AreOpenHub (lines ++ line ∷ []) size steps
-size_read lines line size steps empty none says = record {
-  blank = lines;
-  first = line;
-  later = [];
-  whole = refl;
-  blank_is = empty;
-  size_is = says;
-  later_are = rw none tt;
-}
+size_read lines line size steps empty none says = led_first 1 lines line empty says (rw none tt)
 
 show_read : (lines : List (List ℕ)) (line : List ℕ) (size : Size) (steps : List HubNumbered) (slot : ℕ) →
     AreOpenHub lines size steps → SaysShow (words_of line) slot → AreHubScript (lines ++ line ∷ []) size steps slot
@@ -109,25 +62,16 @@ show_read lines line size steps slot read says = record {
   whole = refl;
   before_are = read;
   shown_is = says;
-  after_is = All-nil IsEmpty;
+  after_is = no_lines;
 }
 
 step_read : (lines : List (List ℕ)) (line : List ℕ) (size : Size) (steps : List HubNumbered) (step : HubNumbered) →
     AreOpenHub lines size steps → step.line ≡ length lines + 1 → line ≢ [] → SaysHubStep (words_of line) step.step →
     AreOpenHub (lines ++ line ∷ []) size (steps ++ step ∷ [])
 step_read lines line size steps step read at some says =
-    let size_of =
-    ap (λ (l : List (List ℕ)). length l) read.whole ∙ length-append read.blank (read.first ∷ read.later) in
-    record {
-      blank = read.blank;
-      first = read.first;
-      later = read.later ++ line ∷ [];
-      whole = later_more lines read.blank read.later read.first line read.whole;
-      blank_is = read.blank_is;
-      size_is = read.size_is;
-      later_are = asks_more (length read.blank + 2) (length lines + 1) read.later line steps step read.later_are
-          (omega (arith, size_of)) at some says;
-    }
+    led_more 1 lines line read
+    (asks_more number Asks (1 + length read.blank + 1) (length lines + 1) read.later line steps step read.later_are
+    (omega (arith, led_count 1 lines read)) at some says)
 
 -- ---- a turn of the reading
 
@@ -186,30 +130,6 @@ hub_bad_after lines line None steps (Some slot) some read ended = let e : Some s
 hub_bad_after lines line None steps None some read ended = absurd (cc)
 hub_bad_after lines line (Some size) steps None some read ended = absurd (cc)
 hub_bad_after lines line (Some size) steps (Some slot) some read ended = (some, inr (size, steps, slot, read))
-
--- the line under way is the first bad one
-pub hub_first_bad : (all : List (List ℕ)) (words : List (Bor (List ℕ))) (word : Bor (List ℕ)) (n : ℕ) → texts words
-    ≡ take (length words) all → (length words < length all) × (word.now ≡ get_or all (length words) word.now) →
-    n ≡ length words → IsBadInHub (texts words) word.now → IsFirstBadInHub all (n + 1)
-hub_first_bad all words word n front turn count bad =
-    let size = texts_length words in
-    record {
-      before = texts words;
-      line = word.now;
-      after = drop (length (texts words) + 1) all;
-      whole = parted all (texts words) word.now word.now (rw size front) (rw size turn.0) (rw size turn.1);
-      count = omega (arith, count, size);
-      bad = bad;
-    }
-
--- the same of a line that a loop has under way
-pub hub_first_bad_line : {S : Type 0} {steps : S → Option (Bor (List ℕ)) → S → Type 0} {s t u : S}
-    {r : Option (Bor (List ℕ))} (all : List (List ℕ)) (words : List (Bor (List ℕ))) (word : Bor (List ℕ)) (n : ℕ)
-    → YieldsList steps (λ x. x.now) s all → Yields steps s words t → r ≡ Some word → steps t r u → n ≡ length words →
-    IsBadInHub (texts words) word.now → IsFirstBadInHub all (n + 1)
-hub_first_bad_line {t = t} {u = u} {r = r} all words word n yields so_far is step count bad =
-    hub_first_bad all words word n (YieldsList-so_far yields words t so_far)
-    (YieldsList-turn yields words t so_far r u word is step) count bad
 
 -- ---- the line after the last
 

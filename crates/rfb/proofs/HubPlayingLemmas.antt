@@ -1,7 +1,7 @@
 -- Runs of a hub's script, and what is reported of its lines.
-use Rattle.std.proofs.Common.{◌≡◌, ◌≢◌, ◌+◌, ◌∙◌, ap, sym, refl, subst, true, false, is_some, inl, inr, ◌⊎◌, zero, suc}
-use Rattle.std.proofs.Common.{ℕ, Option, None, List, [], ◌∷◌, ◌++◌, OnErr, Result, Ok, Err, append-nil, append_assoc}
-use Rattle.std.proofs.Common.{bit_or, arith}
+use Rattle.std.proofs.Common.{◌≡◌, ◌+◌, ◌∙◌, ap, sym, refl, subst, inl, inr, ◌⊎◌, zero, suc, ℕ, Option, None, List, []}
+use Rattle.std.proofs.Common.{◌∷◌, ◌++◌, OnErr, Result, Ok, Err, append_assoc, bit_or, arith}
+use Rattle.std.proofs.lemmas.List.{flat_map_more}
 use Rattle.rfb_picture.specs.Grid.{uniform}
 use Rattle.rfb_server.specs.Server.{black}
 use Rattle.rfb_server.specs.Model.{serving_with}
@@ -11,46 +11,22 @@ use Rattle.rfb_hello.specs.declared.version.Version.TheVariants.{V38}
 use Rattle.rfb_session.specs.Devices.{AppendsBeginning}
 use Rattle.rfb_session.specs.declared.hub.Hub.{Hub}
 use Rattle.rfb_session.specs.declared.hub.event.HubEvent.{HubEvent}
-use Rattle.rfb_session.specs.declared.hub.event.HubEvent.TheVariants.{Fill, Put, Copy, Hint, Join, Leave, Of, Foreign}
+use Rattle.rfb_session.specs.declared.hub.event.HubEvent.TheVariants.{Of}
 use Rattle.rfb_session.specs.declared.hub.event.HubFault.{HubFault}
 use Rattle.rfb_session.specs.declared.hub.event.HubTold.{HubTold}
-use Rattle.rfb_session.specs.declared.hub.event.SlotEvent.TheVariants.{Request, SetFormat, SetEncodings, Key, Pointer}
-use Rattle.rfb_session.specs.declared.hub.event.SlotEvent.TheVariants.{CutText, Compose, ToServer, ToViewer}
-use Rattle.rfb_session.specs.Hub.{AllHeadlines, HasFewHubBytes, HubStands, IsEmptyHub, seat_in, serving_in}
+use Rattle.rfb_session.specs.declared.hub.event.SlotEvent.TheVariants.{ToServer, ToViewer}
+use Rattle.rfb_session.specs.Hub.{AllHeadlines, HubStands, IsEmptyHub, serving_in}
 use Rattle.rfb_session.specs.HubSeats.{ends_of}
-use Rattle.rfb_session.specs.HubSteps.{HubPlayed, HubSteps, LeavesAs, RunsHub}
-use Rattle.rfb_session.specs.HubSteps.LeavesAs.{NoneLeft, Left}
+use Rattle.rfb_session.specs.HubSteps.{HubPlayed, HubSteps, RunsHub}
 use Rattle.rfb_session.specs.Played.{name}
 use Rattle.rfb_session.proofs.NetworkLaws.{headline_holds}
 use Rattle.rfb.specs.declared.fault.Fault.{Fault}
 use Rattle.rfb.specs.declared.script.hub_steps.LineTold.{LineTold}
 use Rattle.rfb.specs.declared.script.hub.hub_step.HubNumbered.{HubNumbered}
-use Rattle.rfb.specs.declared.script.hub.hub_step.HubStep.TheVariants.{Event}
 use Rattle.rfb_session.specs.declared.language.screen.Screen.{Screen as Size}
 use Rattle.rfb.specs.CommandLine.{HubPlayedTo, ShowsSlotTo}
-use Rattle.rfb.specs.Few.{HasFewInHub}
 use Rattle.rfb.specs.HubRun.{LeadsHub, RunsTelling, TellsLine, deliveries_in, ended_with, hub_events, hub_events_of}
 use Rattle.rfb.specs.HubRun.{or_refusal, refusal_with}
-
--- ---- the premise of an event
-
-pub few_hub_bytes : (event : HubEvent) → HasFewInHub (Event event) → HasFewHubBytes event
-few_hub_bytes (Fill rect colour) few = tt
-few_hub_bytes (Put x y row) few = tt
-few_hub_bytes (Copy rect sx sy) few = tt
-few_hub_bytes (Hint rect sx sy) few = tt
-few_hub_bytes (Join slot setup) few = tt
-few_hub_bytes (Leave slot) few = tt
-few_hub_bytes (Foreign slot bytes) few = few
-few_hub_bytes (Of slot (Request incremental rect)) few = tt
-few_hub_bytes (Of slot (SetFormat format)) few = tt
-few_hub_bytes (Of slot (SetEncodings encodings)) few = tt
-few_hub_bytes (Of slot (Key down code)) few = tt
-few_hub_bytes (Of slot (Pointer buttons x y)) few = tt
-few_hub_bytes (Of slot (CutText text)) few = few
-few_hub_bytes (Of slot Compose) few = tt
-few_hub_bytes (Of slot (ToServer n)) few = tt
-few_hub_bytes (Of slot (ToViewer n)) few = tt
 
 -- ---- runs
 
@@ -161,18 +137,11 @@ pub eight_leads : (slot n : ℕ) (old new : Hub) → n ≡ 8 → LeadsHub old (d
     LeadsHub old (deliveries_in slot 8) new
 eight_leads slot n old new is leads = subst (λ (k : ℕ). LeadsHub old (deliveries_in slot k) new) is leads
 
-pub eight_tells : (slot n : ℕ) (old new : Hub) (line : LineTold) → n ≡ 8 →
-    TellsLine old (deliveries_in slot n) line new → TellsLine old (deliveries_in slot 8) line new
-eight_tells slot n old new line is tells = subst (λ (k : ℕ). TellsLine old (deliveries_in slot k) line new) is tells
-
 -- ---- all steps
 
 pub hub_all_more : (steps : List HubNumbered) (step : HubNumbered) →
     hub_events (steps ++ step ∷ []) ≡ hub_events steps ++ hub_events_of step.step
-hub_all_more [] step = append-nil (hub_events_of step.step)
-hub_all_more (s ∷ steps) step =
-    ap (λ (l : List HubEvent). hub_events_of s.step ++ l) (hub_all_more steps step)
-    ∙ sym (append_assoc (hub_events_of s.step) (hub_events steps) (hub_events_of step.step))
+hub_all_more steps step = sym (flat_map_more (λ (s : HubNumbered). hub_events_of s.step) [] steps step)
 
 pub hub_step_more : (first mid new : Hub) (steps more : List HubNumbered) (step : HubNumbered) →
     more ≡ steps ++ step ∷ [] → LeadsHub first (hub_events steps) mid → LeadsHub mid (hub_events_of step.step) new →
@@ -212,15 +181,3 @@ pub leaves_hub : {W : Type 0} (contents : W → Option (List ℕ)) (old new : W)
 leaves_hub contents old new P hub (Ok done) size steps shown left played = tt
 leaves_hub contents old new P hub (Err fault) size steps shown (inl same) played = inl (ap contents same)
 leaves_hub contents old new P hub (Err fault) size steps shown (inr begun) played = inr (hub, played begun.0, begun.1)
-
--- ---- a slot without a picture
-
-pub left_none : (old new : Hub) (k : ℕ) (told : HubTold) → LeavesAs old k told new →
-    is_some told.refused ≡ true → seat_in old k ≡ None
-left_none old new k told (NoneLeft none refused) some = none
-left_none old new k told (Left seat taken made empty) some = absurd (cc)
-
-pub left_some : (old new : Hub) (k : ℕ) (told : HubTold) → LeavesAs old k told new →
-    is_some told.refused ≡ false → seat_in old k ≢ None
-left_some old new k told (NoneLeft none refused) some e = absurd (cc)
-left_some old new k told (Left seat taken made empty) some e = cc

@@ -12,23 +12,39 @@ use Rattle.rfb.specs.declared.fault.Failure.{Failure}
 use Rattle.rfb.specs.declared.fault.Failure.TheVariants.{BadLine, Undone, Fault, Engine, Picture}
 use Rattle.rfb.specs.declared.script.hub.hub_step.HubNumbered.{HubNumbered}
 use Rattle.rfb_session.specs.declared.language.screen.Screen.{Screen as Size}
-use Rattle.rfb.specs.CommandLine.{FailsAtAny, HubPlayedTo, LeavesScript, PlaysAny, PlaysScript}
+use Rattle.rfb.specs.CommandLine.{FailsAt, FailsAtAny, FailsIn, HubPlayedTo, LeavesScript, PlaysAny, PlaysScript}
 use Rattle.rfb.specs.HubRun.{hub_events}
-use Rattle.rfb.specs.HubScript.{AreHubScript, BeginHub, StopsReadingAny, StopsReadingHub}
-use Rattle.rfb.specs.Script.{StopsReading, lines_of}
+use Rattle.rfb.specs.HubScript.{AreHubScript, BeginHub, IsFirstBadInHub, IsWithoutShow, StopsReadingAny, StopsReadingHub}
+use Rattle.rfb.specs.Script.{IsFirstBad, IsWithoutScreen, StopsAt, StopsReading, lines_of}
 
--- what was read after nothing is what there was to read
+-- where reading stops at bad lines alone, and at faults, what was read after nothing is what there was to read
+fails_in : (Stops : List (List ℕ) → Failure → Type 0) →
+    ((lines : List (List ℕ)) (failure : Failure) → Stops lines failure → (Bad : ℕ → Type 0) × StopsAt Bad failure) →
+    (read : Option (List ℕ)) (empty all : List ℕ) (failure : Failure) → empty ≡ [] →
+    IfSome read (λ text. all ≡ empty ++ text) → Stops (lines_of all) failure → FailsIn Stops read failure
+fails_in Stops bad None empty all (BadLine n) e is stops = tt
+fails_in Stops bad (Some text) empty all (BadLine n) e is stops =
+    let same : all ≡ text = rw e at is in rw (← same) stops
+fails_in Stops bad read empty all (Fault fault) e is stops = tt
+fails_in Stops bad read empty all (Undone n why) e is stops = absurd (bad (lines_of all) (Undone n why) stops).1
+fails_in Stops bad read empty all (Engine fault) e is stops = absurd (bad (lines_of all) (Engine fault) stops).1
+fails_in Stops bad read empty all (Picture flaw) e is stops = absurd (bad (lines_of all) (Picture flaw) stops).1
+
 pub fails_any : (read : Option (List ℕ)) (empty all : List ℕ) (failure : Failure) → empty ≡ [] →
     IfSome read (λ text. all ≡ empty ++ text) → StopsReadingAny (lines_of all) failure → FailsAtAny read failure
-fails_any None empty all (BadLine n) e is stops = tt
-fails_any (Some text) empty all (BadLine n) e is stops = let same : all ≡ text = rw e at is in rw (← same) stops
-fails_any read empty all (Fault fault) e is stops = tt
-fails_any read empty all (Undone n why) e is (inl stops) = absurd stops.1
-fails_any read empty all (Undone n why) e is (inr stops) = absurd stops.1
-fails_any read empty all (Engine fault) e is (inl stops) = absurd stops.1
-fails_any read empty all (Picture flaw) e is (inl stops) = absurd stops.1
-fails_any read empty all (Engine fault) e is (inr stops) = absurd stops.1
-fails_any read empty all (Picture flaw) e is (inr stops) = absurd stops.1
+fails_any read empty all failure e is stops = fails_in StopsReadingAny bad read empty all failure e is stops
+  where
+    bad : (lines : List (List ℕ)) (failure : Failure) → StopsReadingAny lines failure →
+        (Bad : ℕ → Type 0) × StopsAt Bad failure
+    bad lines failure (inl stops) = ((λ n. IsFirstBadInHub lines n ⊎ IsWithoutShow lines n), stops.1)
+    bad lines failure (inr stops) = ((λ n. IsFirstBad lines n ⊎ IsWithoutScreen lines n), stops.1)
+
+-- the same of a script that is no hub's
+pub fails_plain : (read : Option (List ℕ)) (empty all : List ℕ) (failure : Failure) → empty ≡ [] →
+    IfSome read (λ text. all ≡ empty ++ text) → StopsReading (lines_of all) failure → FailsAt read failure
+fails_plain read empty all failure e is stops =
+    fails_in StopsReading (λ lines failure stops. ((λ n. IsFirstBad lines n ⊎ IsWithoutScreen lines n), stops)) read
+    empty all failure e is stops
 
 pub stops_hub : (lines : List (List ℕ)) (failure : Failure) (b : Bool) → (b ≡ true → BeginHub lines)
     × (BeginHub lines → b ≡ true) → b ≡ true → StopsReadingHub lines failure → StopsReadingAny lines failure

@@ -3,7 +3,6 @@ pub mod ArgumentLemmas
 pub mod CommandLemmas
 pub mod ComposingLemmas
 pub mod DeliveryLemmas
-pub mod DrivingLemmas
 pub mod CrossingLemmas
 pub mod EndsLemmas
 pub mod FirstLineLemmas
@@ -17,15 +16,15 @@ pub mod HubScriptingLemmas
 pub mod LeavingLemmas
 pub mod LoopbackLemmas
 pub mod OptionLemmas
+pub mod OutcomeLemmas
 pub mod PlayingLemmas
 pub mod RecordingLemmas
-pub mod RelayingLemmas
 pub mod SceneLemmas
 pub mod ScriptLemmas
 pub mod ServingLemmas
-pub mod SharingLemmas
 pub mod ThroughLemmas
 pub mod UsageLemmas
 pub mod ViewingLemmas
 pub mod LinesLemmas
 pub mod MadeLemmas
+pub mod OrderLemmas

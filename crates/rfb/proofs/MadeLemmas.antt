@@ -1,8 +1,11 @@
 -- The ends of a script meet the premises of the world's theorem.
-use Rattle.std.proofs.Common.{◌≡◌, ◌≤◌, ◌<◌, ◌^◌, ◌*◌, ◌∙◌, ℕ, List, [], ◌∷◌, Option, Some, None, ap, sym, refl, subst}
-use Rattle.std.proofs.Common.{inl, inr, length, map, arith}
+use Rattle.std.proofs.Common.{◌≡◌, ◌≤◌, ◌<◌, ◌+◌, ◌^◌, ◌*◌, ◌∙◌, ◌&&◌, ◌||◌, nat_le, Bool, true, ℕ, List, [], ◌∷◌}
+use Rattle.std.proofs.Common.{Option, Some, None, ap, sym, refl, subst, inl, inr, length, map, arith}
+use Rattle.std.proofs.lemmas.Bool.Decides.{nat_tests}
 use Rattle.std.proofs.lemmas.Nat.{mul-le}
-use Rattle.rfb_pixel.specs.Format.{IsFormat, PixelFormat, bgr233, rgb565, rgb101010}
+use Rattle.rfb_pixel.specs.Channel.{IsField}
+use Rattle.rfb_pixel.specs.declared.channel.Channel.{Channel}
+use Rattle.rfb_pixel.specs.Format.{IsApart, IsFormat, IsPixelSize, PixelFormat, bgr233, rgb565, rgb101010}
 use Rattle.rfb_pixel.proofs.FormatLaws.{rgb888-is_format}
 use Rattle.rfb_wire.specs.declared.encoding.Encoding.{Encoding}
 use Rattle.rfb_session.specs.InFlight.{AreMade}
@@ -13,41 +16,47 @@ use Rattle.rfb.specs.ScriptRun.{encodings_of, ends_of, format_of}
 use Rattle.rfb.specs.Script.{AreScript, AskForAll}
 use Rattle.rfb_session.specs.language.Words.{IsFormatWord, name_of}
 
-rgb565-is_format : IsFormat rgb565
-rgb565-is_format = record {
-  whole = refl;
-  deep = omega arith;
-  red = (omega arith, omega arith, omega arith);
-  green = (omega arith, omega arith, omega arith);
-  blue = (omega arith, omega arith, omega arith);
-  red_green = λ i here there. omega arith;
-  red_blue = λ i here there. omega arith;
-  green_blue = λ i here there. omega arith;
+-- whether a field lies in a pixel, and whether one of two lies above the other
+fits : ℕ → Channel → Bool
+fits bits c = nat_le 1 c.width && (nat_le c.width 16 && nat_le (c.shift + c.width) bits)
+
+parts : Channel → Channel → Bool
+parts a b = nat_le (a.shift + a.width) b.shift || nat_le (b.shift + b.width) a.shift
+
+fits-field : (bits : ℕ) (c : Channel) → fits bits c ≡ true → IsField bits c
+unfolding fits
+fits-field bits c is = (grind (arith, nat_tests, is), grind (arith, nat_tests, is), grind (arith, nat_tests, is))
+
+parts-apart : (a b : Channel) → parts a b ≡ true → IsApart a b
+unfolding parts
+parts-apart a b is = λ i here there. grind (arith, nat_tests, is, here, there)
+
+-- a format, by these tests
+format_of_tests : (f : PixelFormat) → IsPixelSize f.bits_per_pixel → nat_le f.depth f.bits_per_pixel ≡ true →
+    (fits f.bits_per_pixel f.red && (fits f.bits_per_pixel f.green && fits f.bits_per_pixel f.blue)) ≡ true →
+    (parts f.red f.green && (parts f.red f.blue && parts f.green f.blue)) ≡ true → IsFormat f
+format_of_tests f whole deep fields apart = record {
+  whole = whole;
+  deep = grind (arith, nat_tests, deep);
+  red = fits-field f.bits_per_pixel f.red (grind (arith, fields));
+  green = fits-field f.bits_per_pixel f.green (grind (arith, fields));
+  blue = fits-field f.bits_per_pixel f.blue (grind (arith, fields));
+  red_green = parts-apart f.red f.green (grind (arith, apart));
+  red_blue = parts-apart f.red f.blue (grind (arith, apart));
+  green_blue = parts-apart f.green f.blue (grind (arith, apart));
 }
+
+rgb565-is_format : IsFormat rgb565
+unfolding fits parts
+rgb565-is_format = format_of_tests rgb565 refl refl refl refl
 
 bgr233-is_format : IsFormat bgr233
-bgr233-is_format = record {
-  whole = refl;
-  deep = omega arith;
-  red = (omega arith, omega arith, omega arith);
-  green = (omega arith, omega arith, omega arith);
-  blue = (omega arith, omega arith, omega arith);
-  red_green = λ i here there. omega arith;
-  red_blue = λ i here there. omega arith;
-  green_blue = λ i here there. omega arith;
-}
+unfolding fits parts
+bgr233-is_format = format_of_tests bgr233 refl refl refl refl
 
 rgb101010-is_format : IsFormat rgb101010
-rgb101010-is_format = record {
-  whole = refl;
-  deep = omega arith;
-  red = (omega arith, omega arith, omega arith);
-  green = (omega arith, omega arith, omega arith);
-  blue = (omega arith, omega arith, omega arith);
-  red_green = λ i here there. omega arith;
-  red_blue = λ i here there. omega arith;
-  green_blue = λ i here there. omega arith;
-}
+unfolding fits parts
+rgb101010-is_format = format_of_tests rgb101010 refl refl refl refl
 
 -- what a name stands for is a format
 named : (word : List ℕ) (form : PixelFormat) → IsFormatWord word form → IsFormat form
@@ -60,7 +69,7 @@ format_made : (n : ℕ) (lines : List (List ℕ)) (wants : Option Wants) (steps 
     AskForAll n lines wants steps → IsFormat (format_of wants)
 format_made n lines None steps asks = rgb888-is_format
 format_made n lines (Some wants) steps asks =
-    named asks.wants_is.2.0 wants.format asks.wants_is.2.3
+    named asks.first_is.2.0 wants.format asks.first_is.2.3
 
 names_length : (encodings : List Encoding) → length (map name_of encodings) ≡ length encodings
 names_length [] = refl
@@ -70,7 +79,7 @@ few_made : (n : ℕ) (lines : List (List ℕ)) (wants : Option Wants) (steps : L
     AskForAll n lines wants steps → length (encodings_of wants) < 2 ^ 16
 few_made n lines None steps asks = omega arith
 few_made n lines (Some wants) steps asks =
-    let are = asks.wants_is.2.4 in
+    let are = asks.first_is.2.4 in
     let size = ap (λ (l : List (List ℕ)). length l) are.0 ∙ names_length wants.encodings.items in
     omega (arith, size, are.2)
 

@@ -1,12 +1,15 @@
 -- What was given to options, from what the getters tell.
-use Rattle.std.proofs.Common.{◌≡◌, ◌<◌, ◌^◌, ◌∙◌, ap, ap₂, sym, refl, subst, codes, [], ℕ, Bool, true, false, not, ◌&&◌}
+use Rattle.std.proofs.Common.{◌≡◌, ◌<◌, ◌≤◌, ◌∙◌, arith, ap, ap₂, sym, refl, subst, codes, [], ℕ, Bool, true, false, not, ◌&&◌}
 use Rattle.std.proofs.Common.{List, Option, Some, None, Result, Ok, Err, MatchResult, option_map, IfSome, is_some, Bor}
 use Rattle.std.proofs.Common.{◌+◌, ◌++◌, ◌∷◌, append_assoc, inl, length, map, slice_index_or, take}
 use Rattle.std.proofs.lemmas.List.{flat_map_more, map_more}
 use Rattle.std.proofs.lemmas.Option.{none-some, same_Some}
-use Rattle.std.specs.Str.Parse.{IsNumeral, ParsesUnsigned, digits_value, without_leading_plus}
-use Rattle.clap.specs.Matches.{ReadsOne}
-use Rattle.clap.specs.Walk.{Row, Text, first_of}
+use Rattle.std.specs.Str.Parse.{ExplainsUnsignedError, HasUnsignedDigitsIfOk, IsNumeral, ParsesUnsigned, digits_value}
+use Rattle.std.specs.Str.Parse.{without_leading_plus}
+use Rattle.clap.specs.Matches.{ReadsOne, first_value, one_text}
+use Rattle.clap.specs.Walk.{Row, Text, first_of, one_of, rows_of}
+use Rattle.clap.specs.declared.parser.matches.Found.{Found}
+use Rattle.clap.proofs.WalkLemmas.{first_value-rows, one_text-rows}
 use Rattle.rfb_pixel.specs.Format.{PixelFormat}
 use Rattle.rfb.specs.declared.options.BadValue.{BadValue}
 use Rattle.clap.specs.Faults.{fault_of}
@@ -47,6 +50,15 @@ pub not_there : (o : Option (Text × List Row)) → None ≡ option_map (λ p. p
 not_there None e = refl
 not_there (Some p) e = absurd (none-some _ e)
 
+-- the text of a word that may be there
+abbrev pub text_of : Option (Bor Text) → Option Text
+text_of = option_map (λ s. s.now)
+
+-- the first word that was given, as a getter has it
+pub first_is : (found : Found) (name : Text) (got word : Option (Bor Text)) →
+    text_of got ≡ first_value found name → got ≡ word → first_of name (rows_of found) ≡ text_of word
+first_is found name got word has is = sym (first_value-rows found name) ∙ (sym has ∙ ap text_of is)
+
 -- a word for a format is the one that is given
 pub format_given : (rows : List Row) (word : Text) (r : Result PixelFormat BadValue) →
     first_of (codes "format") rows ≡ Some word →
@@ -68,25 +80,33 @@ encodings_given otherwise rows list (Err bad) e none = (list, e, none)
 
 -- ---- numbers, by what `get_one` reads
 
-pub number_read : (bits : ℕ) (E : Type 0) (G : List ℕ → Result ℕ E → Type 0) (t : List ℕ) (r : Option ℕ) (n : ℕ) →
-    r ≡ Some n → ReadsOne G t r → ((u : List ℕ) (x : Result ℕ E) → G u x → ParsesUnsigned bits 10 u x) →
-    n ≡ digits_value 10 (without_leading_plus t)
-number_read bits E G t None n is h only = absurd (none-some n is)
-number_read bits E G t (Some m) n is h only = sym (same_Some m n is) ∙ (only t (Ok m) h).1
+-- what it has read of a text
+abbrev pub ReadsNumber : Text → Option ℕ → Type 0
+ReadsNumber text r =
+    ReadsOne (λ t x. ParsesUnsigned 32 10 t x × ExplainsUnsignedError 10 t x × HasUnsignedDigitsIfOk t x) text r
 
-pub none_read : (bits : ℕ) (E : Type 0) (G : List ℕ → Result ℕ E → Type 0) (t : List ℕ) (r : Option ℕ) →
-    r ≡ None → ReadsOne G t r → ((u : List ℕ) (x : Result ℕ E) → G u x → ParsesUnsigned bits 10 u x) →
-    ¬ (IsNumeral 10 (without_leading_plus t) × (digits_value 10 (without_leading_plus t) < 2 ^ bits))
-none_read bits E G t None is h only = only t (Err h.0) h.1
-none_read bits E G t (Some m) is h only = absurd (none-some m (sym is))
+-- a number that was read of the text of a word is the one that its digits say
+pub number_read : (found : Found) (name : Text) (r : Option ℕ) (n : ℕ) → r ≡ Some n →
+    ((t : Text) → one_text found name ≡ Some t → ReadsNumber t r) → (text : Text) →
+    one_of name (rows_of found) ≡ Some text → n ≡ digits_value 10 (without_leading_plus text)
+number_read found name None n is reads text given = absurd (none-some n is)
+number_read found name (Some m) n is reads text given =
+    sym (same_Some m n is) ∙ (reads text (one_text-rows found name ∙ given)).0.1
 
-pub read_given : (bits : ℕ) (E : Type 0) (G : List ℕ → Result ℕ E → Type 0) (t : List ℕ) (r : Option ℕ) →
-    ReadsOne G t r → ((u : List ℕ) (x : Result ℕ E) → G u x → ParsesUnsigned bits 10 u x) →
-    IsNumeral 10 (without_leading_plus t) → digits_value 10 (without_leading_plus t) < 2 ^ bits →
-    r ≡ Some (digits_value 10 (without_leading_plus t))
-read_given bits E G t None h only numeral small = absurd (none_read bits E G t None refl h only (numeral, small))
-read_given bits E G t (Some m) h only numeral small =
-    ap (λ (n : ℕ). Some n) (number_read bits E G t (Some m) m refl h only)
+-- none is read where the word has no text
+pub number_absent : (found : Found) (name : Text) (r : Option ℕ) (n : ℕ) → r ≡ Some n →
+    (one_text found name ≡ None → r ≡ None) → one_of name (rows_of found) ≡ None → ⊥
+number_absent found name r n is none absent = none-some n (sym (none (one_text-rows found name ∙ absent)) ∙ is)
+
+-- where none was, its digits say none
+pub none_read : (found : Found) (name : Text) (r : Option ℕ) → r ≡ None →
+    ((t : Text) → one_text found name ≡ Some t → ReadsNumber t r) → (text : Text) →
+    one_of name (rows_of found) ≡ Some text → IsNumeral 10 (without_leading_plus text) →
+    ¬ (digits_value 10 (without_leading_plus text) ≤ 4294967295)
+none_read found name None is reads text given numeral small =
+    let e = reads text (one_text-rows found name ∙ given) in
+    e.1.0 (numeral, omega (arith, small))
+none_read found name (Some m) is reads text given numeral small = absurd (none-some m (sym is))
 
 -- ---- words that are lines
 

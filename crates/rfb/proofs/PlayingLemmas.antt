@@ -1,6 +1,7 @@
 -- Steps of a script, one after another.
 use Rattle.std.proofs.Common.{OnOk, Result, Ok, Err, true, ◌≡◌, ℕ, ◌+◌, ◌∙◌, zero, suc, List, [], ◌∷◌, ◌++◌, Option, ap}
-use Rattle.std.proofs.Common.{sym, refl, subst, arith, append_assoc, append-nil}
+use Rattle.std.proofs.Common.{sym, refl, subst, arith}
+use Rattle.std.proofs.lemmas.List.{flat_map_more}
 use Rattle.rfb_hello.specs.declared.version.Version.TheVariants.{V38}
 use Rattle.rfb_pixel.specs.Format.{PixelFormat}
 use Rattle.rfb_picture.specs.Grid.{uniform}
@@ -13,39 +14,20 @@ use Rattle.rfb_viewer.specs.declared.viewer.Viewer.{Viewer}
 use Rattle.rfb_viewer.specs.Viewer.{first_viewer}
 use Rattle.rfb_viewer.specs.Model.{StandsFor as ViewerStandsFor, viewing_with}
 use Rattle.rfb_session.specs.declared.event.Event.{Event}
-use Rattle.rfb_session.specs.declared.event.Event.TheVariants.{Fill, Put, Copy, Hint, Request, SetFormat, SetEncodings}
-use Rattle.rfb_session.specs.declared.event.Event.TheVariants.{Key, Pointer, CutText, Compose, ToServer, ToViewer}
+use Rattle.rfb_session.specs.declared.event.Event.TheVariants.{ToServer, ToViewer}
 use Rattle.rfb_session.specs.declared.told.Told.{Told}
 use Rattle.rfb_session.specs.declared.world.World.{World}
 use Rattle.rfb_session.specs.Link.{Ends}
 use Rattle.rfb_session.specs.Network.{Network, StepsAll}
-use Rattle.rfb_session.specs.World.{AreFresh, Does, HasFewBytes, Reaches}
+use Rattle.rfb_session.specs.World.{AreFresh, Does, Reaches}
 use Rattle.rfb_session.specs.InFlight.{AreMade}
 use Rattle.rfb_session.proofs.NetworkLaws.{first_reached, headline_holds}
 use Rattle.rfb_session.proofs.RunLaws.{Any, neither_failed, reached_more, run_more, run_none}
 use Rattle.rfb.specs.declared.script.line.Numbered.{Numbered}
 use Rattle.rfb_session.specs.declared.language.screen.Screen.{Screen as Size}
 use Rattle.rfb.specs.declared.script.line.Wants.{Wants}
-use Rattle.rfb.specs.declared.script.line.Step.TheVariants.{Event as OneEvent}
-use Rattle.rfb.specs.Few.{HasFew}
 use Rattle.rfb.specs.ScriptRun.{IsPlayed, StandsFresh, TakesStep, all_events, deliveries, encodings_of, ends_of}
 use Rattle.rfb.specs.ScriptRun.{events_of, first_of, format_of}
-
--- the premise of an event
-pub has_few : (event : Event) → HasFew (OneEvent event) → HasFewBytes event
-has_few (Fill rect colour) few = tt
-has_few (Copy rect sx sy) few = tt
-has_few (Hint rect sx sy) few = tt
-has_few (Request incremental rect) few = tt
-has_few (SetFormat format) few = tt
-has_few (SetEncodings encodings) few = tt
-has_few (Key down code) few = tt
-has_few (Pointer buttons x y) few = tt
-has_few (Put x y row) few = tt
-has_few Compose few = tt
-has_few (ToServer n) few = tt
-has_few (ToViewer n) few = tt
-has_few (CutText text) few = few
 
 steps_append : (e : Ends) (a b c : Network) (xs ys : List Event) → StepsAll e a xs b →
     StepsAll e b ys c → StepsAll e a (xs ++ ys) c
@@ -89,10 +71,7 @@ eight_turns n old new is runs = subst (λ (k : ℕ). Reaches old (deliveries k) 
 -- one step more
 pub all_more : (steps : List Numbered) (step : Numbered) →
     all_events (steps ++ step ∷ []) ≡ all_events steps ++ events_of step.step
-all_more [] step = append-nil (events_of step.step)
-all_more (s ∷ steps) step =
-    ap (λ (l : List Event). events_of s.step ++ l) (all_more steps step)
-    ∙ sym (append_assoc (events_of s.step) (all_events steps) (events_of step.step))
+all_more steps step = sym (flat_map_more (λ (s : Numbered). events_of s.step) [] steps step)
 
 -- after all steps
 pub is_played : (size : Size) (wants : Option Wants) (steps : List Numbered) (first world : World) →

@@ -13,13 +13,13 @@ use Rattle.rfb.specs.declared.fault.Failure.TheVariants as failure
 use Rattle.rfb.specs.declared.play.play_options.PlayOptions.{PlayOptions}
 use Rattle.rfb_session.proofs.WrittenLaws.{whole_beginning}
 use Rattle.rfb.specs.Recording.{BeginsPicture, EndsShown, FailsToPlay, IsFresh, LeavesRecording, MayWritePicture}
-use Rattle.rfb.specs.Recording.{PlaysRecording, ShowsEnd, StopsWatching, Watches, WritesPicture, shows_end}
+use Rattle.rfb.specs.Recording.{PlaysRecording, PlaysTo, ShowsEnd, StopsWatching, Watches, WritesPicture, shows_end}
 
-pub plays_recording : (options : PlayOptions) (read before after : Option (List ℕ)) (first last : Viewer) (told : ℕ)
-    (r : Result (Unit {0}) Failure) → IsFresh options.format (Raw ∷ []) first →
-    Watches options.updates read first told last →
-    OnOk r (WritesPicture last before after) → OnOk r (PlaysRecording options read before after)
-plays_recording options read before after first last told (Ok done) fresh watched written = record {
+-- a viewer that was fed what is wanted, and what was written of it
+plays_to : (Writes : Viewer → Type 0) (options : PlayOptions) (read : Option (List ℕ)) (first last : Viewer)
+    (told : ℕ) → IsFresh options.format (Raw ∷ []) first → Watches options.updates read first told last →
+    Writes last → PlaysTo Writes options read
+plays_to Writes options read first last told fresh watched written = record {
   first = first;
   fresh = fresh;
   told = told;
@@ -27,6 +27,13 @@ plays_recording options read before after first last told (Ok done) fresh watche
   watches = watched;
   written = written;
 }
+
+pub plays_recording : (options : PlayOptions) (read before after : Option (List ℕ)) (first last : Viewer) (told : ℕ)
+    (r : Result (Unit {0}) Failure) → IsFresh options.format (Raw ∷ []) first →
+    Watches options.updates read first told last →
+    OnOk r (WritesPicture last before after) → OnOk r (PlaysRecording options read before after)
+plays_recording options read before after first last told (Ok done) fresh watched written =
+    plays_to (λ viewer. WritesPicture viewer before after) options read first last told fresh watched written
 plays_recording options read before after first last told (Err failure) fresh watched written = tt
 
 pub leaves_recording : {W : Type 0} (contents : W → Option (List ℕ)) (options : PlayOptions) (read : Option (List ℕ))
@@ -39,14 +46,8 @@ leaves_recording contents options read old new first last told (Ok done) fresh w
 leaves_recording contents options read old new first last told (Err failure) fresh watched (inl same) =
     inl (ap contents same)
 leaves_recording contents options read old new first last told (Err failure) fresh watched (inr begun) =
-    inr (inl (record {
-      first = first;
-      fresh = fresh;
-      told = told;
-      last = last;
-      watches = watched;
-      written = begun;
-    }))
+    inr (inl (plays_to (λ viewer. BeginsPicture viewer (contents old) (contents new)) options read first last told
+    fresh watched begun))
 
 pub fails_to_show : (options : PlayOptions) (read before after : Option (List ℕ)) (r : Result (Unit {0}) Failure) →
     IfErr r (λ f. (fault : Fault) × (f ≡ failure.Fault fault)) → IfErr r (FailsToPlay options read before after)

@@ -1,7 +1,6 @@
 -- Drawings, one after another; and the screens of the test scene, row by row.
-use Rattle.std.proofs.Common.{◌≡◌, ◌∙◌, ◌↔◌, ◌<◌, ◌+◌, ◌-◌, ap, sym, refl, subst, ℕ, List, length, nat_lt}
-use Rattle.std.proofs.Common.{if◌then◌else◌, slice_index_or, OnOk, Result, Ok, Err, IsErr, arith, Bool, true, false}
-use Rattle.std.proofs.Common.{inl, inr}
+use Rattle.std.proofs.Common.{◌≡◌, ◌∙◌, ◌<◌, ◌+◌, ◌-◌, ap, sym, refl, subst, ℕ, List, length, nat_lt, if◌then◌else◌}
+use Rattle.std.proofs.Common.{slice_index_or, arith, Bool, true, false, inl, inr}
 use Rattle.std.proofs.lemmas.Bool.{cases_order}
 use Rattle.std.proofs.lemmas.Bool.Decides.{nat_tests}
 use Rattle.rfb_pixel.specs.declared.colour.Colour.{Colour}
@@ -11,7 +10,6 @@ use Rattle.rfb_picture.specs.Rect.{contains, rect}
 use Rattle.rfb_picture.proofs.GridLaws.{changed_is, changed_twice, height-changed, same_changes, width-changed}
 use Rattle.rfb_codec.specs.Effect.{IsAlike}
 use Rattle.rfb_server.specs.declared.server.Server.{Server}
-use Rattle.rfb_server.specs.declared.fault.Outside.{Outside}
 use Rattle.rfb_server.specs.Model.{Draws, screen_of}
 use Rattle.rfb.specs.Scene.{begun_at, last_row, moved_up, pattern, step_colour, stepped, upper_rows}
 
@@ -48,11 +46,6 @@ draws_then one two old mid new first second = record {
 
 pub draws_so : (one two : Grid Colour) (old new : Server) → one ≡ two → Draws one old new → Draws two old new
 draws_so one two old new same draws = subst (λ (g : Grid Colour). Draws g old new) same draws
-
--- a drawing that lies on the screen is not refused
-pub not_refused : (r : Result (Unit {0}) Outside) (P Q : Type 0) → (IsErr r ↔ (P → ⊥)) → P → OnOk r Q → Q
-not_refused (Ok done) P Q iff inside q = q
-not_refused (Err fault) P Q iff inside q = absurd (iff.0 refl inside)
 
 -- ---- the first screen
 

@@ -12,14 +12,12 @@ use Rattle.rfb_session.specs.declared.hub.event.SlotEvent.TheVariants as Slot
 use Rattle.rfb_session.specs.HubSeats.{event_of}
 use Rattle.rfb_session.specs.declared.language.screen.Screen.{Screen as Size}
 use Rattle.rfb.specs.declared.script.line.Wants.{Wants}
-use Rattle.rfb.specs.declared.script.line.Step.{Step as ScriptStep}
 use Rattle.rfb.specs.declared.script.line.Step.TheVariants.{Event as OneEvent, Settle}
 use Rattle.rfb.specs.declared.script.line.Line.{Line}
 use Rattle.rfb.specs.declared.script.line.Line.TheVariants.{Screen, Viewer, Step}
-use Rattle.rfb_session.specs.language.Words.{AreSize, texts}
+use Rattle.rfb_session.specs.language.Words.{AreSize, Begins, texts}
 use Rattle.rfb.specs.Words.{AreRequest, AreWants, IsCountAlone, IsFormatAlone}
-use Rattle.rfb.specs.Few.{HasFew}
-use Rattle.rfb.specs.Script.{Says, SaysEvent, SaysNothing, SaysStep}
+use Rattle.rfb.specs.Script.{Says, SaysEvent, SaysNothing}
 use Rattle.rfb_session.specs.declared.language.drawing.DrawingLine.TheVariants as Drawing
 use Rattle.rfb_session.proofs.DrawingLineLemmas.{DrawNothing}
 use Rattle.rfb_session.proofs.WordLaws.{same_word, other_word, no_texts, heads, tails, nothing, words_are}
@@ -28,102 +26,73 @@ use Rattle.rfb_session.proofs.WordLaws.{same_word, other_word, no_texts, heads, 
 apart : (a b : List ℕ) (x y : List (List ℕ)) → bytes_eq a b ≡ false → a ∷ x ≡ b ∷ y → ⊥
 apart a b x y other e = other_word a b other (heads a b x y e)
 
+-- what is said of a keyword that is another one
+pub unlike : {P : Type 0} {a b : List ℕ} → bytes_eq a b ≡ false → a ≡ b → P
+unlike {a = a} {b = b} other e = absurd (other_word a b other e)
+
+-- a keyword of no drawing and no hint
+pub no_drawing : (key : List ℕ) (rest : List (List ℕ)) → bytes_eq key (codes "fill") ≡ false →
+    bytes_eq key (codes "copy") ≡ false → bytes_eq key (codes "hint") ≡ false → DrawNothing (key ∷ rest)
+no_drawing key rest fill copy hint (Drawing.Fill rect colour) said = apart key (codes "fill") rest said.0 fill said.1
+no_drawing key rest fill copy hint (Drawing.Copy rect sx sy) said = apart key (codes "copy") rest said.0 copy said.1
+no_drawing key rest fill copy hint (Drawing.Hint rect sx sy) said = apart key (codes "hint") rest said.0 hint said.1
+
 -- ---- the events of a keyword
 
+-- these words say no event of a slot
+abbrev pub SaysNoSlotEvent : List (List ℕ) → Type 0
+SaysNoSlotEvent words = (event : SlotEvent) → ¬ (SaysEvent words (event_of event))
+
+-- a keyword has no event of a slot where the words after it are for none of those that begin with it
+pub no_slot_event : (key : List ℕ) (rest : List (List ℕ)) →
+    (key ≡ codes "request" → (incremental : Bool) (rect : Rect) → ¬ (AreRequest rest incremental rect)) →
+    (key ≡ codes "format" → (format : PixelFormat) → ¬ (IsFormatAlone rest format)) →
+    (key ≡ codes "toserver" → (n : ℕ) → ¬ (IsCountAlone rest n)) →
+    (key ≡ codes "toviewer" → (n : ℕ) → ¬ (IsCountAlone rest n)) →
+    (key ≡ codes "compose" → rest ≢ []) → SaysNoSlotEvent (key ∷ rest)
+no_slot_event key rest nr nm ns nv nc (Slot.Request incremental rect) said =
+    nr (heads key _ rest said.0 said.1) incremental rect
+    (subst (λ (r : List (List ℕ)). AreRequest r incremental rect) (tails _ _ rest said.0 said.1) said.2)
+no_slot_event key rest nr nm ns nv nc (Slot.SetFormat format) said =
+    nm (heads key _ rest said.0 said.1) format
+    (subst (λ (r : List (List ℕ)). IsFormatAlone r format) (tails _ _ rest said.0 said.1) said.2)
+no_slot_event key rest nr nm ns nv nc (Slot.ToServer n) said =
+    ns (heads key _ rest said.0 said.1) n
+    (subst (λ (r : List (List ℕ)). IsCountAlone r n) (tails _ _ rest said.0 said.1) said.2)
+no_slot_event key rest nr nm ns nv nc (Slot.ToViewer n) said =
+    nv (heads key _ rest said.0 said.1) n
+    (subst (λ (r : List (List ℕ)). IsCountAlone r n) (tails _ _ rest said.0 said.1) said.2)
+no_slot_event key rest nr nm ns nv nc Slot.Compose said =
+    nc (heads key _ rest [] said) (sym (tails key _ rest [] said))
+no_slot_event key rest nr nm ns nv nc (Slot.SetEncodings encodings) said = absurd said
+no_slot_event key rest nr nm ns nv nc (Slot.Key down code) said = absurd said
+no_slot_event key rest nr nm ns nv nc (Slot.Pointer buttons x y) said = absurd said
+no_slot_event key rest nr nm ns nv nc (Slot.CutText text) said = absurd said
+
 pub only_request : (rest : List (List ℕ)) →
-    ((incremental : Bool) (rect : Rect) → ¬ (AreRequest rest incremental rect)) → (event : Event) →
-    ¬ (SaysEvent (codes "request" ∷ rest) event)
-only_request rest none (Fill rect colour) said = apart (codes "request") (codes "fill") rest said.0 refl said.1
-only_request rest none (Copy rect sx sy) said = apart (codes "request") (codes "copy") rest said.0 refl said.1
-only_request rest none (Hint rect sx sy) said = apart (codes "request") (codes "hint") rest said.0 refl said.1
-only_request rest none (Request incremental rect) said =
-    let e = tails _ _ rest said.0 said.1 in
-    none incremental rect (subst (λ (r : List (List ℕ)). AreRequest r incremental rect) e said.2)
-only_request rest none (SetFormat format) said = apart (codes "request") (codes "format") rest said.0 refl said.1
-only_request rest none (ToServer n) said = apart (codes "request") (codes "toserver") rest said.0 refl said.1
-only_request rest none (ToViewer n) said = apart (codes "request") (codes "toviewer") rest said.0 refl said.1
-only_request rest none Compose said = apart (codes "request") (codes "compose") rest [] refl said
-only_request rest none (Put x y row) said = absurd said
-only_request rest none (SetEncodings encodings) said = absurd said
-only_request rest none (Key down key) said = absurd said
-only_request rest none (Pointer buttons x y) said = absurd said
-only_request rest none (CutText text) said = absurd said
+    ((incremental : Bool) (rect : Rect) → ¬ (AreRequest rest incremental rect)) →
+    SaysNoSlotEvent (codes "request" ∷ rest)
+only_request rest none =
+    no_slot_event (codes "request") rest (λ e. none) (unlike refl) (unlike refl) (unlike refl) (unlike refl)
 
-pub only_format : (rest : List (List ℕ)) → ((format : PixelFormat) → ¬ (IsFormatAlone rest format)) → (event : Event) →
-    ¬ (SaysEvent (codes "format" ∷ rest) event)
-only_format rest none (Fill rect colour) said = apart (codes "format") (codes "fill") rest said.0 refl said.1
-only_format rest none (Copy rect sx sy) said = apart (codes "format") (codes "copy") rest said.0 refl said.1
-only_format rest none (Hint rect sx sy) said = apart (codes "format") (codes "hint") rest said.0 refl said.1
-only_format rest none (Request incremental rect) said = apart (codes "format") (codes "request") rest said.0 refl said.1
-only_format rest none (SetFormat format) said =
-    let e = tails _ _ rest said.0 said.1 in none format (subst (λ (r : List (List ℕ)). IsFormatAlone r format) e said.2)
-only_format rest none (ToServer n) said = apart (codes "format") (codes "toserver") rest said.0 refl said.1
-only_format rest none (ToViewer n) said = apart (codes "format") (codes "toviewer") rest said.0 refl said.1
-only_format rest none Compose said = apart (codes "format") (codes "compose") rest [] refl said
-only_format rest none (Put x y row) said = absurd said
-only_format rest none (SetEncodings encodings) said = absurd said
-only_format rest none (Key down key) said = absurd said
-only_format rest none (Pointer buttons x y) said = absurd said
-only_format rest none (CutText text) said = absurd said
+pub only_format : (rest : List (List ℕ)) → ((format : PixelFormat) → ¬ (IsFormatAlone rest format)) →
+    SaysNoSlotEvent (codes "format" ∷ rest)
+only_format rest none =
+    no_slot_event (codes "format") rest (unlike refl) (λ e. none) (unlike refl) (unlike refl) (unlike refl)
 
-pub only_toserver : (rest : List (List ℕ)) → ((n : ℕ) → ¬ (IsCountAlone rest n)) → (event : Event) →
-    ¬ (SaysEvent (codes "toserver" ∷ rest) event)
-only_toserver rest none (Fill rect colour) said = apart (codes "toserver") (codes "fill") rest said.0 refl said.1
-only_toserver rest none (Copy rect sx sy) said = apart (codes "toserver") (codes "copy") rest said.0 refl said.1
-only_toserver rest none (Hint rect sx sy) said = apart (codes "toserver") (codes "hint") rest said.0 refl said.1
-only_toserver rest none (Request incremental rect) said =
-    apart (codes "toserver") (codes "request") rest said.0 refl said.1
-only_toserver rest none (SetFormat format) said = apart (codes "toserver") (codes "format") rest said.0 refl said.1
-only_toserver rest none (ToServer n) said =
-    let e = tails _ _ rest said.0 said.1 in none n (subst (λ (r : List (List ℕ)). IsCountAlone r n) e said.2)
-only_toserver rest none (ToViewer n) said = apart (codes "toserver") (codes "toviewer") rest said.0 refl said.1
-only_toserver rest none Compose said = apart (codes "toserver") (codes "compose") rest [] refl said
-only_toserver rest none (Put x y row) said = absurd said
-only_toserver rest none (SetEncodings encodings) said = absurd said
-only_toserver rest none (Key down key) said = absurd said
-only_toserver rest none (Pointer buttons x y) said = absurd said
-only_toserver rest none (CutText text) said = absurd said
+pub only_toserver : (rest : List (List ℕ)) → ((n : ℕ) → ¬ (IsCountAlone rest n)) →
+    SaysNoSlotEvent (codes "toserver" ∷ rest)
+only_toserver rest none =
+    no_slot_event (codes "toserver") rest (unlike refl) (unlike refl) (λ e. none) (unlike refl) (unlike refl)
 
-pub only_toviewer : (rest : List (List ℕ)) → ((n : ℕ) → ¬ (IsCountAlone rest n)) → (event : Event) →
-    ¬ (SaysEvent (codes "toviewer" ∷ rest) event)
-only_toviewer rest none (Fill rect colour) said = apart (codes "toviewer") (codes "fill") rest said.0 refl said.1
-only_toviewer rest none (Copy rect sx sy) said = apart (codes "toviewer") (codes "copy") rest said.0 refl said.1
-only_toviewer rest none (Hint rect sx sy) said = apart (codes "toviewer") (codes "hint") rest said.0 refl said.1
-only_toviewer rest none (Request incremental rect) said =
-    apart (codes "toviewer") (codes "request") rest said.0 refl said.1
-only_toviewer rest none (SetFormat format) said = apart (codes "toviewer") (codes "format") rest said.0 refl said.1
-only_toviewer rest none (ToServer n) said = apart (codes "toviewer") (codes "toserver") rest said.0 refl said.1
-only_toviewer rest none (ToViewer n) said =
-    let e = tails _ _ rest said.0 said.1 in none n (subst (λ (r : List (List ℕ)). IsCountAlone r n) e said.2)
-only_toviewer rest none Compose said = apart (codes "toviewer") (codes "compose") rest [] refl said
-only_toviewer rest none (Put x y row) said = absurd said
-only_toviewer rest none (SetEncodings encodings) said = absurd said
-only_toviewer rest none (Key down key) said = absurd said
-only_toviewer rest none (Pointer buttons x y) said = absurd said
-only_toviewer rest none (CutText text) said = absurd said
-
--- another keyword has none
-pub no_event : (key : List ℕ) (rest : List (List ℕ)) → key ≢ codes "fill" → key ≢ codes "copy" → key ≢ codes "hint" →
-    key ≢ codes "request" → key ≢ codes "format" → key ≢ codes "toserver" → key ≢ codes "toviewer" →
-    ((key ≡ codes "compose") → (rest ≡ []) → ⊥) → (event : Event) → ¬ (SaysEvent (key ∷ rest) event)
-no_event key rest nf nc nh nr nm ns nv ncompose (Fill rect colour) said = nf (heads key _ rest said.0 said.1)
-no_event key rest nf nc nh nr nm ns nv ncompose (Copy rect sx sy) said = nc (heads key _ rest said.0 said.1)
-no_event key rest nf nc nh nr nm ns nv ncompose (Hint rect sx sy) said = nh (heads key _ rest said.0 said.1)
-no_event key rest nf nc nh nr nm ns nv ncompose (Request incremental rect) said = nr (heads key _ rest said.0 said.1)
-no_event key rest nf nc nh nr nm ns nv ncompose (SetFormat format) said = nm (heads key _ rest said.0 said.1)
-no_event key rest nf nc nh nr nm ns nv ncompose (ToServer n) said = ns (heads key _ rest said.0 said.1)
-no_event key rest nf nc nh nr nm ns nv ncompose (ToViewer n) said = nv (heads key _ rest said.0 said.1)
-no_event key rest nf nc nh nr nm ns nv ncompose Compose said =
-    ncompose (heads key _ rest [] said) (sym (tails key _ rest [] said))
-no_event key rest nf nc nh nr nm ns nv ncompose (Put x y row) said = absurd said
-no_event key rest nf nc nh nr nm ns nv ncompose (SetEncodings encodings) said = absurd said
-no_event key rest nf nc nh nr nm ns nv ncompose (Key down code) said = absurd said
-no_event key rest nf nc nh nr nm ns nv ncompose (Pointer buttons x y) said = absurd said
-no_event key rest nf nc nh nr nm ns nv ncompose (CutText text) said = absurd said
+pub only_toviewer : (rest : List (List ℕ)) → ((n : ℕ) → ¬ (IsCountAlone rest n)) →
+    SaysNoSlotEvent (codes "toviewer" ∷ rest)
+only_toviewer rest none =
+    no_slot_event (codes "toviewer") rest (unlike refl) (unlike refl) (unlike refl) (λ e. none) (unlike refl)
 
 -- a keyword of no drawing and no hint has the events of a slot alone
 pub no_other_event : (key : List ℕ) (rest : List (List ℕ)) → DrawNothing (key ∷ rest) →
-    ((event : SlotEvent) → ¬ (SaysEvent (key ∷ rest) (event_of event))) → (event : Event) →
+    SaysNoSlotEvent (key ∷ rest) → (event : Event) →
     ¬ (SaysEvent (key ∷ rest) event)
 no_other_event key rest drawing none (Fill rect colour) said = drawing (Drawing.Fill rect colour) said
 no_other_event key rest drawing none (Copy rect sx sy) said = drawing (Drawing.Copy rect sx sy) said
@@ -141,9 +110,9 @@ no_other_event key rest drawing none (CutText text) said = absurd said
 
 -- a word that is a keyword has the events of it
 pub no_event_of : (key word : List ℕ) (rest : List (List ℕ)) → bytes_eq key word ≡ true →
-    ((event : Event) → ¬ (SaysEvent (word ∷ rest) event)) → (event : Event) → ¬ (SaysEvent (key ∷ rest) event)
+    SaysNoSlotEvent (word ∷ rest) → SaysNoSlotEvent (key ∷ rest)
 no_event_of key word rest same none =
-    subst (λ (k : List ℕ). (event : Event) → ¬ (SaysEvent (k ∷ rest) event)) (sym (same_word key word same)) none
+    subst (λ (k : List ℕ). SaysNoSlotEvent (k ∷ rest)) (sym (same_word key word same)) none
 
 -- a word alone
 pub alone : (key word : List ℕ) (rest : List (Bor (List ℕ))) → bytes_eq key word ≡ true → length rest ≡ 0 →
@@ -152,70 +121,37 @@ alone key word rest same none = rw (same_word key word same, no_texts rest none)
 
 -- ---- the lines of a keyword
 
+-- words after a keyword say nothing where they are for no line that begins with it
+no_line : (key : List ℕ) (rest : List (List ℕ)) →
+    (key ≡ codes "screen" → (size : Size) → ¬ (AreSize rest size)) →
+    (key ≡ codes "viewer" → (wants : Wants) → ¬ (AreWants rest wants)) → key ≢ codes "settle" →
+    ((event : Event) → ¬ (SaysEvent (key ∷ rest) event)) → SaysNothing (key ∷ rest)
+no_line key rest screen viewer settle none (Screen size) said =
+    screen (heads key _ rest said.0 said.1) size
+    (subst (λ (r : List (List ℕ)). AreSize r size) (tails _ _ rest said.0 said.1) said.2)
+no_line key rest screen viewer settle none (Viewer wants) said =
+    viewer (heads key _ rest said.0 said.1) wants
+    (subst (λ (r : List (List ℕ)). AreWants r wants) (tails _ _ rest said.0 said.1) said.2)
+no_line key rest screen viewer settle none (Step (OneEvent event)) said = none event said
+no_line key rest screen viewer settle none (Step Settle) said = settle (heads key _ rest [] said)
+
 pub only_screen : (rest : List (List ℕ)) → ((size : Size) → ¬ (AreSize rest size)) → SaysNothing (codes "screen" ∷ rest)
-only_screen rest none (Screen size) said =
-    let e = tails _ _ rest said.0 said.1 in none size (subst (λ (r : List (List ℕ)). AreSize r size) e said.2)
-only_screen rest none (Viewer wants) said = apart (codes "screen") (codes "viewer") rest said.0 refl said.1
-only_screen rest none (Step (OneEvent event)) said =
-    no_event (codes "screen") rest (other_word (codes "screen") (codes "fill") refl)
-    (other_word (codes "screen") (codes "copy") refl) (other_word (codes "screen") (codes "hint") refl)
-    (other_word (codes "screen") (codes "request") refl) (other_word (codes "screen") (codes "format") refl)
-    (other_word (codes "screen") (codes "toserver") refl) (other_word (codes "screen") (codes "toviewer") refl)
-    (λ e n. other_word (codes "screen") (codes "compose") refl e) event said
-only_screen rest none (Step Settle) said = apart (codes "screen") (codes "settle") rest [] refl said
+only_screen rest none =
+    no_line (codes "screen") rest (λ e. none) (unlike refl) (unlike refl)
+    (no_other_event (codes "screen") rest (no_drawing (codes "screen") rest refl refl refl)
+    (no_slot_event (codes "screen") rest (unlike refl) (unlike refl) (unlike refl) (unlike refl) (unlike refl)))
 
 pub only_viewer : (rest : List (List ℕ)) → ((wants : Wants) → ¬ (AreWants rest wants)) →
     SaysNothing (codes "viewer" ∷ rest)
-only_viewer rest none (Screen size) said = apart (codes "viewer") (codes "screen") rest said.0 refl said.1
-only_viewer rest none (Viewer wants) said =
-    let e = tails _ _ rest said.0 said.1 in none wants (subst (λ (r : List (List ℕ)). AreWants r wants) e said.2)
-only_viewer rest none (Step (OneEvent event)) said =
-    no_event (codes "viewer") rest (other_word (codes "viewer") (codes "fill") refl)
-    (other_word (codes "viewer") (codes "copy") refl) (other_word (codes "viewer") (codes "hint") refl)
-    (other_word (codes "viewer") (codes "request") refl) (other_word (codes "viewer") (codes "format") refl)
-    (other_word (codes "viewer") (codes "toserver") refl) (other_word (codes "viewer") (codes "toviewer") refl)
-    (λ e n. other_word (codes "viewer") (codes "compose") refl e) event said
-only_viewer rest none (Step Settle) said = apart (codes "viewer") (codes "settle") rest [] refl said
-
-pub only_settle : (rest : List (List ℕ)) → rest ≢ [] → SaysNothing (codes "settle" ∷ rest)
-only_settle rest some (Screen size) said = apart (codes "settle") (codes "screen") rest said.0 refl said.1
-only_settle rest some (Viewer wants) said = apart (codes "settle") (codes "viewer") rest said.0 refl said.1
-only_settle rest some (Step (OneEvent event)) said =
-    no_event (codes "settle") rest (other_word (codes "settle") (codes "fill") refl)
-    (other_word (codes "settle") (codes "copy") refl) (other_word (codes "settle") (codes "hint") refl)
-    (other_word (codes "settle") (codes "request") refl) (other_word (codes "settle") (codes "format") refl)
-    (other_word (codes "settle") (codes "toserver") refl) (other_word (codes "settle") (codes "toviewer") refl)
-    (λ e n. other_word (codes "settle") (codes "compose") refl e) event said
-only_settle rest some (Step Settle) said = some (sym (tails _ _ rest [] said))
+only_viewer rest none =
+    no_line (codes "viewer") rest (unlike refl) (λ e. none) (unlike refl)
+    (no_other_event (codes "viewer") rest (no_drawing (codes "viewer") rest refl refl refl)
+    (no_slot_event (codes "viewer") rest (unlike refl) (unlike refl) (unlike refl) (unlike refl) (unlike refl)))
 
 pub only_event : (key : List ℕ) (rest : List (List ℕ)) → key ≢ codes "screen" → key ≢ codes "viewer" →
     key ≢ codes "settle" → ((event : Event) → ¬ (SaysEvent (key ∷ rest) event)) → SaysNothing (key ∷ rest)
-only_event key rest screen viewer settle none (Screen size) said = screen (heads key _ rest said.0 said.1)
-only_event key rest screen viewer settle none (Viewer wants) said = viewer (heads key _ rest said.0 said.1)
-only_event key rest screen viewer settle none (Step (OneEvent event)) said = none event said
-only_event key rest screen viewer settle none (Step Settle) said = settle (heads key _ rest [] said)
-
--- no words say nothing
-pub no_words : SaysNothing []
-no_words (Screen size) said = nothing _ said.0 said.1
-no_words (Viewer wants) said = nothing _ said.0 said.1
-no_words (Step (OneEvent event)) said = silent event said
-  where
-    silent : (event : Event) → ¬ (SaysEvent [] event)
-    silent (Fill rect colour) said = nothing _ said.0 said.1
-    silent (Copy rect sx sy) said = nothing _ said.0 said.1
-    silent (Hint rect sx sy) said = nothing _ said.0 said.1
-    silent (Request incremental rect) said = nothing _ said.0 said.1
-    silent (SetFormat format) said = nothing _ said.0 said.1
-    silent (ToServer n) said = nothing _ said.0 said.1
-    silent (ToViewer n) said = nothing _ said.0 said.1
-    silent Compose said = nothing _ [] said
-    silent (Put x y row) said = absurd said
-    silent (SetEncodings encodings) said = absurd said
-    silent (Key down key) said = absurd said
-    silent (Pointer buttons x y) said = absurd said
-    silent (CutText text) said = absurd said
-no_words (Step Settle) said = nothing _ [] said
+only_event key rest screen viewer settle none =
+    no_line key rest (λ e. absurd (screen e)) (λ e. absurd (viewer e)) settle none
 
 -- ---- the words of a line by its first one
 
@@ -250,6 +186,22 @@ pub says_settle : (words : List (Bor (List ℕ))) (first : Bor (List ℕ)) (rest
 says_settle words first rest e same none =
     words_are words first rest (codes "settle") e same
     ∙ ap (λ (r : List (List ℕ)). codes "settle" ∷ r) (no_texts rest none)
+
+-- what the words after a keyword were read to is said by all of them
+pub read_after : {A : Type 0} (key : List ℕ) (Are : List (List ℕ) → A → Type 0) (all : List (List ℕ))
+    (rest : List (Bor (List ℕ))) (r : Option A) → all ≡ key ∷ texts rest →
+    MatchOption r ((a : A) → ¬ (Are (texts rest) a)) (Are (texts rest)) →
+    MatchOption r (¬ ((a : A) × Begins key all (λ l. Are l a))) (λ a. Begins key all (λ l. Are l a))
+read_after key Are all rest None e none = λ gives.
+    none gives.0 (subst (λ (l : List (List ℕ)). Are l gives.0)
+    (tails key key (texts rest) gives.1.0 (sym e ∙ gives.1.1)) gives.1.2)
+read_after key Are all rest (Some a) e are = (texts rest, e, are)
+
+-- and nothing is where they begin otherwise
+pub begins_otherwise : {A : Type 0} (key : List ℕ) (Are : List (List ℕ) → A → Type 0)
+    (all : List (List ℕ)) → ((rest : List (List ℕ)) → all ≢ key ∷ rest) →
+    ¬ ((a : A) × Begins key all (λ l. Are l a))
+begins_otherwise key Are all none gives = none gives.1.0 gives.1.1
 
 -- some line of these words says what the viewer wants
 abbrev pub GiveWants : List (List ℕ) → Type 0
@@ -307,24 +259,3 @@ too_many_words words many = go
         (let s = ap (λ (l : List (List ℕ)). length l) said.2.2 in omega (arith, s, said.2.4.2))
     go (Step (OneEvent event)) said = event_over event said
     go (Step Settle) said = over (codes "settle") [] said (omega arith)
-
--- ---- no line cuts a text
-
-few_event : (words : List (List ℕ)) (event : Event) → SaysEvent words event → HasFew (OneEvent event)
-few_event words (Fill rect colour) said = omega arith
-few_event words (Copy rect sx sy) said = omega arith
-few_event words (Hint rect sx sy) said = omega arith
-few_event words (Request incremental rect) said = omega arith
-few_event words (SetFormat format) said = omega arith
-few_event words (SetEncodings encodings) said = omega arith
-few_event words (Key down code) said = omega arith
-few_event words (Pointer buttons x y) said = omega arith
-few_event words (Put x y row) said = omega arith
-few_event words Compose said = omega arith
-few_event words (ToServer n) said = omega arith
-few_event words (ToViewer n) said = omega arith
-few_event words (CutText text) said = absurd said
-
-pub few_step : (words : List (List ℕ)) (step : ScriptStep) → SaysStep words step → HasFew step
-few_step words (OneEvent event) said = few_event words event said
-few_step words Settle said = omega arith

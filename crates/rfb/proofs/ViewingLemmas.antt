@@ -14,36 +14,19 @@ use Rattle.rfb.specs.declared.fault.Failure.{Failure}
 use Rattle.rfb.specs.declared.fault.Failure.TheVariants as failure
 use Rattle.rfb.specs.declared.viewing.view_options.Sight.{Sight}
 use Rattle.rfb.specs.Recording.{BeginsPicture, EndsShown, ShowsEnd, WritesPicture, shows_end}
-use Rattle.rfb.specs.View.{FailsToView, IsMadeFor, LeavesSomeView, LeavesView, Saw, ShowsView, StopsSeeing}
-use Rattle.rfb.specs.View.{StopsView, Views}
+use Rattle.rfb.specs.View.{FailsToView, IsMadeFor, LeavesView, Saw, ShowsView, StopsSeeing, StopsView, Views}
 
 -- ---- what is kept, where it is and where it is not
 
-saw_kept : (b : Bool) (read answered before after : Option (List ℕ)) (first : Viewer) (updates : ℕ) (last : Viewer) →
-    b ≡ true → Saw read answered before after first updates last →
-    Saw read answered (if b then before else None) (if b then after else None) first updates last
-saw_kept true read answered before after first updates last is saw = saw
-saw_kept false read answered before after first updates last is saw = let bad : false ≡ true = is in absurd (cc)
+kept_if : (P : Option (List ℕ) → Option (List ℕ) → Type 0) (b : Bool) (before after : Option (List ℕ)) →
+    b ≡ true → P before after → P (if b then before else None) (if b then after else None)
+kept_if P true before after is holds = holds
+kept_if P false before after is holds = let bad : false ≡ true = is in absurd (cc)
 
-saw_unkept : (b : Bool) (read answered before after : Option (List ℕ)) (first : Viewer) (updates : ℕ) (last : Viewer) →
-    b ≡ false → Saw read answered None None first updates last →
-    Saw read answered (if b then before else None) (if b then after else None) first updates last
-saw_unkept false read answered before after first updates last is saw = saw
-saw_unkept true read answered before after first updates last is saw = let bad : true ≡ false = is in absurd (cc)
-
-stops_kept : (b : Bool) (read answered before after : Option (List ℕ)) (first : Viewer) (updates : ℕ)
-    (f : Failure) (last : Viewer) →
-    b ≡ true → StopsView read answered before after first updates f last →
-    StopsView read answered (if b then before else None) (if b then after else None) first updates f last
-stops_kept true read answered before after first updates f last is stops = stops
-stops_kept false read answered before after first updates f last is stops = let bad : false ≡ true = is in absurd (cc)
-
-stops_unkept : (b : Bool) (read answered before after : Option (List ℕ)) (first : Viewer) (updates : ℕ)
-    (f : Failure) (last : Viewer) →
-    b ≡ false → StopsView read answered None None first updates f last →
-    StopsView read answered (if b then before else None) (if b then after else None) first updates f last
-stops_unkept false read answered before after first updates f last is stops = stops
-stops_unkept true read answered before after first updates f last is stops = let bad : true ≡ false = is in absurd (cc)
+kept_unless : (P : Option (List ℕ) → Option (List ℕ) → Type 0) (b : Bool) (before after : Option (List ℕ)) →
+    b ≡ false → P None None → P (if b then before else None) (if b then after else None)
+kept_unless P false before after is holds = holds
+kept_unless P true before after is holds = let bad : true ≡ false = is in absurd (cc)
 
 -- ---- after a flush, which keeps what was written
 
@@ -172,7 +155,7 @@ views_recorded sight read answered before after first last (Ok done) fresh is sa
   first = first;
   fresh = fresh;
   last = last;
-  saw = saw_kept sight.is_recorded read answered before after first sight.updates last is saw;
+  saw = kept_if (λ x y. Saw read answered x y first sight.updates last) sight.is_recorded before after is saw;
   shown = λ not. let bad : true ≡ false = sym is ∙ not in absurd (cc);
 }
 views_recorded sight read answered before after first last (Err f) fresh is saw = tt
@@ -185,7 +168,7 @@ views_shown sight read answered before after first last (Ok done) fresh not saw 
   first = first;
   fresh = fresh;
   last = last;
-  saw = saw_unkept sight.is_recorded read answered before after first sight.updates last not saw;
+  saw = kept_unless (λ x y. Saw read answered x y first sight.updates last) sight.is_recorded before after not saw;
   shown = λ not. written;
 }
 views_shown sight read answered before after first last (Err f) fresh not saw written = tt
@@ -202,18 +185,13 @@ leaves_shown contents sight read answered old new first last (Err f) fresh not s
   first = first;
   fresh = fresh;
   last = last;
-  saw = saw_unkept sight.is_recorded read answered (contents old) (contents new) first sight.updates last not saw;
+  saw = kept_unless (λ x y. Saw read answered x y first sight.updates last) sight.is_recorded (contents old)
+      (contents new) not saw;
   shown = begun;
 }))
 
 pub never_recorded : (b : Bool) (P : Type 0) → b ≡ true → b ≡ false → P
 never_recorded b P is not = let bad : true ≡ false = sym is ∙ not in absurd (cc)
-
--- of a connection of whose bytes nothing is known
-pub leaves_some : (sight : Sight) (read answered before after : Option (List ℕ)) (r : Result (Unit {0}) Failure) →
-    OnErr r (LeavesView sight read answered before after) → OnErr r (LeavesSomeView sight before after)
-leaves_some sight read answered before after (Ok done) left = tt
-leaves_some sight read answered before after (Err f) left = inr (read, answered, left)
 
 -- a recording is no picture
 shows_recorded : (sight : Sight) (read answered before after : Option (List ℕ)) (first last : Viewer) (f : Failure) →
@@ -236,7 +214,7 @@ fails_recorded sight read answered before after first last (Err f) fresh is stop
   last,
   fresh,
   inl (
-    stops_kept sight.is_recorded read answered before after first sight.updates f last is stops,
+    kept_if (λ x y. StopsView read answered x y first sight.updates f last) sight.is_recorded before after is stops,
     shows_recorded sight read answered before after first last f is stops,
   ),
 )
@@ -251,7 +229,8 @@ fails_seeing sight read answered before after first last fault (failure.Engine t
   last,
   fresh,
   inl (
-    stops_unkept sight.is_recorded read answered before after first sight.updates (failure.Engine told) last not
+    kept_unless (λ x y. StopsView read answered x y first sight.updates (failure.Engine told) last)
+        sight.is_recorded before after not
         (subst (λ (e : EngineFault). StopsSeeing read answered None None first sight.updates e last)
         (sym ends.0) stops),
     λ unrecorded. subst (λ (e : EngineFault). ShowsEnd sight.is_partial last e before after) (sym ends.0) ends.1,
@@ -297,7 +276,8 @@ fails_shown sight read answered before after first last (Err (failure.Fault faul
   last,
   fresh,
   inl (
-    stops_unkept sight.is_recorded read answered before after first sight.updates (failure.Fault fault) last not saw,
+    kept_unless (λ x y. StopsView read answered x y first sight.updates (failure.Fault fault) last)
+        sight.is_recorded before after not saw,
     tt,
   ),
 )

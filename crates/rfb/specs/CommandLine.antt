@@ -118,21 +118,21 @@ abbrev pub LeavesScript : Option (List ℕ) → Option (List ℕ) → Option (Li
 LeavesScript read before after =
     (after ≡ before) ⊎ PlaysScriptTo (AppendsBeginning before after) read
 
--- a bad line that is reported is the first one of what was read, whose kind its first line tells
+-- a bad line that is reported is one at which reading stops
+abbrev pub FailsIn : (List (List ℕ) → Failure → Type 0) → Option (List ℕ) → Failure → Type 0
+FailsIn Stops read (BadLine n) = IfSome read (λ text. Stops (lines_of text) (BadLine n))
+FailsIn Stops read (Undone n why) = ⊥
+FailsIn Stops read (Fault fault) = ⊤
+FailsIn Stops read (Engine fault) = ⊥
+FailsIn Stops read (Picture flaw) = ⊥
+
+-- it is the first one of what was read, whose kind its first line tells
 abbrev pub FailsAtAny : Option (List ℕ) → Failure → Type 0
-FailsAtAny read (BadLine n) = IfSome read (λ text. StopsReadingAny (lines_of text) (BadLine n))
-FailsAtAny read (Undone n why) = ⊥
-FailsAtAny read (Fault fault) = ⊤
-FailsAtAny read (Engine fault) = ⊥
-FailsAtAny read (Picture flaw) = ⊥
+FailsAtAny read failure = FailsIn StopsReadingAny read failure
 
 -- the same of a script that is no hub's
 abbrev pub FailsAt : Option (List ℕ) → Failure → Type 0
-FailsAt read (BadLine n) = IfSome read (λ text. StopsReading (lines_of text) (BadLine n))
-FailsAt read (Undone n why) = ⊥
-FailsAt read (Fault fault) = ⊤
-FailsAt read (Engine fault) = ⊥
-FailsAt read (Picture flaw) = ⊥
+FailsAt read failure = FailsIn StopsReading read failure
 
 -- ---- any command
 

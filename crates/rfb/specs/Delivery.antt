@@ -33,33 +33,65 @@ pub record Crosses (bytes : List ℕ) (before after unread left : Option (List �
   pub read : Consumes unread left came
   pub as_many : length came ≡ length bytes
 
+-- ---- an end
+
+-- what is known of an end of one kind: the fault that it has failed with, if it has; what it stands
+-- for; that it was fed bytes, all of them, or some until it ended, by what stood before its answers
+-- and after them; and which fault is want of memory
+pub record Receiver (E F S C : Type 0) : Type 1 where
+  pub fault : E → Option F
+  pub stands : C → E → S → List ℕ → Type 0
+  pub fed : E → List ℕ → Option (List ℕ) → Option (List ℕ) → E → Type 0
+  pub ended : E → List ℕ → Option (List ℕ) → Option (List ℕ) → F → E → Type 0
+  pub no_memory : F
+
+module _ {E F S C : Type 0} where
+  -- it ended at some of these bytes, and not for want of memory; its answers to those before stand
+  -- after the others, and the bytes after them changed nothing
+  pub record EndsTaking (r : Receiver E F S C) (old : E) (bytes before after : List ℕ) (new : E)
+      : Type 0 where
+    pub fault : F
+    pub read : List ℕ
+    pub later : List ℕ
+    pub bytes_are : bytes ≡ read ++ later
+    pub ended : r.ended old read (Some before) (Some after) fault new
+    pub has_memory : fault ≢ r.no_memory
+
+  -- these bytes came to it: it was fed them all, and its answers stand after the others; or it
+  -- ended at some; and one that had failed takes them to no effect
+  pub record Takes (r : Receiver E F S C) (old : E) (bytes before after : List ℕ) (new : E)
+      : Type 0 where
+    pub fed : r.fault new ≡ None → r.fed old bytes (Some before) (Some after) new
+    pub either : (c : C) (s : S) (prefix : List ℕ) → r.stands c old s prefix →
+        r.fed old bytes (Some before) (Some after) new ⊎ EndsTaking r old bytes before after new
+    pub failed : r.fault old ≢ None → (new ≡ old) × (after ≡ before)
+
+  -- bytes crossed a connection, and what came of them came to it
+  pub record Reaches (r : Receiver E F S C) (bytes : List ℕ)
+      (sent_before sent unread left : Option (List ℕ)) (old : E) (before after : List ℕ) (new : E)
+      : Type 0 where
+    pub came : List ℕ
+    pub crosses : Crosses bytes sent_before sent unread left came
+    pub takes : Takes r old came before after new
+
 -- ---- the server
 
--- it ended at some of these bytes, and not for want of memory; its answers to those before stand
--- after the others, and the bytes after them changed nothing
-pub record EndsHearing (old : Server) (bytes before after : List ℕ) (new : Server) : Type 0 where
-  pub fault : ServerFault
-  pub read : List ℕ
-  pub later : List ℕ
-  pub bytes_are : bytes ≡ read ++ later
-  pub ended : IsEnded old read (Some before) (Some after) fault new
-  pub has_memory : fault ≢ ServerWantsMemory
+abbrev pub at_server : Receiver Server ServerFault ServerState Serving
+at_server = record {
+  fault = server_fault;
+  stands = ServerStandsFor;
+  fed = IsAnswered;
+  ended = IsEnded;
+  no_memory = ServerWantsMemory;
+}
 
--- these bytes came to a server: it was fed them all, and its answers stand after the others; or
--- it ended at some; and one that had failed takes them to no effect
-pub record Hears (old : Server) (bytes before after : List ℕ) (new : Server) : Type 0 where
-  pub heard : server_fault new ≡ None → IsAnswered old bytes (Some before) (Some after) new
-  pub either : (serving : Serving) (s : ServerState) (prefix : List ℕ) →
-      ServerStandsFor serving old s prefix →
-      IsAnswered old bytes (Some before) (Some after) new ⊎ EndsHearing old bytes before after new
-  pub failed : server_fault old ≢ None → (new ≡ old) × (after ≡ before)
+abbrev pub Hears : Server → List ℕ → List ℕ → List ℕ → Server → Type 0
+Hears old bytes before after new = Takes at_server old bytes before after new
 
--- bytes crossed a connection, and what came of them came to a server
-pub record ReachesServer (bytes : List ℕ) (sent_before sent unread left : Option (List ℕ))
-    (old : Server) (before after : List ℕ) (new : Server) : Type 0 where
-  pub came : List ℕ
-  pub crosses : Crosses bytes sent_before sent unread left came
-  pub hears : Hears old came before after new
+abbrev pub ReachesServer : List ℕ → Option (List ℕ) → Option (List ℕ) → Option (List ℕ) →
+    Option (List ℕ) → Server → List ℕ → List ℕ → Server → Type 0
+ReachesServer bytes sent_before sent unread left old before after new =
+    Reaches at_server bytes sent_before sent unread left old before after new
 
 -- ---- the viewer
 
@@ -84,24 +116,19 @@ pub record IsFedUntil (old : Viewer) (bytes : List ℕ) (before after : Option (
   pub wrote : Appends before after sent
   pub ends : EndsBy fault last slice new
 
--- the same of a viewer as of a server
-pub record EndsWatching (old : Viewer) (bytes before after : List ℕ) (new : Viewer) : Type 0 where
-  pub fault : ViewerFault
-  pub read : List ℕ
-  pub later : List ℕ
-  pub bytes_are : bytes ≡ read ++ later
-  pub ended : IsFedUntil old read (Some before) (Some after) fault new
-  pub has_memory : fault ≢ ViewerWantsMemory
+abbrev pub at_viewer : Receiver Viewer ViewerFault ViewerState Viewing
+at_viewer = record {
+  fault = viewer_fault;
+  stands = ViewerStandsFor;
+  fed = IsFed;
+  ended = IsFedUntil;
+  no_memory = ViewerWantsMemory;
+}
 
-pub record Watches (old : Viewer) (bytes before after : List ℕ) (new : Viewer) : Type 0 where
-  pub fed : viewer_fault new ≡ None → IsFed old bytes (Some before) (Some after) new
-  pub either : (viewing : Viewing) (s : ViewerState) (prefix : List ℕ) →
-      ViewerStandsFor viewing old s prefix →
-      IsFed old bytes (Some before) (Some after) new ⊎ EndsWatching old bytes before after new
-  pub failed : viewer_fault old ≢ None → (new ≡ old) × (after ≡ before)
+abbrev pub Watches : Viewer → List ℕ → List ℕ → List ℕ → Viewer → Type 0
+Watches old bytes before after new = Takes at_viewer old bytes before after new
 
-pub record ReachesViewer (bytes : List ℕ) (sent_before sent unread left : Option (List ℕ))
-    (old : Viewer) (before after : List ℕ) (new : Viewer) : Type 0 where
-  pub came : List ℕ
-  pub crosses : Crosses bytes sent_before sent unread left came
-  pub watches : Watches old came before after new
+abbrev pub ReachesViewer : List ℕ → Option (List ℕ) → Option (List ℕ) → Option (List ℕ) →
+    Option (List ℕ) → Viewer → List ℕ → List ℕ → Viewer → Type 0
+ReachesViewer bytes sent_before sent unread left old before after new =
+    Reaches at_viewer bytes sent_before sent unread left old before after new

@@ -1,8 +1,8 @@
 -- What a drive of a server does, as far as its core tells it: all that happens to it is what its doors
 -- bring, and what leaves there.
-use Rattle.std.specs.Prelude.{◌≡◌, ◌⊎◌, ⊤, true, ℕ, ◌*◌, List, Option, Some, None}
+use Rattle.std.specs.Prelude.{◌≡◌, ⊤, true, ℕ, ◌*◌, List, Option, Some, None}
 use Rattle.rfb_hello.specs.declared.version.Version.TheVariants.{V38}
-use Rattle.rfb_session.specs.doors.Tenants.{Happening, Goes}
+use Rattle.rfb_session.specs.doors.Tenants.{Goes}
 use Rattle.rfb_session.specs.declared.drive.driver.Driver.{Driver}
 use Rattle.rfb_session.specs.declared.drive.driver.DriverSetup.{DriverSetup}
 use Rattle.rfb_session.specs.declared.drive.driver.outcome.DriveOutcome.{DriveOutcome}
@@ -10,6 +10,7 @@ use Rattle.rfb_session.specs.declared.drive.driver.outcome.DriveOutcome.TheVaria
 use Rattle.rfb_session.specs.drive.driver.Driver.{IsFreshDriver}
 use Rattle.rfb_session.specs.drive.driver.Steps.{DriverSteps, LetsIn, TurnsAway}
 use Rattle.rfb_session.specs.drive.driver.Rigs.{RigStep}
+use Rattle.rfb.specs.Outcomes.{HappensUntil, LeavesCore}
 use Rattle.rfb.specs.Ends.{engine_fault}
 use Rattle.rfb.specs.declared.driving.drive_words.DriveOptions.{DriveOptions}
 use Rattle.rfb.specs.declared.driving.rig.FileRig.{FileRig}
@@ -42,14 +43,10 @@ AnyStep P old step new = ⊤
 
 -- these happened to a driver of the options, in this order, and nothing else did; so it has ended, or
 -- has not
-pub record DrivesUntil (P : Type 0) (options : DriveOptions) (outcome : Option DriveOutcome) : Type 0
-  where
-    pub old : Driver (FileRig P)
-    pub new : Driver (FileRig P)
-    pub asked : IsDriverOf P options old
-    pub happenings : List Happening
-    pub goes : Goes (DriverSteps (AnyStep P)) LetsIn TurnsAway old happenings new
-    pub ends : new.outcome ≡ outcome
+abbrev pub DrivesUntil : (P : Type 0) → DriveOptions → Option DriveOutcome → Type 0
+DrivesUntil P options outcome =
+    HappensUntil (IsDriverOf P options) (Goes (DriverSteps (AnyStep P)) LetsIn TurnsAway)
+    (λ (driver : Driver (FileRig P)). driver.outcome) outcome
 
 -- all lines are done
 abbrev pub EndsDone : Option DriveOutcome → Type 0
@@ -65,9 +62,7 @@ Drives P options = DrivesUntil P options (Some ends.Done)
 
 -- one that fails: nothing was written before there was a driver, or not all lines are done
 abbrev pub LeavesDrive : (P : Type 0) → DriveOptions → Option (List ℕ) → Option (List ℕ) → Type 0
-LeavesDrive P options before after =
-    (after ≡ before)
-    ⊎ ((outcome : Option DriveOutcome) × DrivesUntil P options outcome × EndsUndone outcome)
+LeavesDrive P options before after = LeavesCore (DrivesUntil P options) EndsUndone before after
 
 -- why the command fails for an outcome, if it does
 abbrev pub drive_failure : DriveOutcome → Option Failure
@@ -89,5 +84,4 @@ FailsDriveFor (Some outcome) failure = drive_failure outcome ≡ Some failure
 abbrev pub FailsToDrive : (P : Type 0) → DriveOptions → Option (List ℕ) → Option (List ℕ) → Failure →
     Type 0
 FailsToDrive P options before after failure =
-    (after ≡ before)
-    ⊎ ((outcome : Option DriveOutcome) × DrivesUntil P options outcome × FailsDriveFor outcome failure)
+    LeavesCore (DrivesUntil P options) (λ outcome. FailsDriveFor outcome failure) before after

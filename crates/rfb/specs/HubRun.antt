@@ -1,5 +1,5 @@
 -- What a hub's script does: the events of its steps, and the hub that they lead to.
-use Rattle.std.specs.Prelude.{◌≡◌, ℕ, zero, suc, List, [], ◌∷◌, ◌++◌, Option, Some, None, bit_or}
+use Rattle.std.specs.Prelude.{◌≡◌, ℕ, zero, suc, List, [], ◌∷◌, Option, Some, None, bit_or, flat_map}
 use Rattle.rfb_session.specs.declared.hub.Hub.{Hub}
 use Rattle.rfb_session.specs.declared.hub.event.HubEvent.{HubEvent}
 use Rattle.rfb_session.specs.declared.hub.event.HubEvent.TheVariants.{Of}
@@ -28,8 +28,7 @@ hub_events_of (Settle slot) = deliveries_in slot 8
 
 -- the events of all steps, in order
 abbrev pub hub_events : List HubNumbered → List HubEvent
-hub_events [] = []
-hub_events (step ∷ steps) = hub_events_of step.step ++ hub_events steps
+hub_events steps = flat_map (λ (s : HubNumbered). hub_events_of s.step) steps
 
 -- ---- what they lead to
 

@@ -6,14 +6,13 @@ use Rattle.rfb_session.specs.declared.hub.event.HubEvent.TheVariants.{Fill, Put,
 use Rattle.rfb_viewer.specs.declared.setup.ViewerSetup.{ViewerSetup as Setup}
 use Rattle.rfb_session.specs.HubSeats.{event_of}
 use Rattle.rfb.specs.declared.fault.Failure.{Failure}
-use Rattle.rfb.specs.declared.fault.Failure.TheVariants.{BadLine, Undone, Fault, Engine, Picture}
-use Rattle.rfb.specs.declared.fault.Fault.TheVariants.{NoMemory}
 use Rattle.rfb.specs.declared.script.hub.hub_step.HubNumbered.{HubNumbered}
 use Rattle.rfb.specs.declared.script.hub.hub_step.HubStep.{HubStep}
 use Rattle.rfb.specs.declared.script.hub.hub_step.HubStep.TheVariants.{Event, Settle}
 use Rattle.rfb_session.specs.declared.language.screen.Screen.{Screen as Size}
 use Rattle.rfb.specs.declared.script.line.Wants.{Wants}
-use Rattle.rfb.specs.Script.{AreEmpty, SaysEvent, StopsReading}
+use Rattle.rfb.specs.Lines.{AreEmpty, AreLed, AskInOrder, IsFirst}
+use Rattle.rfb.specs.Script.{SaysEvent, StopsAt, StopsReading}
 use Rattle.rfb_session.specs.language.Words.{Begins, words_of, AreFill, AreMove, AreSize, IsSlotAlone, IsSlotWord}
 use Rattle.rfb.specs.Words.{AreWants}
 
@@ -109,24 +108,15 @@ AsksInHub line = (step : HubStep) × SaysHubStep (words_of line) step
 -- lines, the first of which has this number, ask for these steps in their order, each with the
 -- number of its line; empty lines ask for nothing
 abbrev pub AskInHub : ℕ → List (List ℕ) → List HubNumbered → Type 0
-AskInHub n [] [] = Unit {0}
-AskInHub n [] (step ∷ steps) = ⊥
-AskInHub n ([] ∷ lines) steps = AskInHub (n + 1) lines steps
-AskInHub n ((char ∷ line) ∷ lines) [] = ⊥
-AskInHub n ((char ∷ line) ∷ lines) (step ∷ steps) =
-    (step.line ≡ n) × SaysHubStep (words_of (char ∷ line)) step.step × AskInHub (n + 1) lines steps
+AskInHub n lines steps =
+    AskInOrder (λ (s : HubNumbered). s.line) (λ line s. SaysHubStep (words_of line) s.step) n lines
+    steps
 
 -- lines are a hub's script up to its last line: empty ones, one with the screen's size, and others
 -- that ask for its steps
-pub record AreOpenHub (lines : List (List ℕ)) (size : Size) (steps : List HubNumbered)
-    : Type 0 where
-  pub blank : List (List ℕ)
-  pub first : List ℕ
-  pub later : List (List ℕ)
-  pub whole : lines ≡ blank ++ first ∷ later
-  pub blank_is : AreEmpty blank
-  pub size_is : SaysHub (words_of first) size
-  pub later_are : AskInHub (length blank + 2) later steps
+abbrev pub AreOpenHub : List (List ℕ) → Size → List HubNumbered → Type 0
+AreOpenHub lines size steps =
+    AreLed (λ first. SaysHub (words_of first) size) (λ n later. AskInHub n later steps) 1 lines
 
 -- lines are a hub's script: such ones, one that names the slot to be shown, and empty ones
 pub record AreHubScript (lines : List (List ℕ)) (size : Size) (steps : List HubNumbered)
@@ -170,13 +160,8 @@ abbrev pub IsBadInHub : List (List ℕ) → List ℕ → Type 0
 IsBadInHub lines line = (line ≢ []) × (IsNoMoreOfHub lines line ⊎ AreSomeHubScript lines)
 
 -- the first bad line has this number
-pub record IsFirstBadInHub (lines : List (List ℕ)) (n : ℕ) : Type 0 where
-  pub before : List (List ℕ)
-  pub line : List ℕ
-  pub after : List (List ℕ)
-  pub whole : lines ≡ before ++ line ∷ after
-  pub count : n ≡ length before + 1
-  pub bad : IsBadInHub before line
+abbrev pub IsFirstBadInHub : List (List ℕ) → ℕ → Type 0
+IsFirstBadInHub lines n = IsFirst IsBadInHub lines n
 
 -- the number of the line after the last; an empty one after the last newline is that line
 abbrev pub line_after : List (List ℕ) → ℕ
@@ -191,11 +176,8 @@ IsWithoutShow lines n = (AreEmpty lines ⊎ AreSomeOpenHub lines) × (n ≡ line
 
 -- why lines are read to no hub's script
 abbrev pub StopsReadingHub : List (List ℕ) → Failure → Type 0
-StopsReadingHub lines (BadLine n) = IsFirstBadInHub lines n ⊎ IsWithoutShow lines n
-StopsReadingHub lines (Undone n why) = ⊥
-StopsReadingHub lines (Fault fault) = fault ≡ NoMemory
-StopsReadingHub lines (Engine fault) = ⊥
-StopsReadingHub lines (Picture flaw) = ⊥
+StopsReadingHub lines failure =
+    StopsAt (λ n. IsFirstBadInHub lines n ⊎ IsWithoutShow lines n) failure
 
 -- why they are read to no script of either kind; the first line that is not empty tells the kind
 abbrev pub StopsReadingAny : List (List ℕ) → Failure → Type 0

@@ -10,8 +10,10 @@ pub mod Few
 pub mod Film
 pub mod HubRun
 pub mod HubScript
+pub mod Lines
 pub mod Loopback
 pub mod Options
+pub mod Outcomes
 pub mod ScriptRun
 pub mod Ready
 pub mod Relay

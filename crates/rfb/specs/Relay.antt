@@ -1,13 +1,14 @@
 -- What a relay does, as far as its core tells it: all that happens to it is what its doors bring, and
 -- what leaves there.
-use Rattle.std.specs.Prelude.{◌≡◌, ◌≤◌, ◌⊎◌, true, ℕ, ◌*◌, List, Option, option_map, take}
+use Rattle.std.specs.Prelude.{◌≡◌, ◌≤◌, true, ℕ, ◌*◌, List, Option, option_map, take}
 use Rattle.rfb_hello.specs.declared.version.Version.TheVariants.{V38}
 use Rattle.rfb_session.specs.declared.console.Outcome.{Outcome}
 use Rattle.rfb_session.specs.declared.relay.Relay.{Relay}
-use Rattle.rfb_session.specs.doors.Tenants.{Happening, Goes}
+use Rattle.rfb_session.specs.doors.Tenants.{Goes}
 use Rattle.rfb_session.specs.declared.relay.setup.RelaySetup.{RelaySetup}
 use Rattle.rfb_session.specs.relay.Server.{IsFreshRelay}
 use Rattle.rfb_session.specs.relay.Relay.{DeclinesRelay, OpensRelay, RelaySteps}
+use Rattle.rfb.specs.Outcomes.{HappensUntil, LeavesCore}
 use Rattle.rfb.specs.Ends.{EndsWell, FailsFor, IsNoEnd}
 use Rattle.rfb.specs.declared.fault.Failure.{Failure}
 use Rattle.rfb.specs.declared.relaying.relay_words.RelayOptions.{RelayOptions}
@@ -39,13 +40,10 @@ IsRelayOf options relay = (setup : RelaySetup) × IsSetupOf options setup × IsF
 
 -- these happened to a relay of the options, in this order, and nothing else did; so it has ended, or
 -- has not
-pub record RelaysUntil (options : RelayOptions) (outcome : Option Outcome) : Type 0 where
-  pub old : Relay Reporter
-  pub new : Relay Reporter
-  pub asked : IsRelayOf options old
-  pub happenings : List Happening
-  pub goes : Goes RelaySteps OpensRelay DeclinesRelay old happenings new
-  pub ends : new.console.outcome ≡ outcome
+abbrev pub RelaysUntil : RelayOptions → Option Outcome → Type 0
+RelaysUntil options outcome =
+    HappensUntil (IsRelayOf options) (Goes RelaySteps OpensRelay DeclinesRelay)
+    (λ (relay : Relay Reporter). relay.console.outcome) outcome
 
 -- a relay that ends well
 abbrev pub Relays : RelayOptions → Type 0
@@ -53,12 +51,9 @@ Relays options = (outcome : Option Outcome) × RelaysUntil options outcome × En
 
 -- one that fails: nothing was written before there was a relay, or it has not ended well
 abbrev pub LeavesRelay : RelayOptions → Option (List ℕ) → Option (List ℕ) → Type 0
-LeavesRelay options before after =
-    (after ≡ before)
-    ⊎ ((outcome : Option Outcome) × RelaysUntil options outcome × IsNoEnd outcome)
+LeavesRelay options before after = LeavesCore (RelaysUntil options) IsNoEnd before after
 
 -- and why: by how it has ended, if anything was written
 abbrev pub FailsToRelay : RelayOptions → Option (List ℕ) → Option (List ℕ) → Failure → Type 0
 FailsToRelay options before after failure =
-    (after ≡ before)
-    ⊎ ((outcome : Option Outcome) × RelaysUntil options outcome × FailsFor outcome failure)
+    LeavesCore (RelaysUntil options) (λ outcome. FailsFor outcome failure) before after

@@ -1,5 +1,5 @@
 -- The language of scripts: what a line says, and which line of a text is bad.
-use Rattle.std.specs.Prelude.{◌≡◌, ◌≢◌, ◌==◌, ◌+◌, ◌⊎◌, ℕ, List, [], ◌∷◌, ◌++◌, All, Option, Some, None, codes, length}
+use Rattle.std.specs.Prelude.{◌≡◌, ◌≢◌, ◌==◌, ◌⊎◌, ℕ, List, [], ◌∷◌, Option, Some, None, codes, length}
 use Rattle.std.specs.Borrow.{Bor}
 use Rattle.std.specs.List.{slice_split}
 use Rattle.rfb_session.specs.declared.event.Event.{Event}
@@ -16,6 +16,7 @@ use Rattle.rfb.specs.declared.script.line.Step.TheVariants.{Event as OneEvent, S
 use Rattle.rfb.specs.declared.script.line.Line.{Line}
 use Rattle.rfb.specs.declared.script.line.Line.TheVariants.{Screen, Viewer, Step}
 use Rattle.rfb_session.specs.language.Words.{AreFill, AreMove, AreSize, Begins, words_of}
+use Rattle.rfb.specs.Lines.{AreEmpty, AreLed, AskInOrder, IsFirst}
 use Rattle.rfb.specs.Words.{AreRequest, AreWants, IsCountAlone, IsFormatAlone}
 
 -- the lines of a text, parted by newlines; the last one is empty where the text ends in one
@@ -77,30 +78,16 @@ AsksForStep line = (step : ScriptStep) × SaysStep (words_of line) step
 
 -- ---- what lines are
 
--- every line is empty
-abbrev pub AreEmpty : List (List ℕ) → Type 0
-AreEmpty lines = All (λ line. line ≡ []) lines
-
 -- lines, the first of which has this number, ask for these steps in their order, each with the
 -- number of its line; empty lines ask for nothing
 abbrev pub AskFor : ℕ → List (List ℕ) → List Numbered → Type 0
-AskFor n [] [] = Unit {0}
-AskFor n [] (step ∷ steps) = ⊥
-AskFor n ([] ∷ lines) steps = AskFor (n + 1) lines steps
-AskFor n ((char ∷ line) ∷ lines) [] = ⊥
-AskFor n ((char ∷ line) ∷ lines) (step ∷ steps) =
-    (step.line ≡ n) × SaysStep (words_of (char ∷ line)) step.step × AskFor (n + 1) lines steps
+AskFor n lines steps =
+    AskInOrder (λ (s : Numbered). s.line) (λ line s. SaysStep (words_of line) s.step) n lines steps
 
 -- the same after a line with what the viewer wants, and empty ones before it
-pub record AskAfter (n : ℕ) (lines : List (List ℕ)) (wants : Wants) (steps : List Numbered)
-    : Type 0 where
-  pub blank : List (List ℕ)
-  pub second : List ℕ
-  pub later : List (List ℕ)
-  pub whole : lines ≡ blank ++ second ∷ later
-  pub blank_is : AreEmpty blank
-  pub wants_is : Says (words_of second) (Viewer wants)
-  pub steps_are : AskFor (n + length blank + 1) later steps
+abbrev pub AskAfter : ℕ → List (List ℕ) → Wants → List Numbered → Type 0
+AskAfter n lines wants steps =
+    AreLed (λ second. Says (words_of second) (Viewer wants)) (λ m later. AskFor m later steps) n lines
 
 -- the lines after the screen's, with or without what the viewer wants
 abbrev pub AskForAll : ℕ → List (List ℕ) → Option Wants → List Numbered → Type 0
@@ -109,15 +96,10 @@ AskForAll n lines (Some wants) steps = AskAfter n lines wants steps
 
 -- lines are a script: empty ones, one with the screen's size, perhaps one with what the viewer
 -- wants, and others that ask for its steps
-pub record AreScript (lines : List (List ℕ)) (size : Size) (wants : Option Wants)
-    (steps : List Numbered) : Type 0 where
-  pub blank : List (List ℕ)
-  pub first : List ℕ
-  pub later : List (List ℕ)
-  pub whole : lines ≡ blank ++ first ∷ later
-  pub blank_is : AreEmpty blank
-  pub size_is : Says (words_of first) (Screen size)
-  pub later_are : AskForAll (length blank + 2) later wants steps
+abbrev pub AreScript : List (List ℕ) → Size → Option Wants → List Numbered → Type 0
+AreScript lines size wants steps =
+    AreLed (λ first. Says (words_of first) (Screen size)) (λ n later. AskForAll n later wants steps)
+    1 lines
 
 -- lines are some script
 abbrev pub AreSomeScript : List (List ℕ) → Type 0
@@ -147,22 +129,22 @@ IsBadAfter lines line =
 
 -- the first bad line has this number: those before it are empty or a script, and it is bad after
 -- them
-pub record IsFirstBad (lines : List (List ℕ)) (n : ℕ) : Type 0 where
-  pub before : List (List ℕ)
-  pub line : List ℕ
-  pub after : List (List ℕ)
-  pub whole : lines ≡ before ++ line ∷ after
-  pub count : n ≡ length before + 1
-  pub bad : IsBadAfter before line
+abbrev pub IsFirstBad : List (List ℕ) → ℕ → Type 0
+IsFirstBad lines n = IsFirst IsBadAfter lines n
 
 -- lines that are all empty are bad at the last of them, after the last newline
 abbrev pub IsWithoutScreen : List (List ℕ) → ℕ → Type 0
 IsWithoutScreen lines n = AreEmpty lines × (n ≡ length lines)
 
--- why lines are read to no script
+-- why lines are not read: one of them is bad, or memory was wanting
+abbrev pub StopsAt : (ℕ → Type 0) → Failure → Type 0
+StopsAt IsBadAt (BadLine n) = IsBadAt n
+StopsAt IsBadAt (Undone n why) = ⊥
+StopsAt IsBadAt (Fault fault) = fault ≡ NoMemory
+StopsAt IsBadAt (Engine fault) = ⊥
+StopsAt IsBadAt (Picture flaw) = ⊥
+
+-- why they are read to no script
 abbrev pub StopsReading : List (List ℕ) → Failure → Type 0
-StopsReading lines (BadLine n) = IsFirstBad lines n ⊎ IsWithoutScreen lines n
-StopsReading lines (Undone n why) = ⊥
-StopsReading lines (Fault fault) = fault ≡ NoMemory
-StopsReading lines (Engine fault) = ⊥
-StopsReading lines (Picture flaw) = ⊥
+StopsReading lines failure =
+    StopsAt (λ n. IsFirstBad lines n ⊎ IsWithoutScreen lines n) failure

@@ -1,5 +1,5 @@
 -- What a script does: the events of its steps, and the world that they lead to.
-use Rattle.std.specs.Prelude.{◌≡◌, ℕ, zero, suc, true, List, [], ◌∷◌, ◌++◌, Option, Some, None}
+use Rattle.std.specs.Prelude.{◌≡◌, ℕ, zero, suc, true, List, [], ◌∷◌, Option, Some, None, flat_map}
 use Rattle.rfb_pixel.specs.Format.{PixelFormat, rgb888}
 use Rattle.rfb_picture.specs.Grid.{uniform}
 use Rattle.rfb_wire.specs.declared.encoding.Encoding.{Encoding}
@@ -39,8 +39,7 @@ events_of Settle = deliveries 8
 
 -- the events of all steps, in order
 abbrev pub all_events : List Numbered → List Event
-all_events [] = []
-all_events (step ∷ steps) = events_of step.step ++ all_events steps
+all_events steps = flat_map (λ (s : Numbered). events_of s.step) steps
 
 -- ---- the ends
 

@@ -4,13 +4,16 @@ use Rattle.clap.specs.declared.builder.action.ArgAction.TheVariants.{Append, Set
 use Rattle.clap.specs.declared.builder.value_parser.ValueParser.TheVariants.{Signed}
 use Rattle.clap.specs.Words.{Rule, Text, new_rule}
 
--- any word, or else this one
-abbrev pub word_rule : Text → Text → Rule
-word_rule name default = record (new_rule name) {
+-- any word
+abbrev pub text_rule : Text → Rule
+text_rule name = record (new_rule name) {
   long = Some name;
   value_names = 1;
-  defaults = default ∷ [];
 }
+
+-- any word, or else this one
+abbrev pub word_rule : Text → Text → Rule
+word_rule name default = record (text_rule name) { defaults = default ∷ [] }
 
 -- a format, by its name
 abbrev pub format_rule : Rule
@@ -25,10 +28,7 @@ abbrev pub needed_server_rule : Rule
 needed_server_rule = record server_rule { required = true }
 
 abbrev pub host_rule : Rule
-host_rule = record (new_rule (codes "host")) {
-  long = Some (codes "host");
-  value_names = 1;
-}
+host_rule = text_rule (codes "host")
 
 abbrev pub listen_rule : Rule
 listen_rule = word_rule (codes "listen") (codes "127.0.0.1")
@@ -56,11 +56,7 @@ partial_rule = flag_rule (codes "partial")
 
 -- a file, by its path
 abbrev pub path_rule : Text → ℕ → Rule
-path_rule name short = record (new_rule name) {
-  long = Some name;
-  short = Some short;
-  value_names = 1;
-}
+path_rule name short = record (text_rule name) { short = Some short }
 
 abbrev pub input_rule : Rule
 input_rule = path_rule (codes "input") 105
@@ -70,11 +66,7 @@ output_rule = path_rule (codes "output") 111
 
 -- a number in a range, by its digits
 abbrev pub number_rule : Text → ℕ → ℕ → Rule
-number_rule name least most = record (new_rule name) {
-  long = Some name;
-  value_names = 1;
-  parser = Some (Signed (pos least) (pos most));
-}
+number_rule name least most = record (text_rule name) { parser = Some (Signed (pos least) (pos most)) }
 
 abbrev pub any_port_rule : Rule
 any_port_rule = number_rule (codes "port") 1 65535
@@ -94,10 +86,7 @@ forever_rule = flag_rule (codes "forever")
 
 -- a file that has the screen
 abbrev pub picture_rule : Rule
-picture_rule = record (new_rule (codes "picture")) {
-  long = Some (codes "picture");
-  value_names = 1;
-}
+picture_rule = text_rule (codes "picture")
 
 abbrev pub viewers_rule : Rule
 viewers_rule = record (number_rule (codes "viewers") 1 8) { defaults = codes "8" ∷ [] }
@@ -107,10 +96,7 @@ name_rule = word_rule (codes "name") (codes "rfb")
 
 -- a name in place of a server's own
 abbrev pub other_name_rule : Rule
-other_name_rule = record (new_rule (codes "name")) {
-  long = Some (codes "name");
-  value_names = 1;
-}
+other_name_rule = text_rule (codes "name")
 
 abbrev pub idle_rule : Rule
 idle_rule = flag_rule (codes "until-idle")
@@ -153,10 +139,7 @@ line_timeout_rule = seconds_rule (codes "timeout") (codes "30")
 
 -- a folder for what the screen showed
 abbrev pub keep_rule : Rule
-keep_rule = record (new_rule (codes "keep")) {
-  long = Some (codes "keep");
-  value_names = 1;
-}
+keep_rule = text_rule (codes "keep")
 
 -- lines for a rig, each a word
 abbrev pub line_rule : Rule

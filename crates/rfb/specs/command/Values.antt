@@ -100,11 +100,6 @@ abbrev pub GivesFiles : Option (Text × List Row) → Paths → Type 0
 GivesFiles None paths = (paths.input ≡ Standard) × (paths.output ≡ None)
 GivesFiles (Some (name, rows)) paths = GivesPaths rows paths
 
--- an address that is given, or the loopback address
-abbrev pub NamesHost : Option Text → Text → Type 0
-NamesHost None host = host ≡ codes "127.0.0.1"
-NamesHost (Some word) host = host ≡ word
-
 -- a number from 1 on that may be left out, and is this one then
 pub record GivesOr (name : Text) (most otherwise : ℕ) (rows : List Row) (n : ℕ) : Type 0 where
   pub absent : one_of name rows ≡ None → n ≡ otherwise
@@ -114,3 +109,7 @@ pub record GivesOr (name : Text) (most otherwise : ℕ) (rows : List Row) (n : �
 abbrev pub NamesWord : Text → Option Text → Text → Type 0
 NamesWord default None word = word ≡ default
 NamesWord default (Some given) word = word ≡ given
+
+-- the address that is given, or else the loopback address
+abbrev pub NamesHost : Option Text → Text → Type 0
+NamesHost given host = NamesWord (codes "127.0.0.1") given host

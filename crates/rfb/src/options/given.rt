@@ -9,7 +9,7 @@ ghost use Rattle.rfb.specs.command.Values.{GivesEncodings, HasBadEncodings};
 ghost use Rattle.rfb.specs.command.Values.{GivesFormat, GivesNumber, GivesOr, HasBadFormat};
 ghost use Rattle.rfb.specs.command.RelayWords.{GivesWants, HasBadWants};
 ghost use Rattle.rfb.specs.command.Values.{HasNoWords, HasWords, IsAbsent, IsFlagged, IsThere};
-ghost use Rattle.rfb.specs.command.Values.{MayGiveNumber};
+ghost use Rattle.rfb.specs.command.Values.{MayGiveNumber, NamesWord};
 ghost use Rattle.rfb_session.specs.language.Words.{AreEncodings, IsFormatWord, parts_of};
 
 use crate::defaults::all_encodings;
@@ -51,6 +51,17 @@ pub fn word_in<'a>(given: &ArgMatches<'a>, name: &str) -> Option<&'a str>
         first_of name.now (rows_of (found_of given.now)) ≡ Some word.now) }
 {
     given.get_str(name)
+}
+
+/// The word that is given to an option, or else another.
+pub fn word_or<'a>(given: &ArgMatches<'a>, name: &str, otherwise: &'a str) -> &'a str
+    ensures { NamesWord otherwise.now (first_of name.now (rows_of (found_of given.now)))
+        result.now }
+{
+    match given.get_str(name) {
+        Some(word) => word,
+        None => otherwise,
+    }
 }
 
 /// The format that is given, or else rgb888.
@@ -131,10 +142,7 @@ pub fn number_or(given: &ArgMatches<'_>, name: &str, most: u16, otherwise: u16) 
     ensures number { GivesOr name.now most otherwise (rows_of (found_of given.now)) result }
     ensures range { (1 ≤ result) × (result ≤ most) }
 {
-    match given.get_one::<u32>(name) {
-        Some(number) => within(number, 1, most),
-        None => otherwise,
-    }
+    within(count_or(given, name, u32::from(otherwise)), 1, most)
 }
 
 /// A number, or the nearest in a range.

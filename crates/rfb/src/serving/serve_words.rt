@@ -9,7 +9,9 @@ ghost use Rattle.rfb.specs.command.ServeWords.{HasBadConnections, HasBadScreen, 
 use crate::help::Topic;
 use crate::options::BadValue;
 use crate::options::common::{LISTEN, PORT};
-use crate::options::given::{is_given, is_there, number_given, number_in, number_or, word_in};
+use crate::options::given::{
+    is_given, is_there, number_given, number_in, number_or, word_in, word_or,
+};
 use crate::options::usage::{Mark, Takes, Usage, Word};
 use clap::ArgMatches;
 use rfb_session::language::{MAX_SIDE, Screen};
@@ -154,8 +156,5 @@ fn connections_in<'a>(given: &ArgMatches<'a>) -> Result<u64, BadValue<'a>>
 pub fn listen_in<'a>(given: &ArgMatches<'a>) -> &'a str
     ensures { NamesHost (first_of (codes "listen") (rows_of (found_of given.now))) result.now }
 {
-    match given.get_str("listen") {
-        Some(address) => address,
-        None => LOOPBACK,
-    }
+    word_or(given, "listen", LOOPBACK)
 }

@@ -10,7 +10,7 @@ use crate::options::common::{
     ALWAYS_SHARED, HANDSHAKE, HANDSHAKE_SECONDS, LISTEN, MOST_VIEWERS, PATIENCE, PORT, QUIET,
     UNTIL_IDLE, VIEWERS,
 };
-use crate::options::given::{count_or, is_given, number_given, number_in};
+use crate::options::given::{count_or, is_given, number_given, number_in, word_or};
 use crate::options::usage::{Mark, Takes, Usage, Word};
 use crate::serving::listen_in;
 use clap::ArgMatches;
@@ -106,8 +106,5 @@ fn name_in<'a>(given: &ArgMatches<'a>) -> &'a str
     ensures { NamesWord (codes "rfb")
         (first_of (codes "name") (rows_of (found_of given.now))) result.now }
 {
-    match given.get_str("name") {
-        Some(name) => name,
-        None => NAME,
-    }
+    word_or(given, "name", NAME)
 }

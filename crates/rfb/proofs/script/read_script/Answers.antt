@@ -4,10 +4,12 @@ use Rattle.std.proofs.lemmas.List.{length_push}
 use Rattle.rfb_session.specs.declared.language.screen.Screen.{Screen as Size}
 use Rattle.rfb.specs.declared.script.line.Wants.{Wants}
 use Rattle.rfb.specs.declared.script.parting.Lines.{Lines}
-use Rattle.rfb.specs.Script.{lines_of, AreEmpty, AreScript, lines_left}
+use Rattle.rfb.specs.Lines.{AreEmpty}
+use Rattle.rfb.specs.Script.{lines_of, AreScript, lines_left}
 use Rattle.rfb_session.specs.language.Words.{texts}
 use Rattle.rfb.proofs.LinesLemmas.{ReadSoFar, no_chars, some_chars, step_so_far, turn_blank, turn_size, turn_wants}
-use Rattle.rfb.proofs.LinesLemmas.{bad_size, bad_step, first_bad_line}
+use Rattle.rfb.proofs.LinesLemmas.{bad_size, bad_step}
+use Rattle.rfb.proofs.OrderLemmas.{first_bad_line}
 use Rattle.rfb.proofs.script.read_script.Goals as goal
 
 pub loop-line-preserved-then-is_empty : goal.loop-line-preserved-then-is_empty

@@ -1,18 +1,16 @@
-use Rattle.std.proofs.Common.{Some, Err, rules}
+use Rattle.std.proofs.Common.{Some, rules}
 use Rattle.rfb_session.proofs.WrittenLaws.{empty_rest}
-use Rattle.rfb.proofs.LoopbackLemmas.{call_fed}
-use Rattle.rfb.proofs.DeliveryLemmas.{watching_none, watching_more, watches_all, watches_until, on_ok_all}
+use Rattle.rfb.proofs.LoopbackLemmas.{call_fed, call_fed_until}
+use Rattle.rfb.proofs.DeliveryLemmas.{fed_more, fed_none, on_ok_all, takes_all, takes_until, viewer_received}
 use Rattle.rfb.proofs.loopback.arriving.watch.Goals as goal
 
 pub loop-rest-init : goal.loop-rest-init
-loop-rest-init c = watching_none c.args.viewer.now c.args.bytes.now c.args.to_server.now.items
+loop-rest-init c = fed_none viewer_received c.args.viewer.now c.args.bytes.now c.args.to_server.now.items
 
 pub loop-rest-preserved : goal.loop-rest-preserved
 loop-rest-preserved c =
     let l = c.loop-rest in
-    watching_more c.args.viewer.now c.args.bytes.now l.rest.now c.args.to_server.now.items
-    l.to_server.items c.write_all.new.self.items l.viewer c.in-Ok.fed.used
-    c.feed.new.self c.in-Ok.fed l.invariant
+    fed_more viewer_received {a = c.in-Ok.fed} c.in-Ok.fed.used l.invariant
     (call_fed l.viewer c.feed.new.self l.rest.now c.in-Ok.fed.used c.in-Ok.fed.event
     (Some l.to_server.items) (Some c.write_all.new.self.items) c.viewer_reply.result.now
     c.in-Ok.ensures.fed c.viewer_reply.ensures c.in_ok-write_all-in-Ok.ensures.bytes)
@@ -21,9 +19,7 @@ loop-rest-preserved c =
 pub loop-rest-preserved-in_ok-write_all-in-Ok : goal.loop-rest-preserved-in_ok-write_all-in-Ok
 loop-rest-preserved-in_ok-write_all-in-Ok c =
     let l = c.loop-rest in
-    watching_more c.args.viewer.now c.args.bytes.now l.rest.now c.args.to_server.now.items
-    l.to_server.items c.write_all.new.self.items l.viewer c.in-Ok.fed.used
-    c.feed.new.self c.in-Ok.fed l.invariant
+    fed_more viewer_received {a = c.in-Ok.fed} c.in-Ok.fed.used l.invariant
     (call_fed l.viewer c.feed.new.self l.rest.now c.in-Ok.fed.used c.in-Ok.fed.event
     (Some l.to_server.items) (Some c.write_all.new.self.items) c.viewer_reply.result.now
     c.in-Ok.ensures.fed c.viewer_reply.ensures c.in_ok-write_all-in-Ok.ensures.bytes)
@@ -32,9 +28,7 @@ loop-rest-preserved-in_ok-write_all-in-Ok c =
 pub loop-rest-preserved-in_ok-write_all-in-Ok-2 : goal.loop-rest-preserved-in_ok-write_all-in-Ok-2
 loop-rest-preserved-in_ok-write_all-in-Ok-2 c =
     let l = c.loop-rest in
-    watching_more c.args.viewer.now c.args.bytes.now l.rest.now c.args.to_server.now.items
-    l.to_server.items c.write_all.new.self.items l.viewer c.in-Ok.fed.used
-    c.feed.new.self c.in-Ok.fed l.invariant
+    fed_more viewer_received {a = c.in-Ok.fed} c.in-Ok.fed.used l.invariant
     (call_fed l.viewer c.feed.new.self l.rest.now c.in-Ok.fed.used c.in-Ok.fed.event
     (Some l.to_server.items) (Some c.write_all.new.self.items) c.viewer_reply.result.now
     c.in-Ok.ensures.fed c.viewer_reply.ensures c.in_ok-write_all-in-Ok.ensures.bytes)
@@ -43,9 +37,7 @@ loop-rest-preserved-in_ok-write_all-in-Ok-2 c =
 pub loop-rest-preserved-in_ok-write_all-in-Ok-3 : goal.loop-rest-preserved-in_ok-write_all-in-Ok-3
 loop-rest-preserved-in_ok-write_all-in-Ok-3 c =
     let l = c.loop-rest in
-    watching_more c.args.viewer.now c.args.bytes.now l.rest.now c.args.to_server.now.items
-    l.to_server.items c.write_all.new.self.items l.viewer c.in-Ok.fed.used
-    c.feed.new.self c.in-Ok.fed l.invariant
+    fed_more viewer_received {a = c.in-Ok.fed} c.in-Ok.fed.used l.invariant
     (call_fed l.viewer c.feed.new.self l.rest.now c.in-Ok.fed.used c.in-Ok.fed.event
     (Some l.to_server.items) (Some c.write_all.new.self.items) c.viewer_reply.result.now
     c.in-Ok.ensures.fed c.viewer_reply.ensures c.in_ok-write_all-in-Ok.ensures.bytes)
@@ -53,15 +45,13 @@ loop-rest-preserved-in_ok-write_all-in-Ok-3 c =
 
 pub returns : goal.returns
 returns c =
-    let l = c.loop-rest in
-    watches_all c.args.viewer.now c.args.bytes.now l.rest.now c.args.to_server.now.items
-    l.to_server.items l.viewer l.invariant (empty_rest l.rest.now (search rules))
+    let l = c.loop-rest in takes_all viewer_received l.invariant (empty_rest l.rest.now (search rules))
 
 pub returns-in-Err : goal.returns-in-Err
 returns-in-Err c =
     let l = c.loop-rest in
     on_ok_all c.end_of_viewer.result _ _ c.end_of_viewer.ensures
-    (watches_until c.args.viewer.now c.args.bytes.now l.rest.now c.args.to_server.now.items
-    l.to_server.items l.viewer c.in-Err.fault c.feed.new.self (Err c.in-Err.fault) l.invariant c.in-Err.ensures.fails
-    c.in-Err.ensures.fault c.in-Err.ensures.memory c.in-Err.ensures.picture
-    c.in-Err.ensures.reason c.in-Err.ensures.failed)
+    (takes_until viewer_received l.invariant
+    (call_fed_until l.viewer c.feed.new.self l.rest.now (Some l.to_server.items) c.in-Err.fault c.in-Err.ensures.fails
+    c.in-Err.ensures.fault c.in-Err.ensures.memory c.in-Err.ensures.picture c.in-Err.ensures.reason)
+    c.in-Err.ensures.failed)

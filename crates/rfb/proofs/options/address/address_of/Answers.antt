@@ -1,10 +1,7 @@
-use Rattle.std.proofs.Common.{ap, option_map, Bor, List, ℕ, Option}
-use Rattle.clap.specs.Walk.{Text}
+use Rattle.std.proofs.Common.{ap}
 use Rattle.rfb.proofs.AddressLemmas.{address_by_word}
+use Rattle.rfb.proofs.OptionLemmas.{text_of}
 use Rattle.rfb.proofs.options.address.address_of.Goals as goal
-
-abbrev text_of : Option (Bor (List ℕ)) → Option Text
-text_of = option_map (λ s. s.now)
 
 pub returns-in-Some-None-None : goal.returns-in-Some-None-None
 returns-in-Some-None-None c =

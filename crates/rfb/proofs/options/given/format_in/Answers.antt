@@ -1,24 +1,17 @@
-use Rattle.std.proofs.Common.{◌≡◌, ◌∙◌, ap, sym, subst, codes, List, ℕ, Option, Some, None, Bor, option_map}
-use Rattle.clap.specs.Walk.{Text, first_of, rows_of}
+use Rattle.std.proofs.Common.{sym, subst, codes, Option}
+use Rattle.clap.specs.Walk.{Text, rows_of}
 use Rattle.clap.specs.Matches.{found_of}
-use Rattle.clap.proofs.WalkLemmas.{first_value-rows}
 use Rattle.rfb.specs.command.Values.{NamesFormat}
-use Rattle.rfb.proofs.OptionLemmas.{format_given}
+use Rattle.rfb.proofs.OptionLemmas.{first_is, format_given}
 use Rattle.rfb.proofs.options.given.format_in.Goals as goal
-
-abbrev text_of : Option (Bor (List ℕ)) → Option Text
-text_of = option_map (λ s. s.now)
 
 pub returns-in-Some : goal.returns-in-Some
 returns-in-Some c =
-    let e : first_of (codes "format") (rows_of (found_of c.args.given.now)) ≡ Some c.in-Some.word.now =
-    sym (first_value-rows (found_of c.args.given.now) (codes "format"))
-    ∙ (sym c.get_str.ensures ∙ ap text_of c.in-Some.is) in
-    format_given (rows_of (found_of c.args.given.now)) c.in-Some.word.now c.format_named.result e c.format_named.ensures
+    format_given (rows_of (found_of c.args.given.now)) c.in-Some.word.now c.format_named.result
+    (first_is (found_of c.args.given.now) (codes "format") _ _ c.get_str.ensures c.in-Some.is) c.format_named.ensures
 
 pub returns-in-None : goal.returns-in-None
 returns-in-None c =
-    let e : first_of (codes "format") (rows_of (found_of c.args.given.now)) ≡ None =
-    sym (first_value-rows (found_of c.args.given.now) (codes "format"))
-    ∙ (sym c.get_str.ensures ∙ ap text_of c.in-None.is) in
-    subst (λ (o : Option Text). NamesFormat o c.rgb888.result) (sym e) c.rgb888.ensures.value
+    subst (λ (o : Option Text). NamesFormat o c.rgb888.result)
+    (sym (first_is (found_of c.args.given.now) (codes "format") _ _ c.get_str.ensures c.in-None.is))
+    c.rgb888.ensures.value

@@ -2,7 +2,8 @@ use Rattle.std.proofs.Common.{◌≡◌, true, false, subst, List, ℕ}
 use Rattle.std.proofs.lemmas.Iterator.Consumers.{YieldsList-from_first, YieldsList-turn, YieldsList-so_far}
 use Rattle.std.proofs.lemmas.Iterator.Consumers.{YieldsList-end}
 use Rattle.rfb.specs.declared.script.parting.Lines.{Lines}
-use Rattle.rfb.specs.Script.{AreEmpty, lines_of, lines_left}
+use Rattle.rfb.specs.Lines.{AreEmpty}
+use Rattle.rfb.specs.Script.{lines_of, lines_left}
 use Rattle.rfb.proofs.LinesLemmas.{some_chars}
 use Rattle.rfb.proofs.HubLineLemmas.{begins_by, is_first_line, none_begins}
 use Rattle.rfb.proofs.script.hub.begins_hub.Goals as goal

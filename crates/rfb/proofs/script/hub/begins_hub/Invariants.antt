@@ -1,5 +1,5 @@
 -- The lines so far are empty.
-use Rattle.rfb.specs.Script.{AreEmpty}
+use Rattle.rfb.specs.Lines.{AreEmpty}
 use Rattle.rfb_session.specs.language.Words.{texts}
 use Rattle.rfb.proofs.script.hub.begins_hub.Given as goal
 

@@ -8,8 +8,9 @@ use Rattle.rfb.specs.Script.{lines_of, lines_left}
 use Rattle.rfb_session.specs.language.Words.{texts}
 use Rattle.rfb.proofs.LinesLemmas.{no_chars, some_chars}
 use Rattle.rfb.proofs.HubLineLemmas.{ReadHub, line_after_more, line_after_more_chars, hub_bad_after, hub_bad_size}
-use Rattle.rfb.proofs.HubLineLemmas.{hub_bad_step, hub_blank, hub_first_bad_line, hub_show, hub_size, hub_step}
+use Rattle.rfb.proofs.HubLineLemmas.{hub_bad_step, hub_blank, hub_show, hub_size, hub_step}
 use Rattle.rfb.proofs.HubLineLemmas.{without_show}
+use Rattle.rfb.proofs.OrderLemmas.{first_bad_line}
 use Rattle.rfb.proofs.script.hub.read_hub_script.Goals as goal
 
 pub loop-line-preserved-then-is_empty : goal.loop-line-preserved-then-is_empty
@@ -30,7 +31,7 @@ returns-then-is_some-clause-stopped c =
     let some = some_chars line.now c.is_empty.result c.is_empty.ensures c.if-is_empty.false in
     let bad = hub_bad_after (texts l.yielded) line.now l.screen l.steps.items l.shown some l.invariant.so_far
     (sym c.is_some.ensures ∙ c.if-is_some.true) in
-    inl (hub_first_bad_line {u = c.next.new.self} (lines_of c.args.text.now) l.yielded line l.number
+    inl (first_bad_line {u = c.next.new.self} (lines_of c.args.text.now) l.yielded line l.number
     (YieldsList-from_first (λ x. x.now) (λ (lines : Lines). lines_left lines.rest) (lines_of c.args.text.now) (cc))
     l.yielded_by c.in-Some.is c.next.ensures.steps l.invariant.count bad)
 
@@ -41,7 +42,7 @@ returns-in_default-clause-stopped c =
     let some = some_chars line.now c.is_empty.result c.is_empty.ensures c.if-is_empty.false in
     let bad = hub_bad_size (texts l.yielded) line.now l.screen l.steps.items l.shown some l.invariant.so_far
     (c.is_none.ensures ∙ ap not c.if-is_none.true) c.in_default.ensures in
-    inl (hub_first_bad_line {u = c.next.new.self} (lines_of c.args.text.now) l.yielded line l.number
+    inl (first_bad_line {u = c.next.new.self} (lines_of c.args.text.now) l.yielded line l.number
     (YieldsList-from_first (λ x. x.now) (λ (lines : Lines). lines_left lines.rest) (lines_of c.args.text.now) (cc))
     l.yielded_by c.in-Some.is c.next.ensures.steps l.invariant.count bad)
 
@@ -91,7 +92,7 @@ returns-in-None-2-clause-stopped c =
     let bad = hub_bad_step (texts l.yielded) line.now l.screen l.steps.items l.shown some
     l.invariant.so_far (c.is_none.ensures ∙ ap not c.if-is_none.false) (sym c.is_some.ensures ∙ c.if-is_some.false)
     (rw c.in-None-2.is at c.in_ok-step.ensures) c.in_default-read_show.ensures in
-    inl (hub_first_bad_line {u = c.next.new.self} (lines_of c.args.text.now) l.yielded line l.number
+    inl (first_bad_line {u = c.next.new.self} (lines_of c.args.text.now) l.yielded line l.number
     (YieldsList-from_first (λ x. x.now) (λ (lines : Lines). lines_left lines.rest) (lines_of c.args.text.now) (cc))
     l.yielded_by c.in-Some.is c.next.ensures.steps l.invariant.count bad)
 

@@ -58,14 +58,14 @@ returns-in_err-run-clause-left g c =
     (script_left (g.R.Read.remaining c.args.context.now.input.now) _ _ c.new-text.result.items
     c.read_to_end.new.buf.items
     script.screen script.wants script.steps.items c.new-text.ensures.items c.in_ok-read_to_end.ensures.bytes said
-    (c.in_err-run.ensures.left (made _ _ _ _ said)))
+    (c.in_err-run.ensures.left (made _ script.screen _ _ said)))
 
 pub returns-clause-done : goal.returns-clause-done
 returns-clause-done g c =
     let script = c.in_ok-script.script in
     let said : AreScript (lines_of c.read_to_end.new.buf.items) script.screen script.wants script.steps.items =
     rw c.as_slice-lines.ensures.value at c.in_ok-script.ensures.read in
-    let written = c.in_ok-run.ensures.done (made _ _ _ _ said) in
+    let written = c.in_ok-run.ensures.done (made _ script.screen _ _ said) in
     record {
       picture = written.2.0;
       played = script_played (g.R.Read.remaining c.args.context.now.input.now) c.new-text.result.items

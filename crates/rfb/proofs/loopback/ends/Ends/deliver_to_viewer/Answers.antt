@@ -1,7 +1,8 @@
 use Rattle.std.proofs.Common.{min, ◌≡◌, ◌∙◌, ◌+◌, ◌-◌, ◌≤◌, ap, refl, arith, length, length-take-le, take, drop}
 use Rattle.std.proofs.lemmas.List.{drop-drop}
 use Rattle.std.proofs.lemmas.Grind.{common_steps}
-use Rattle.rfb.proofs.CrossingLemmas.{reaches_viewer_none, reaches_viewer_more}
+use Rattle.rfb.proofs.CrossingLemmas.{reaches_more, reaches_none}
+use Rattle.rfb.proofs.DeliveryLemmas.{viewer_received}
 use Rattle.rfb.proofs.loopback.ends.Ends.deliver_to_viewer.Goals as goal
 
 pub loop-left-init : goal.loop-left-init
@@ -11,7 +12,7 @@ loop-left-init g c =
       some = omega arith;
       other = refl;
       taken = ap (λ n. drop n c.args.self.now.to_viewer.items) none;
-      reached = reaches_viewer_none c.args.self.now.to_viewer.items _ _ _ c.args.self.now.viewer
+      reached = reaches_none viewer_received c.args.self.now.to_viewer.items _ _ _ c.args.self.now.viewer
           c.args.self.now.to_server.items none;
     }
 
@@ -32,8 +33,9 @@ loop-left-preserved g c =
       taken = c.in_ok-taken.ensures.taken ∙ ap (drop taken) l.invariant.taken
           ∙ drop-drop taken (wanted - l.left) bytes ∙ ap (λ n. drop n bytes) more;
       reached =
-          reaches_viewer_more bytes _ _ _ (wanted - l.left) taken (wanted - (l.left - taken)) _ _ _ _ _ _ _ _ _ _ _ _
-          l.invariant.taken c.in_ok-taken.ensures.part size more l.invariant.reached c.in_ok-reach_viewer.ensures;
+          reaches_more viewer_received bytes _ _ _ (wanted - l.left) taken (wanted - (l.left - taken))
+          _ _ _ _ _ _ _ _ _ _ _ _ l.invariant.taken c.in_ok-taken.ensures.part size more l.invariant.reached
+          c.in_ok-reach_viewer.ensures;
     }
 
 pub returns-clause-taken : goal.returns-clause-taken

@@ -78,7 +78,7 @@ returns-in-Request-clause-takes c =
     subst (λ (event : Event). IfOk c.send.result (λ refused. TakesEvent old event refused new))
     (sym c.in-Request.is)
     (call_taken (λ (m : List ℕ). m) (λ s prefix. request_refusal s c.in-Request.rect)
-    (request_message c.in-Request.incremental c.in-Request.rect) requested old new c.request-called.result c.send.result
+    (request_message c.in-Request.incremental c.in-Request.rect) old new c.request-called.result c.send.result
     (record {
       sent = c.request-called.ensures.sent;
       refusal = c.request-called.ensures.refusal;
@@ -90,7 +90,7 @@ returns-in-Request-clause-takes c =
       sent = c.send.ensures.sent;
       refused = c.send.ensures.refused;
     })
-    c.send.ensures.kept refl c.request-called.ensures.stands c.request-called.ensures.picture)
+    c.send.ensures.kept refl requested c.request-called.ensures.stands c.request-called.ensures.picture)
 
 pub returns-in-Request-clause-stopped : goal.returns-in-Request-clause-stopped
 returns-in-Request-clause-stopped c =
@@ -107,8 +107,7 @@ returns-in-SetFormat-clause-takes c =
     subst (λ (event : Event). IfOk c.send-in-SetFormat.result (λ refused. TakesEvent old event refused new))
     (sym c.in-SetFormat.is)
     (call_taken (λ (m : List ℕ). m) (λ s prefix. format_refusal s prefix)
-    (format_message c.in-SetFormat.format) (formatted c.in-SetFormat.format) old new c.set_format-called.result
-    c.send-in-SetFormat.result
+    (format_message c.in-SetFormat.format) old new c.set_format-called.result c.send-in-SetFormat.result
     (record {
       sent = c.set_format-called.ensures.sent;
       refusal = c.set_format-called.ensures.refusal;
@@ -120,7 +119,8 @@ returns-in-SetFormat-clause-takes c =
       sent = c.send-in-SetFormat.ensures.sent;
       refused = c.send-in-SetFormat.ensures.refused;
     })
-    c.send-in-SetFormat.ensures.kept refl c.set_format-called.ensures.stands c.set_format-called.ensures.picture)
+    c.send-in-SetFormat.ensures.kept refl (formatted c.in-SetFormat.format) c.set_format-called.ensures.stands
+    c.set_format-called.ensures.picture)
 
 pub returns-in-SetFormat-clause-stopped : goal.returns-in-SetFormat-clause-stopped
 returns-in-SetFormat-clause-stopped c =

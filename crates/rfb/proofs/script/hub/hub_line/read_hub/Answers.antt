@@ -1,4 +1,7 @@
-use Rattle.rfb.proofs.HubStepLemmas.{hub_words, no_hub_line, too_many_for_hub}
+use Rattle.std.proofs.Common.{codes}
+use Rattle.rfb_session.specs.language.Words.{AreSize, words_of}
+use Rattle.rfb.proofs.HubStepLemmas.{too_many_for_hub}
+use Rattle.rfb.proofs.ScriptLemmas.{begins_otherwise, read_after}
 use Rattle.rfb.proofs.script.hub.hub_line.read_hub.Goals as goal
 
 pub returns-in_err-words : goal.returns-in_err-words
@@ -8,10 +11,10 @@ returns-in_err-words c =
 pub returns-in_err-words_after : goal.returns-in_err-words_after
 returns-in_err-words_after c =
     rw c.from_residual-in_err-words_after.ensures
-    (no_hub_line _ (rw (← c.in_ok-words.ensures, ← c.as_slice.ensures.value) c.in_err-words_after.ensures))
+    (begins_otherwise (codes "hub") AreSize (words_of c.args.line.now)
+    (rw (← c.in_ok-words.ensures, ← c.as_slice.ensures.value) c.in_err-words_after.ensures))
 
 pub returns : goal.returns
 returns c =
-    hub_words _ c.in_ok-words_after.field-0.now
-    (rw (← c.in_ok-words.ensures, ← c.as_slice.ensures.value) c.in_ok-words_after.ensures)
-    c.read_size.result c.read_size.ensures
+    read_after (codes "hub") AreSize (words_of c.args.line.now) c.in_ok-words_after.field-0.now c.read_size.result
+    (rw (← c.in_ok-words.ensures, ← c.as_slice.ensures.value) c.in_ok-words_after.ensures) c.read_size.ensures

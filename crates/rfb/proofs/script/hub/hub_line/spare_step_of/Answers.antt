@@ -1,6 +1,4 @@
-use Rattle.std.proofs.Common.{◌∙◌, sym, codes, List, ℕ}
-use Rattle.rfb.specs.HubScript.{AreJoin}
-use Rattle.rfb_session.specs.language.Words.{IsSlotAlone, texts}
+use Rattle.std.proofs.Common.{◌∙◌, sym, codes}
 use Rattle.rfb.proofs.HubStepLemmas.{at_read, no_step_of, hub_join, hub_leave, only_drawn}
 use Rattle.rfb_session.proofs.WordLaws.{begins_with, other_word}
 use Rattle.rfb.proofs.script.hub.hub_line.spare_step_of.Goals as goal
@@ -37,11 +35,8 @@ returns-in-Hint c = rw c.in-Hint.is at c.in_ok-rect.ensures
 
 pub returns-then-eq : goal.returns-then-eq
 returns-then-eq c =
-    let r = c.in_ok-slot in
-    begins_with c.args.keyword.now (codes "join") (texts c.args.rest.now)
-    (λ (l : List (List ℕ)). AreJoin l r.slot r.setup) (sym c.eq.ensures ∙ c.if-eq.true) r.ensures
+    begins_with _ _ _ _ (sym c.eq.ensures ∙ c.if-eq.true) c.in_ok-slot.ensures
 
 pub returns-then-eq-2 : goal.returns-then-eq-2
 returns-then-eq-2 c =
-    begins_with c.args.keyword.now (codes "leave") (texts c.args.rest.now) (λ (l : List (List ℕ)). IsSlotAlone l
-    c.in_ok-read_only_slot.field-0) (sym c.eq-2.ensures ∙ c.if-eq-2.true) c.in_ok-read_only_slot.ensures
+    begins_with _ _ _ _ (sym c.eq-2.ensures ∙ c.if-eq-2.true) c.in_ok-read_only_slot.ensures

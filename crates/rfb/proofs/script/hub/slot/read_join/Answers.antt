@@ -1,15 +1,13 @@
 use Rattle.std.proofs.Common.{refl, ℕ, List}
 use Rattle.rfb.specs.HubScript.{AreSetup}
-use Rattle.rfb.proofs.HubWordLemmas.{is_after, is_setup, no_setup_kind, no_setup_wants, no_setup_words, no_slot_first}
-use Rattle.rfb.proofs.HubWordLemmas.{none_after, nothing_after}
+use Rattle.rfb.proofs.HubWordLemmas.{is_after, is_setup, no_join, no_setup_kind, no_setup_wants, no_setup_words}
+use Rattle.rfb.proofs.HubWordLemmas.{no_slot_first, nothing_after}
 use Rattle.rfb.proofs.script.hub.slot.read_join.Goals as goal
 
 pub returns-in_err-wants : goal.returns-in_err-wants
 returns-in_err-wants c =
-    rw c.from_residual-in_err-wants.ensures (λ slot setup. none_after c.args.words.now c.in_ok-slot.slot.now
-    c.in_ok-slot.words.now (λ (l : List (List ℕ)). AreSetup l setup) c.in_ok-slot.ensures.cases.0
-    (no_setup_wants c.in_ok-slot.words.now c.in_ok-kind.kind.now c.in_ok-kind.words.now c.in_ok-kind.ensures.cases.0
-    c.in_err-wants.ensures setup) slot)
+    rw c.from_residual-in_err-wants.ensures
+    (no_join c.in_ok-slot.ensures.cases.0 (no_setup_wants c.in_ok-kind.ensures.cases.0 c.in_err-wants.ensures))
 
 pub returns : goal.returns
 returns c =
@@ -28,10 +26,8 @@ returns-in_err-slot-2 c =
 
 pub returns-in_err-shared : goal.returns-in_err-shared
 returns-in_err-shared c =
-    rw c.from_residual-in_err-shared.ensures (λ slot setup. none_after c.args.words.now c.in_ok-slot.slot.now
-    c.in_ok-slot.words.now (λ (l : List (List ℕ)). AreSetup l setup) c.in_ok-slot.ensures.cases.0
-    (no_setup_kind c.in_ok-slot.words.now c.in_ok-kind.kind.now c.in_ok-kind.words.now c.in_ok-kind.ensures.cases.0
-    c.in_err-shared.ensures setup) slot)
+    rw c.from_residual-in_err-shared.ensures
+    (no_join c.in_ok-slot.ensures.cases.0 (no_setup_kind c.in_ok-kind.ensures.cases.0 c.in_err-shared.ensures))
 
 pub returns-in_err-slot : goal.returns-in_err-slot
 returns-in_err-slot c =
@@ -40,6 +36,5 @@ returns-in_err-slot c =
 
 pub returns-in_err-kind : goal.returns-in_err-kind
 returns-in_err-kind c =
-    rw c.from_residual-in_err-kind.ensures (λ slot setup. none_after c.args.words.now c.in_ok-slot.slot.now
-    c.in_ok-slot.words.now (λ (l : List (List ℕ)). AreSetup l setup) c.in_ok-slot.ensures.cases.0
-    (no_setup_words c.in_ok-slot.words.now c.in_err-kind.ensures.cases setup) slot)
+    rw c.from_residual-in_err-kind.ensures
+    (no_join c.in_ok-slot.ensures.cases.0 (no_setup_words c.in_ok-slot.words.now c.in_err-kind.ensures.cases))
