@@ -62,7 +62,8 @@ pub(super) fn put_in_order<T: Copy>(
     }
 }
 
-// The same where it may be another one.
+// The same where it may be another one. It is called for few pictures, and out of the way of the rest.
+#[inline(never)]
 fn settle<T: Copy>(lines: &mut [u16], places: &mut [T], width: usize)
     requires { IsKept width (length lines.old) lines.old places.old }
     ensures order { AreInOrder (length lines.old) lines.new }
