@@ -135,6 +135,15 @@ impl LateSession {
         }
     }
 
+    /// Whether so little may need sending that no twin is worth finding, as `Session::is_slight` tells:
+    /// so it is before its handshake is done.
+    pub fn is_slight(&self) -> bool {
+        match &self.stage {
+            Stage::Entering(_) => true,
+            Stage::Within(session) => session.is_slight(),
+        }
+    }
+
     /// Takes over the update that a twin of it was sent, as `Session::take_over` does.
     pub fn take_over(&mut self, screen: &Picture<Colour>, sent: &LateSession)
         requires follows { Follows screen.now self.old }

@@ -46,6 +46,19 @@ impl Session {
         self.asks_as(other) && self.agrees(other)
     }
 
+    /// Whether so little may need sending, of two cells of 64 by 64 places at most, that it is composed
+    /// sooner than twins are found. It is about costs: nothing rests on it.
+    pub fn is_slight(&self) -> bool {
+        let mut next = 0;
+        for _ in 0..2 {
+            let Some(index) = self.next_cell(next) else {
+                return true;
+            };
+            next = index + 1;
+        }
+        self.next_cell(next).is_none()
+    }
+
     /// Takes over the update that a twin of it was sent, which is its viewer's too: it knows what
     /// its viewer has then, as after an update of its own.
     pub fn take_over(&mut self, screen: &Picture<Colour>, sent: &Session)
