@@ -21,6 +21,7 @@ mod scene;
 mod scrolling;
 mod several_hints;
 mod shared;
+mod slight;
 mod twins;
 mod two_viewers;
 mod waiting;
