@@ -49,12 +49,16 @@ pub record IsHeirOf (screen : Grid Colour) (sent : ShareSeat) (slot : Option Sha
   pub follows : Follows screen (session_at seat)
   pub twin : HasComposedTwin screen seat sent
 
+-- so they are, of somebody in another slot
+pub record IsHeirIn (screen : Grid Colour) (one slot : Option ShareSeat) : Type 0 where
+  pub sent : ShareSeat
+  pub is_sent : one ≡ Some sent
+  pub heir : IsHeirOf screen sent slot
+
 -- whoever sits at seat `k`, which is another than seat `own`, is to be given what was sent there
 pub record IsToBeGiven (screen : Grid Colour) (slots : List (Option ShareSeat)) (own k : ℕ) : Type 0 where
-  pub sent : ShareSeat
-  pub is_sent : seat_at own slots ≡ Some sent
   pub apart : nat_eq k own ≡ false
-  pub heir : IsHeirOf screen sent (seat_at k slots)
+  pub heir : IsHeirIn screen (seat_at own slots) (seat_at k slots)
 
 -- what waits at a seat may be taken over by others, in the same memory; nothing else has changed
 pub record IsShared (old new : ShareSeat) : Type 0 where
@@ -73,6 +77,11 @@ IsSharedIn (Some old) (Some new) = IsShared old new
 pub record IsGiven (screen : Grid Colour) (one old new : Option ShareSeat) : Type 0 where
   pub sent : ComposesIn screen Composed old new
   pub same : waiting_for new ≡ waiting_for one
+
+-- seat `k` was given the update that waits at seat `own`, and follows the screen
+pub record IsGivenFrom (screen : Grid Colour) (own k : ℕ) (old new : List (Option ShareSeat)) : Type 0 where
+  pub given : IsGiven screen (seat_at own old) (seat_at k old) (seat_at k new)
+  pub follows : ForSome (seat_at k new) (λ seat. Follows screen (session_at seat))
 
 -- seats of the set, of which seat `own` is none, were given what waits there; all others are as they were
 pub record IsGivenTo (screen : Grid Colour) (own : ℕ) (old new : List (Option ShareSeat)) (given : ℕ)

@@ -135,6 +135,11 @@ impl ShareSeat {
         self.session.is_twin_of(&other.session)
     }
 
+    /// Whether so little may need sending that it is composed sooner than twins are found.
+    pub(crate) fn is_slight(&self) -> bool {
+        self.session.is_slight()
+    }
+
     /// The update that waits may be taken over by others, if there is memory for that.
     pub(crate) fn share(&mut self)
         ensures { IsShared self.old self.new }

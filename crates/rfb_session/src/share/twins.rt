@@ -6,15 +6,16 @@ ghost use Rattle.std.specs.Option.{ForSome};
 ghost use Rattle.rfb_picture.specs.Places.{has_bit};
 ghost use Rattle.rfb_server.specs.KnownScreen.{Follows};
 ghost use Rattle.rfb_session.specs.ShareSeats.{session_at};
-ghost use Rattle.rfb_session.specs.ShareTwins.{IsTwinIn, IsTwinOf, IsGiven, IsGivenTo, IsHeirOf};
-ghost use Rattle.rfb_session.specs.ShareTwins.{IsToBeGiven};
+ghost use Rattle.rfb_session.specs.ShareTwins.{IsTwinIn, IsTwinOf, IsGiven, IsGivenTo};
+ghost use Rattle.rfb_session.specs.ShareTwins.{IsToBeGiven, IsHeirIn, IsGivenFrom, IsSharedIn};
+ghost use Rattle.rfb_session.specs.Slots.{seat_at};
 
 use crate::seat::Seat;
 use crate::seats::Seats;
 use crate::share::Share;
 use crate::share::event::Composing;
 use crate::share::seat::ShareSeat;
-use crate::slots::{SLOTS, seat_in};
+use crate::slots::SLOTS;
 use crate::told::NoMemory;
 use rfb_picture::Picture;
 use rfb_pixel::Colour;
@@ -42,6 +43,17 @@ impl Share {
         match self.compose(seat)? {
             Composing::Composed => Ok((Composing::Composed, self.give(seat, twins))),
             told => Ok((told, Seats::none())),
+        }
+    }
+
+    /// Of some others those at which it is worth to look for twins of a seat: none where so little
+    /// may need sending to its viewer that it is composed sooner for each.
+    pub fn worth_sharing(&self, seat: Seat, others: Seats) -> Seats
+        ensures { (k : ℕ) → has_bit result k ≡ true → has_bit others k ≡ true }
+    {
+        match &self.seats[seat.place()] {
+            Some(own) if own.is_slight() => Seats::none(),
+            _ => others,
         }
     }
 
@@ -115,56 +127,88 @@ fn give_all(
     ensures given { IsGivenTo screen.now own slots.old slots.new result }
     ensures within { (k : ℕ) → has_bit result k ≡ true → has_bit twins k ≡ true }
 {
+    share_in(&mut slots[own]);
     let mut given = Seats::none();
-    let Some(mut sent) = slots[own].take() else {
-        return given;
-    };
-    sent.share();
     for place in 0..SLOTS {
-        given = given.or(give_at(&mut slots[place], place, twins, &sent, screen));
+        given = given.or(give_at(slots, own, place, twins, screen));
     }
-    seat_in(&mut slots[own], sent);
     given
 }
 
-// Whoever sits there is given the update of a twin, if it is one of them and the update is shared.
+// What waits for whoever sits there may be taken over by others.
+fn share_in(slot: &mut Option<ShareSeat>)
+    ensures { IsSharedIn slot.old slot.new }
+{
+    if let Some(seat) = slot {
+        seat.share();
+    }
+}
+
+// Whoever sits at that place is given the update of seat `own`, if it is one of the twins and the
+// update is shared.
 fn give_at(
-    slot: &mut Option<ShareSeat>,
+    slots: &mut [Option<ShareSeat>; SLOTS],
+    own: usize,
     place: usize,
     twins: Seats,
-    sent: &ShareSeat,
     screen: &Picture<Colour>,
 ) -> Seats
+    requires own { own < 8 }
     requires place { place < 8 }
-    requires twin { has_bit twins place ≡ true → IsHeirOf screen.now sent.now slot.old }
-    ensures only { (k : ℕ) → has_bit result k ≡ true → k ≡ place }
+    requires twin { has_bit twins place ≡ true → IsToBeGiven screen.now slots.old own place }
+    ensures size { length slots.new ≡ length slots.old }
+    ensures only { (k : ℕ) → has_bit result k ≡ true → (k ≡ place) × (nat_eq k own ≡ false) }
     ensures within { (k : ℕ) → has_bit result k ≡ true → has_bit twins k ≡ true }
     ensures given { has_bit result place ≡ true →
-        IsGiven screen.now (Some sent.now) slot.old slot.new }
-    ensures follows { has_bit result place ≡ true →
-        ForSome slot.new (λ seat. Follows screen.now (session_at seat)) }
-    ensures none { has_bit result place ≡ false → slot.new ≡ slot.old }
+        IsGivenFrom screen.now own place slots.old slots.new }
+    ensures none { has_bit result place ≡ false →
+        seat_at place slots.new ≡ seat_at place slots.old }
+    ensures others { (k : ℕ) → nat_eq k place ≡ false → seat_at k slots.new ≡ seat_at k slots.old }
 {
     let seat = Seat::at(place);
-    if !twins.has(seat) {
+    if !twins.has(seat) || place == own {
         return Seats::none();
     }
-    if give(slot, sent, screen) {
+    if give_apart(slots, own, place, screen) {
         return Seats::none().with(seat);
     }
     Seats::none()
 }
 
-// The same of one who is.
-fn give(slot: &mut Option<ShareSeat>, sent: &ShareSeat, screen: &Picture<Colour>) -> bool
-    requires { IsHeirOf screen.now sent.now slot.old }
-    ensures given { OnTrue result (IsGiven screen.now (Some sent.now) slot.old slot.new) }
+// The same of one who is. The slots are lent by two parts: a seat is large, and stays where it is.
+fn give_apart(
+    slots: &mut [Option<ShareSeat>],
+    own: usize,
+    place: usize,
+    screen: &Picture<Colour>,
+) -> bool
+    requires own { own < length slots.old }
+    requires place { place < length slots.old }
+    requires twin { IsToBeGiven screen.now slots.old own place }
+    ensures size { length slots.new ≡ length slots.old }
+    ensures given { OnTrue result (IsGivenFrom screen.now own place slots.old slots.new) }
+    ensures none { OnFalse result (seat_at place slots.new ≡ seat_at place slots.old) }
+    ensures others { (k : ℕ) → nat_eq k place ≡ false → seat_at k slots.new ≡ seat_at k slots.old }
+{
+    if place < own {
+        let (front, back) = slots.split_at_mut(own);
+        give(&mut front[place], &back[0], screen)
+    } else {
+        let (front, back) = slots.split_at_mut(place);
+        give(&mut back[0], &front[own], screen)
+    }
+}
+
+// Whoever sits in a slot is given the update that waits for whoever sits in another.
+fn give(slot: &mut Option<ShareSeat>, other: &Option<ShareSeat>, screen: &Picture<Colour>) -> bool
+    requires { IsHeirIn screen.now other.now slot.old }
+    ensures given { OnTrue result (IsGiven screen.now other.now slot.old slot.new) }
     ensures follows { OnTrue result
         (ForSome slot.new (λ seat. Follows screen.now (session_at seat))) }
     ensures none { OnFalse result (slot.new ≡ slot.old) }
 {
-    match slot {
-        Some(seat) => seat.take_over(screen, sent),
-        None => false,
+    match (slot, other) {
+        (Some(seat), Some(sent)) => seat.take_over(screen, sent),
+        _ => false,
     }
 }

@@ -78,10 +78,10 @@ impl Desk {
         Round { wants, last: None }
     }
 
-    // Composes an update for the viewer of a seat, if that is to be tried, and tells whether it is a
-    // large one. It may be given to some others.
+    // Composes an update for the viewer of a seat, if that is to be tried, and tells whether it is
+    // a large one. It may be given to some others.
     fn serve(&mut self, seat: Seat, tries: bool, others: Seats) -> Served
-        ensures composes { ComposesOne self.old seat tries result.wants others result.given self.new }
+        ensures one { ComposesOne self.old seat tries result.wants others result.given self.new }
         ensures large { result.is_large ≡ true →
             IsLarge (seat_in self.old.share seat) (seat_in self.new.share seat) }
         ensures small { result.is_large ≡ false →
@@ -107,6 +107,7 @@ impl Desk {
                 given,
             };
         }
+        let others = self.share.worth_sharing(seat, others);
         match self.share.compose_shared(seat, others) {
             Ok((_, given)) => Tried {
                 wants: false,

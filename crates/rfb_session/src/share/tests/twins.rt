@@ -87,9 +87,11 @@ fn takes_by_parts(share: &mut Share) -> bool {
     share.written(at(7), 3);
     asked
         && given
+        && share.worth_sharing(at(7), Seats::all()) == Seats::none()
         && takes(share, at(2), BLUE_UPDATE)
         && composes(share, at(7), Composing::Waiting)
         && share.left(at(2))
+        && share.worth_sharing(at(2), Seats::all()) == Seats::all()
         && takes(share, at(7), &BLUE_UPDATE[3..])
 }
 

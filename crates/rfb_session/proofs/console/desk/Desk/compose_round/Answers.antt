@@ -15,7 +15,7 @@ loop-step-preserved c =
     let new = c.serve-served.new.self in
     let one : ComposesOne l.self seat (has_bit l.left seat) served.wants c.without-others.result served.given new =
     subst (λ (tries : Bool). ComposesOne l.self seat tries served.wants c.without-others.result served.given new)
-    c.has-tries.ensures c.serve-served.ensures.composes in
+    c.has-tries.ensures c.serve-served.ensures.one in
     round_next l.step seat c.to_serve-left.result l.left c.without-others.result c.without_all-left.result served.given
     c.args.self.now l.self new l.wants served.wants c.loop-step-test.true c.after-seat.ensures
     c.to_serve-left.ensures.rests l.invariant one c.without-others.ensures c.without_all-left.ensures
@@ -29,7 +29,7 @@ returns-then-served c =
     let new = c.serve-served.new.self in
     let one : ComposesOne l.self seat (has_bit l.left seat) served.wants c.without-others.result served.given new =
     subst (λ (tries : Bool). ComposesOne l.self seat tries served.wants c.without-others.result served.given new)
-    c.has-tries.ensures c.serve-served.ensures.composes in
+    c.has-tries.ensures c.serve-served.ensures.one in
     round_ends l.step seat c.to_serve-left.result l.left c.without-others.result c.without_all-left.result served.given
     c.args.self.now l.self new l.wants served.wants c.loop-step-test.true c.after-seat.ensures
     c.to_serve-left.ensures.rests l.invariant one c.without-others.ensures c.without_all-left.ensures
