@@ -4,15 +4,17 @@ ghost use Rattle.std.specs.Prelude.{◌≡◌, ℕ, ◌+◌, ◌*◌, ◌<◌, �
 ghost use Rattle.std.specs.Prelude.{IsTrue};
 ghost use Rattle.std.specs.Borrow.{sem};
 ghost use Rattle.rfb_picture.specs.inside.Lines.{AreInOrder, IsKept};
-ghost use Rattle.rfb_picture.specs.inside.Runs.{RowsFilled, RunFilled, RowsPut, RunPut};
+ghost use Rattle.rfb_picture.specs.inside.Runs.{RowsPut, RunPut};
 
 mod copying;
+mod filling;
 mod lines;
 #[cfg(test)]
 mod tests;
 
 use crate::rect::Rect;
 use copying::copy_rows;
+use filling::fill_rows;
 use lines::{Rows, line_of, lines_of, place_of, put_in_order, turn};
 use std::alloc::{AllocError, Global};
 use std::marker::Model;
@@ -166,6 +168,31 @@ impl<T: Copy> Picture<T> {
             width,
             rect,
             value,
+            &[],
+        );
+    }
+
+    /// The same by pieces of as many places as `piece` has, each of which is `value`, and which stays
+    /// the caller's: for a caller that knows the type of a place, and how many a row has at least.
+    /// It is compiled into its caller.
+    #[inline(always)]
+    pub fn fill_by<const N: usize>(&mut self, rect: Rect, value: T, piece: &[T; N])
+        requires held { Holds self.old rect }
+        requires wide { N ≤ rect.w }
+        requires piece { (k : ℕ) (d : T) → k < N → slice_index_or piece.now k d ≡ value }
+        ensures value { self.new ≡ filled rect value self.old }
+        ensures width { self.new.width ≡ self.old.width }
+        ensures height { self.new.height ≡ self.old.height }
+    {
+        let width = usize::from(self.width);
+        fill_rows(
+            &mut self.places,
+            self.is_turned,
+            &self.lines,
+            width,
+            rect,
+            value,
+            piece,
         );
     }
 
@@ -254,49 +281,33 @@ impl<T: Copy> Picture<T> {
     }
 }
 
-// Gives `value` to each place of the rectangle, in lines of `width` places.
-fn fill_rows<T: Copy>(
+// Writes `rows`, one after the other, over the rectangle's, in lines of `width` places. Where no row
+// has moved its loop looks up no line.
+fn put_rows<T: Copy>(
     places: &mut [T],
     is_turned: bool,
     lines: &[u16],
     width: usize,
     rect: Rect,
-    value: T,
+    rows: &[T],
 )
     requires order { is_turned ≡ false → AreInOrder (length lines.now) lines.now }
     requires columns { rect.x + rect.w ≤ width }
     requires rows { rect.y + rect.h ≤ length lines.now }
     requires kept { IsKept width (length lines.now) lines.now places.old }
-    ensures { RowsFilled lines.now width rect value places.old places.new }
+    requires size { length rows.now ≡ rect.h * rect.w }
+    ensures { RowsPut lines.now width rect rows.now places.old places.new }
 {
-    for row in 0..usize::from(rect.h) {
-        let line = line_of(is_turned, lines, usize::from(rect.y) + row);
-        let start = line * width + usize::from(rect.x);
-        fill_places(places, start, usize::from(rect.w), value);
+    if is_turned {
+        put_lines(places, true, lines, width, rect, rows);
+    } else {
+        put_lines(places, false, lines, width, rect, rows);
     }
 }
 
-// Gives `value` to `count` places in a row.
-fn fill_places<T: Copy>(places: &mut [T], start: usize, count: usize, value: T)
-    requires { start + count ≤ length places.old }
-    ensures { RunFilled start count value places.old places.new }
-{
-    fill_row(&mut places[start..start + count], value);
-}
-
-// Gives `value` to each place of a row. A loop over a slice of its own needs fewer than half of the
-// instructions of one by index.
-#[inline]
-fn fill_row<T: Copy>(row: &mut [T], value: T)
-    ensures { (k : ℕ) (d : T) → k < length row.new → slice_index_or row.new k d ≡ value }
-{
-    for place in row.iter_mut() {
-        *place = value;
-    }
-}
-
-// Writes `rows`, one after the other, over the rectangle's, in lines of `width` places.
-fn put_rows<T: Copy>(
+// The same by one loop.
+#[inline(always)]
+fn put_lines<T: Copy>(
     places: &mut [T],
     is_turned: bool,
     lines: &[u16],

@@ -166,6 +166,34 @@ fn fills_only_inside_the_rectangle(rt: HostRuntime) -> Result<(), AllocError> {
     Ok(())
 }
 
+// Rows of five by pieces of two: the last piece lies over the one before it.
+fn is_filled_by_pieces(picture: &mut Picture<u8>) -> bool {
+    let rect = Rect {
+        x: 1,
+        y: 0,
+        w: 5,
+        h: 2,
+    };
+    if !picture.holds(rect) {
+        return false;
+    }
+    picture.fill_by(rect, 6, &[6, 6]);
+    let rows: [&[u8]; 3] = [
+        &[0, 6, 6, 6, 6, 6, 0],
+        &[0, 6, 6, 6, 6, 6, 0],
+        &[0, 0, 0, 0, 0, 0, 0],
+    ];
+    has_rows(picture, &rows)
+}
+
+#[test]
+fn fills_by_pieces_only_inside_the_rectangle(rt: HostRuntime) -> Result<(), AllocError> {
+    let mut picture = bytes(rt.alloc(), 7, 3, 0)?;
+    assert!(rt; is_filled_by_pieces(&mut picture));
+    drop(picture);
+    Ok(())
+}
+
 fn is_put(picture: &mut Picture<u8>) -> bool {
     let rows: [&[u8]; 3] = [&NONE, &[0, 5, 6, 0], &NONE];
     put_row(picture, 1, 1, &[5, 6]) && has_rows(picture, &rows)

@@ -4,7 +4,8 @@
 ghost use Rattle.std.specs.Prelude.{◌≡◌, ◌+◌, ◌<◌, ◌≤◌, replicate};
 ghost use Rattle.rfb_picture.specs.Grid.{with_row};
 
-use super::{Picture, fill_places};
+use super::Picture;
+use super::filling::fill_places;
 use crate::rect::Rect;
 use crate::tests::{at, bytes, copy_from, fill, has_rows, put_row, put_rows};
 use std::alloc::{AllocError, Global};
@@ -267,7 +268,7 @@ fn fill_row<T: Copy>(picture: &mut Picture<T>, x: u16, y: u16, w: u16, value: T)
     ensures height { picture.new.height ≡ picture.old.height }
 {
     let row = picture.row_mut(x, y, w);
-    fill_places(row, 0, usize::from(w), value);
+    fill_places(row, 0, usize::from(w), value, &[]);
 }
 
 // Writes two values at (`x`, `y`), through a loan of their places.

@@ -2,7 +2,7 @@
 use Rattle.std.proofs.Common.{◌≡◌, ℕ, ◌<◌, length, slice_index_or, if◌then◌else◌}
 use Rattle.rfb_picture.specs.Rect.{contains}
 use Rattle.rfb_picture.specs.inside.Lines.{place_in}
-use Rattle.rfb_picture.proofs.picture.fill_rows.Given as goal
+use Rattle.rfb_picture.proofs.picture.filling.fill_lines.Given as goal
 
 abbrev pub invariant-loop-row : goal.invariant-loop-row
 invariant-loop-row g l =

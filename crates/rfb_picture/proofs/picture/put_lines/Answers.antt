@@ -2,7 +2,7 @@ use Rattle.std.proofs.Common.{◌+◌, length, arith, rules}
 use Rattle.rfb_picture.specs.inside.Lines.{place_in}
 use Rattle.rfb_picture.proofs.LineLemmas.{line_fits}
 use Rattle.rfb_picture.proofs.RowsLemmas.{line_put}
-use Rattle.rfb_picture.proofs.picture.put_rows.Goals as goal
+use Rattle.rfb_picture.proofs.picture.put_lines.Goals as goal
 
 pub overflow_add-start : goal.overflow_add-start
 overflow_add-start g c =

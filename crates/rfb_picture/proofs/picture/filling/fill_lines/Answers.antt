@@ -1,7 +1,7 @@
-use Rattle.std.proofs.Common.{◌+◌, length, arith}
+use Rattle.std.proofs.Common.{◌+◌, length, arith, rules}
 use Rattle.rfb_picture.specs.inside.Lines.{place_in}
 use Rattle.rfb_picture.proofs.LineLemmas.{line_filled, line_fits}
-use Rattle.rfb_picture.proofs.picture.fill_rows.Goals as goal
+use Rattle.rfb_picture.proofs.picture.filling.fill_lines.Goals as goal
 
 pub overflow_add-start : goal.overflow_add-start
 overflow_add-start g c =
@@ -11,9 +11,17 @@ overflow_add-start g c =
 pub fill_places-requires : goal.fill_places-requires
 fill_places-requires g c =
     let fits = line_fits c.args.rect.x (c.args.rect.y + c.loop-row.row) c.args.rect.w c.requires.kept (omega arith)
-    (omega arith) in
-    rw (c.line_of-line.ensures, c.from.ensures, c.from-in-loop-row.ensures, c.from-in-loop-row-2.ensures)
-    (omega (arith, fits))
+    (omega arith) in (
+      search rules,
+      (
+        rw (c.from-in-loop-row-2.ensures) (omega arith),
+        (
+          rw (c.line_of-line.ensures, c.from.ensures, c.from-in-loop-row.ensures, c.from-in-loop-row-2.ensures)
+              (omega (arith, fits)),
+          c.requires.piece,
+        ),
+      ),
+    )
 
 pub loop-row-preserved : goal.loop-row-preserved
 loop-row-preserved g c = λ x y d p q.
