@@ -26,7 +26,7 @@ pub fn paint_rows(format: Format, rect: Rect, bytes: &[u8], picture: &mut Pictur
     ensures { PaintsRaw format rect bytes.now picture.old picture.new }
 {
     // Each format that this project announces has a function with one loop, by a format that is
-    // known before it runs. At rgb888 a whole tile has one whose two lengths are known too.
+    // known before it runs. At rgb888 a whole tile has its own.
     if format == Format::rgb888() {
         if rect.w == TILE && rect.h == TILE {
             tile_rows_rgb888(rect, bytes, picture);
@@ -42,7 +42,10 @@ pub fn paint_rows(format: Format, rect: Rect, bytes: &[u8], picture: &mut Pictur
     }
 }
 
-// The same of a whole tile at rgb888.
+// How many bytes a row of a tile has at rgb888.
+const TILE_ROW: usize = 64;
+
+// The same of a whole tile at rgb888: its loop knows how many pixels a row has.
 #[inline(never)]
 fn tile_rows_rgb888(rect: Rect, bytes: &[u8], picture: &mut Picture<Colour>)
     requires place { IsPaintable picture.old rect }
@@ -51,12 +54,11 @@ fn tile_rows_rgb888(rect: Rect, bytes: &[u8], picture: &mut Picture<Colour>)
     requires whole { length bytes.now ≡ raw_length rgb888 rect.w rect.h }
     ensures { PaintsRaw rgb888 rect bytes.now picture.old picture.new }
 {
-    let rect = Rect {
-        w: TILE,
-        h: TILE,
-        ..rect
-    };
-    rows_in(Format::rgb888(), rect, bytes, picture);
+    for row in 0..TILE {
+        let start = usize::from(row) * TILE_ROW;
+        let places = picture.row_mut(rect.x, rect.y + row, TILE);
+        Format::unpack_sixteen(&bytes[start..start + TILE_ROW], places);
+    }
 }
 
 // The same in the announced format of that number, of any size.

@@ -47,6 +47,16 @@ impl Format {
             unpack_singly(*self, bytes, colours);
         }
     }
+
+    /// Writes the colour of each of sixteen pixels of rgb888, whose bytes stand one after another.
+    #[inline(always)]
+    pub fn unpack_sixteen(bytes: &[u8], colours: &mut [Colour])
+        requires bytes { length bytes.now ≡ 64 }
+        requires colours { length colours.old ≡ 16 }
+        ensures { AreColours rgb888 bytes.now colours.new }
+    {
+        unpack_sixteen_at(bytes, 0, colours);
+    }
 }
 
 // Writes the pixel value of each colour, by one loop for every format. It stands by itself, so that

@@ -86,3 +86,34 @@ fn rows_of_each_length_show_the_colours_of_their_pixels(rt: HostRuntime) {
         }
     }
 }
+
+// Whether sixteen pixels of rgb888, blue first, show the colours of their bytes.
+fn shows_sixteen() -> bool {
+    let mut bytes = [0u8; 64];
+    let mut value: u8 = 11;
+    for byte in bytes.iter_mut() {
+        value = value.wrapping_add(37);
+        *byte = value;
+    }
+    let mut colours = [Colour { r: 7, g: 7, b: 7 }; 16];
+    Format::unpack_sixteen(&bytes, &mut colours);
+    for k in 0..16 {
+        let colour = colours[k];
+        if colour.b != wide(bytes[4 * k])
+            || colour.g != wide(bytes[4 * k + 1])
+            || colour.r != wide(bytes[4 * k + 2])
+        {
+            return false;
+        }
+    }
+    true
+}
+
+fn wide(byte: u8) -> u16 {
+    u16::from(byte) * 257
+}
+
+#[test]
+fn sixteen_pixels_show_the_colours_of_their_bytes(rt: HostRuntime) {
+    assert!(rt; shows_sixteen());
+}
