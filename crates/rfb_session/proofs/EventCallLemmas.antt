@@ -37,17 +37,20 @@ use Rattle.rfb_session.specs.Network.{Network, Steps}
 use Rattle.rfb_session.specs.Told.{refused_as, moved_by, RefusesAs, ComposesAs, TellsAlone}
 use Rattle.rfb_session.specs.World.{Acts, HintsAs, IsDrawing, ComposesNothing, hints_in}
 
--- the event is that call
-pub record IsEventOf (event : Event) (call : Call) : Type 0 where
-  pub steps : (e : Ends) (n m : Network) → StepsByCall n call m → Steps e n event m
-  pub refuses : (n : Network) (refused : Option Refused) →
-      refused ≡ refused_as (refusal_at n.link call) → RefusesAs n event refused
-  pub refused_so : (n : Network) (refused : Refused) → RefusesAs n event (Some refused) →
-      Some refused ≡ refused_as (refusal_at n.link call)
+-- an event that is a call of a viewer
+abbrev pub IsCall : Event → Type 0
+IsCall (Request incremental rect) = Unit
+IsCall (SetFormat format) = Unit
+IsCall (SetEncodings encodings) = Unit
+IsCall (Key down key) = Unit
+IsCall (Pointer buttons x y) = Unit
+IsCall (CutText text) = Unit
+IsCall event = ⊥
+
+-- it moves no bytes, composes nothing and draws nothing
+pub record OnlyCalls (event : Event) : Type 0 where
   pub moves : (e : Ends) (l : LinkState) → 0 ≡ moved_by e l event
   pub composes : (n : Network) (b : Bool) → b ≡ false → ComposesAs n event b
-  pub acts : (old : Link) (told : Told) (new : Link) → CallsOnBytes old call told new →
-      ActsOnBytes old event told new
   pub world_acts : (old : World) (told : Told) (new : World) → new.screen ≡ old.screen →
       ActsOnBytes old.link event told new.link → Acts old event told new
   pub link_acts : (screen : Grid Colour) (old : Link) (told : Told) (new : Link) →
@@ -59,22 +62,23 @@ pub record IsEventOf (event : Event) (call : Call) : Type 0 where
   pub link_hints : (old : Link) (told : Told) (new : Link) →
       session_hints new.session ≡ session_hints old.session → LinkHints old event told new
   pub sole : (old : Link) (d : Delivery) (new : Link) → d.sole ≡ false → SoleAs old event d new
-  pub alone : (link : Link) → refusal_on link event ≡ call_refusal_on link call
   pub no_drawing : IsDrawing event → ⊥
   pub not_lost : (link : Link) → IsLostOn link event → ⊥
   pub moves_some : (link : Link) → MovesNone link event → ⊥
   pub not_composing : (world : World) → ComposesNothing world event → ⊥
   pub not_idle : (screen : Grid Colour) (link : Link) → IsIdleOn screen link event → ⊥
 
-pub request_event : (incremental : Bool) (rect : Rect) → IsEventOf (Request incremental rect)
-    (RequestCall incremental rect)
-request_event incremental rect = record {
-  steps = λ e n m step. step;
-  refuses = λ n refused is. is;
-  refused_so = λ n refused is. is;
+only_calls : (event : Event) → IsCall event → OnlyCalls event
+only_calls (Fill rect colour) is = absurd is
+only_calls (Put x y row) is = absurd is
+only_calls (Copy rect sx sy) is = absurd is
+only_calls (Hint rect sx sy) is = absurd is
+only_calls Compose is = absurd is
+only_calls (ToServer count) is = absurd is
+only_calls (ToViewer count) is = absurd is
+only_calls event is = record {
   moves = λ e l. refl;
-  composes = λ n b is. is;
-  acts = λ old told new calls. calls.sends;
+  composes = λ n b none. none;
   world_acts = λ old told new screens acts. (screens, acts);
   link_acts = λ screen old told new acts. acts;
   tells = λ told tells. tells;
@@ -82,104 +86,74 @@ request_event incremental rect = record {
   world_hints = λ old told new same. same;
   link_hints = λ old told new same. same;
   sole = λ old d new without. without;
-  alone = λ link. refl;
   no_drawing = λ drawing. drawing;
   not_lost = λ link lost. lost;
   moves_some = λ link none. none;
   not_composing = λ world composes. composes;
   not_idle = λ screen link idle. idle;
+}
+
+-- the event is that call
+pub record IsEventOf (event : Event) (call : Call) : Type 0 where
+  pub only : OnlyCalls event
+  pub steps : (e : Ends) (n m : Network) → StepsByCall n call m → Steps e n event m
+  pub refuses : (n : Network) (refused : Option Refused) →
+      refused ≡ refused_as (refusal_at n.link call) → RefusesAs n event refused
+  pub refused_so : (n : Network) (refused : Refused) → RefusesAs n event (Some refused) →
+      Some refused ≡ refused_as (refusal_at n.link call)
+  pub acts : (old : Link) (told : Told) (new : Link) → CallsOnBytes old call told new →
+      ActsOnBytes old event told new
+  pub alone : (link : Link) → refusal_on link event ≡ call_refusal_on link call
+
+pub request_event : (incremental : Bool) (rect : Rect) → IsEventOf (Request incremental rect)
+    (RequestCall incremental rect)
+request_event incremental rect = record {
+  only = only_calls (Request incremental rect) tt;
+  steps = λ e n m step. step;
+  refuses = λ n refused is. is;
+  refused_so = λ n refused is. is;
+  acts = λ old told new calls. calls.sends;
+  alone = λ link. refl;
 }
 
 pub format_event : (format : PixelFormat) → IsEventOf (SetFormat format) (FormatCall format)
 format_event format = record {
+  only = only_calls (SetFormat format) tt;
   steps = λ e n m step. step;
   refuses = λ n refused is. is;
   refused_so = λ n refused is. is;
-  moves = λ e l. refl;
-  composes = λ n b is. is;
   acts = λ old told new calls. calls.sends;
-  world_acts = λ old told new screens acts. (screens, acts);
-  link_acts = λ screen old told new acts. acts;
-  tells = λ told tells. tells;
-  lost = λ old told new. tt;
-  world_hints = λ old told new same. same;
-  link_hints = λ old told new same. same;
-  sole = λ old d new without. without;
   alone = λ link. refl;
-  no_drawing = λ drawing. drawing;
-  not_lost = λ link lost. lost;
-  moves_some = λ link none. none;
-  not_composing = λ world composes. composes;
-  not_idle = λ screen link idle. idle;
 }
 
 pub encodings_event : (list : Bor (ArrayVec Encoding)) → IsEventOf (SetEncodings list.now) (EncodingsCall list)
 encodings_event list = record {
+  only = only_calls (SetEncodings list.now) tt;
   steps = λ e n m step. step;
   refuses = λ n refused is. is;
   refused_so = λ n refused is. is;
-  moves = λ e l. refl;
-  composes = λ n b is. is;
   acts = λ old told new calls. (calls.sends, calls.same refl);
-  world_acts = λ old told new screens acts. (screens, acts);
-  link_acts = λ screen old told new acts. acts;
-  tells = λ told tells. tells;
-  lost = λ old told new. tt;
-  world_hints = λ old told new same. same;
-  link_hints = λ old told new same. same;
-  sole = λ old d new without. without;
   alone = λ link. refl;
-  no_drawing = λ drawing. drawing;
-  not_lost = λ link lost. lost;
-  moves_some = λ link none. none;
-  not_composing = λ world composes. composes;
-  not_idle = λ screen link idle. idle;
 }
 
 pub key_event : (down : Bool) (key : ℕ) → IsEventOf (Key down key) (KeyCall down key)
 key_event down key = record {
+  only = only_calls (Key down key) tt;
   steps = λ e n m step. step;
   refuses = λ n refused is. is;
   refused_so = λ n refused is. is;
-  moves = λ e l. refl;
-  composes = λ n b is. is;
   acts = λ old told new calls. (calls.sends, calls.same refl);
-  world_acts = λ old told new screens acts. (screens, acts);
-  link_acts = λ screen old told new acts. acts;
-  tells = λ told tells. tells;
-  lost = λ old told new. tt;
-  world_hints = λ old told new same. same;
-  link_hints = λ old told new same. same;
-  sole = λ old d new without. without;
   alone = λ link. refl;
-  no_drawing = λ drawing. drawing;
-  not_lost = λ link lost. lost;
-  moves_some = λ link none. none;
-  not_composing = λ world composes. composes;
-  not_idle = λ screen link idle. idle;
 }
 
 pub pointer_event : (buttons x y : ℕ) → IsEventOf (Pointer buttons x y) (PointerCall buttons x y)
 pointer_event buttons x y = record {
+  only = only_calls (Pointer buttons x y) tt;
   steps = λ e n m step. step;
   refuses = λ n refused is. is;
   refused_so = λ n refused is. is;
-  moves = λ e l. refl;
-  composes = λ n b is. is;
   acts = λ old told new calls. (calls.sends, calls.same refl);
-  world_acts = λ old told new screens acts. (screens, acts);
-  link_acts = λ screen old told new acts. acts;
-  tells = λ told tells. tells;
-  lost = λ old told new. tt;
-  world_hints = λ old told new same. same;
-  link_hints = λ old told new same. same;
-  sole = λ old d new without. without;
   alone = λ link. refl;
-  no_drawing = λ drawing. drawing;
-  not_lost = λ link lost. lost;
-  moves_some = λ link none. none;
-  not_composing = λ world composes. composes;
-  not_idle = λ screen link idle. idle;
 }
 
 -- the bytes of a text, of an event that has them
@@ -196,6 +170,7 @@ no_text a is = cc
 pub text_event : (event : Event) (bytes : Bor (List ℕ)) → text_of event ≡ Some bytes.now →
     IsEventOf event (TextCall bytes)
 text_event (CutText text) bytes is = record {
+  only = only_calls (CutText text) tt;
   steps = λ e n m step. (
     step.0,
     step.1 ∙ ap (λ (t : List ℕ). sends n.link (ClientCutText t))
@@ -203,37 +178,12 @@ text_event (CutText text) bytes is = record {
   );
   refuses = λ n refused is. is;
   refused_so = λ n refused is. is;
-  moves = λ e l. refl;
-  composes = λ n b is. is;
   acts = λ old told new calls.
       subst (λ (t : List ℕ). SendsPlain (ClientCutText t) (text_message t) old told new)
       (one_text text.items bytes.now is) (calls.sends, calls.same refl);
-  world_acts = λ old told new screens acts. (screens, acts);
-  link_acts = λ screen old told new acts. acts;
-  tells = λ told tells. tells;
-  lost = λ old told new. tt;
-  world_hints = λ old told new same. same;
-  link_hints = λ old told new same. same;
-  sole = λ old d new without. without;
   alone = λ link. refl;
-  no_drawing = λ drawing. drawing;
-  not_lost = λ link lost. lost;
-  moves_some = λ link none. none;
-  not_composing = λ world composes. composes;
-  not_idle = λ screen link idle. idle;
 }
-text_event (Fill rect colour) bytes is = absurd (no_text bytes.now is)
-text_event (Put x y row) bytes is = absurd (no_text bytes.now is)
-text_event (Copy rect sx sy) bytes is = absurd (no_text bytes.now is)
-text_event (Hint rect sx sy) bytes is = absurd (no_text bytes.now is)
-text_event (Request incremental rect) bytes is = absurd (no_text bytes.now is)
-text_event (SetFormat format) bytes is = absurd (no_text bytes.now is)
-text_event (SetEncodings encodings) bytes is = absurd (no_text bytes.now is)
-text_event (Key down key) bytes is = absurd (no_text bytes.now is)
-text_event (Pointer buttons x y) bytes is = absurd (no_text bytes.now is)
-text_event Compose bytes is = absurd (no_text bytes.now is)
-text_event (ToServer count) bytes is = absurd (no_text bytes.now is)
-text_event (ToViewer count) bytes is = absurd (no_text bytes.now is)
+text_event event bytes is = absurd (no_text bytes.now is)
 
 -- ---- what a call does, as what the event does
 
@@ -245,9 +195,9 @@ does_event event call old told new of tells does = λ e n made reached stands.
       one.0,
       of.steps e n one.0 one.1,
       record {
-        moved = tells.0 ∙ of.moves e n.link;
+        moved = tells.0 ∙ of.only.moves e n.link;
         refused = of.refuses n told.refused one.2;
-        composed = of.composes n told.composed tells.1;
+        composed = of.only.composes n told.composed tells.1;
       },
       one.1.0,
       one.3,

@@ -74,10 +74,10 @@ call_happens old new event this call (Ok told) is of does bytes tells hints scre
     (record {
       does = link_does old new this told (does_event this call old.link told new.link of tells does)
           screens closed;
-      acts = of.world_acts old told new screens (of.acts old.link told new.link bytes);
-      tells = of.tells told tells;
-      lost = record { link = of.lost old.link told new.link; closed = closed };
-      hints = of.world_hints old told new hints;
+      acts = of.only.world_acts old told new screens (of.acts old.link told new.link bytes);
+      tells = of.only.tells told tells;
+      lost = record { link = of.only.lost old.link told new.link; closed = closed };
+      hints = of.only.world_hints old told new hints;
     })
 call_happens old new event this call (Err error) is of does bytes tells hints screens closed = tt
 
@@ -123,10 +123,10 @@ pub call_is_sure : (world : World) (event this : Event) (call : Call)
     (result : Result Told NoMemory) → event ≡ this → IsEventOf this call →
     (IsRefusedCall world.link call → IsOk result) → TakesNoMemory world event → IsOk result
 call_is_sure world event this call result is of spared =
-    is_sure world event this result is (λ drawing. absurd (of.no_drawing drawing))
+    is_sure world event this result is (λ drawing. absurd (of.only.no_drawing drawing))
     (λ refused. spared (refused_event this call world.link of
     (refused.0, refused.1, refused.2, refused.3, refused.4.link_is, refused.5)))
-    (λ lost. absurd (of.not_lost world.link lost)) (λ none. absurd (of.not_composing world none))
+    (λ lost. absurd (of.only.not_lost world.link lost)) (λ none. absurd (of.only.not_composing world none))
 
 -- where a world composes nothing, its link composes nothing over its screen
 pub nothing_over : (world : World) → ComposesNothing world Compose → ComposesNothingOver world.screen world.link

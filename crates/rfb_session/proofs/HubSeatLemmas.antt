@@ -62,10 +62,10 @@ pub seat_called : (screen : Grid Colour) (old : HubSeat) (event this : SlotEvent
 seat_called screen old event this call told d new is of same without bytes does tells hints kept =
     let ev = event_of this in
     seat_happens screen old event this told d new is same
-    (of.link_acts screen old.link told new (of.acts old.link told new bytes)) (of.tells told tells)
+    (of.only.link_acts screen old.link told new (of.acts old.link told new bytes)) (of.only.tells told tells)
     (over screen old.link ev told new (does_event ev call old.link told new of tells does))
-    (of.lost old.link told new) (of.link_hints old.link told new hints)
-    (of.sole old.link d new without) (not_sole d told without) kept
+    (of.only.lost old.link told new) (of.only.link_hints old.link told new hints)
+    (of.only.sole old.link d new without) (not_sole d told without) kept
 
 pub not_refused : (told : Told) (new old : Link) → told.refused ≡ None → told.refused ≢ None → new ≡ old
 not_refused told new old none some = absurd (some none)
