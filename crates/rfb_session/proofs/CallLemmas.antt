@@ -23,6 +23,7 @@ use Rattle.rfb_session.proofs.QueueLemmas.{IsMere, form_after, form_append, mere
 use Rattle.rfb_session.proofs.QueueLemmas.{later_more, ask_more, asks_now}
 use Rattle.rfb_session.proofs.PhaseLemmas.{Core, core, Phase, Greeting, Versioned, Typed, Choosing37, Choosing38}
 use Rattle.rfb_session.proofs.PhaseLemmas.{Chosen, Sharing, Begun, Named, Idling, Asking, Held, Sent, meets_as}
+use Rattle.rfb_session.proofs.PhaseLemmas.{Meets, Idles, Asks, Awaits, Sends}
 use Rattle.rfb_session.proofs.HoldsLemmas.{Holds, due}
 
 -- a message joins those in flight to the server
@@ -31,6 +32,26 @@ sent c v message = record c { viewer = v; to_server = c.to_server ++ Second mess
 
 some_none : {A : Type 0} (x : A) → Some x ≡ None → ⊥
 some_none x e = cc
+
+-- a link whose viewer is past the handshake is in one of four phases
+past_handshake : {G : Type 0} (e : Ends) (c : Core) → ((vp : ServerPoint) → c.viewer.point ≡ First vp → ⊥) →
+    ((p : UpdatePoint) → Meets e c p → Idles c p → G) →
+    ((p : UpdatePoint) → Meets e c p → Asks c p → G) →
+    ((p : UpdatePoint) → Meets e c p → Awaits c p → G) →
+    ((p : UpdatePoint) → Meets e c p → Sends c p → G) → Phase e c → G
+past_handshake e c past idles asks awaits sends (Greeting s) = absurd (past _ s.viewer_at)
+past_handshake e c past idles asks awaits sends (Versioned v s) = absurd (past _ s.viewer_at)
+past_handshake e c past idles asks awaits sends (Typed v s) = absurd (past _ s.viewer_at)
+past_handshake e c past idles asks awaits sends (Choosing37 s) = absurd (past _ s.viewer_at)
+past_handshake e c past idles asks awaits sends (Choosing38 s) = absurd (past _ s.viewer_at)
+past_handshake e c past idles asks awaits sends (Chosen s) = absurd (past _ s.viewer_at)
+past_handshake e c past idles asks awaits sends (Sharing v s) = absurd (past _ s.viewer_at)
+past_handshake e c past idles asks awaits sends (Begun v s) = absurd (past _ s.viewer_at)
+past_handshake e c past idles asks awaits sends (Named v n text s h) = absurd (past _ s.viewer_at)
+past_handshake e c past idles asks awaits sends (Idling p m s) = idles p m s
+past_handshake e c past idles asks awaits sends (Asking p m s) = asks p m s
+past_handshake e c past idles asks awaits sends (Held p m s) = awaits p m s
+past_handshake e c past idles asks awaits sends (Sent p m s) = sends p m s
 
 -- ---- a message that is neither a request nor a format
 
@@ -48,19 +69,9 @@ later_form form items message mere =
 
 phase_mere : (e : Ends) (c : Core) (message : ClientMessage) → Phase e c → IsMere (Second message) →
     call_refusal c.viewer ≡ None → Phase e (sent c c.viewer message)
-phase_mere e c message (Greeting s) mere open_now = absurd (not_ready c _ s.viewer_at open_now)
-phase_mere e c message (Versioned v s) mere open_now = absurd (not_ready c _ s.viewer_at open_now)
-phase_mere e c message (Typed v s) mere open_now = absurd (not_ready c _ s.viewer_at open_now)
-phase_mere e c message (Choosing37 s) mere open_now = absurd (not_ready c _ s.viewer_at open_now)
-phase_mere e c message (Choosing38 s) mere open_now = absurd (not_ready c _ s.viewer_at open_now)
-phase_mere e c message (Chosen s) mere open_now = absurd (not_ready c _ s.viewer_at open_now)
-phase_mere e c message (Sharing v s) mere open_now = absurd (not_ready c _ s.viewer_at open_now)
-phase_mere e c message (Begun v s) mere open_now = absurd (not_ready c _ s.viewer_at open_now)
-phase_mere e c message (Named v n text s h) mere open_now =
-    absurd (not_ready c _ s.viewer_at open_now)
-phase_mere e c message (Idling p m s) mere open_now =
-    Idling p (meets_as e c (sent c c.viewer message) p p m m.session_at m.viewer_at refl refl refl)
-    (record {
+phase_mere e c message phase mere open_now =
+    past_handshake e c (λ vp at. not_ready c vp at open_now)
+    (λ p m s. Idling p (meets p m) (record {
       quiet =
           s.quiet;
       none = s.none;
@@ -68,10 +79,8 @@ phase_mere e c message (Idling p m s) mere open_now =
       unasked = s.unasked;
       later = later_more c.to_server (Second message) s.later (mere_later (Second message) mere);
       formed = later_form c.session.form c.to_server message mere ∙ s.formed;
-    })
-phase_mere e c message (Asking p m s) mere open_now =
-    Asking p (meets_as e c (sent c c.viewer message) p p m m.session_at m.viewer_at refl refl refl)
-    (record {
+    }))
+    (λ p m s. Asking p (meets p m) (record {
       busy =
           s.busy;
       none = s.none;
@@ -79,127 +88,82 @@ phase_mere e c message (Asking p m s) mere open_now =
       unasked = s.unasked;
       once = ask_more c.to_server (Second message) s.once mere;
       formed = later_form c.session.form c.to_server message mere ∙ s.formed;
-    })
-phase_mere e c message (Held p m s) mere open_now =
-    Held p (meets_as e c (sent c c.viewer message) p p m m.session_at m.viewer_at refl refl refl)
-    (record {
+    }))
+    (λ p m s. Held p (meets p m) (record {
       busy =
           s.busy;
       none = s.none;
       between = s.between;
       mere = mere_more c.to_server (Second message) s.mere mere;
       formed = s.formed;
-    })
-phase_mere e c message (Sent p m s) mere open_now =
-    Sent p (meets_as e c (sent c c.viewer message) p p m m.session_at m.viewer_at refl refl refl)
-    (record {
+    }))
+    (λ p m s. Sent p (meets p m) (record {
       busy =
           s.busy;
       unasked = s.unasked;
       mere = mere_more c.to_server (Second message) s.mere mere;
       formed = s.formed;
       rest = s.rest;
-    })
+    })) phase
+  where
+    meets : (p : UpdatePoint) → Meets e c p → Meets e (sent c c.viewer message) p
+    meets p m = meets_as e c (sent c c.viewer message) p p m m.session_at m.viewer_at refl refl refl
 
--- ---- a request
+-- ---- a request or a format
 
--- where it is taken, nobody has another
+-- what is refused in the handshake, and while a request is outstanding, is taken where nobody has one
+taken_idle : (e : Ends) (c d : Core) (refused : ServerAt → Bool → Option CallFault) →
+    ((vp : ServerPoint) → refused (First vp) c.viewer.outstanding ≡ Some NotReady) →
+    ((p : UpdatePoint) → refused (Second p) true ≡ Some Busy) →
+    refused c.viewer.point c.viewer.outstanding ≡ None →
+    ((p : UpdatePoint) → Meets e c p → Idles c p → Phase e d) → Phase e c → (c.to_viewer ≡ []) × Phase e d
+taken_idle e c d refused early busy open_now goes phase =
+    past_handshake e c
+    (λ vp at. some_none NotReady
+    (sym (ap (λ (p : ServerAt). refused p c.viewer.outstanding) at ∙ early vp) ∙ open_now))
+    (λ p m s. (s.none, goes p m s)) (λ p m s. absurd (busy_now p m.viewer_at s.busy))
+    (λ p m s. absurd (busy_now p m.viewer_at s.busy)) (λ p m s. absurd (busy_now p m.viewer_at s.busy)) phase
+  where
+    busy_now : (p : UpdatePoint) → c.viewer.point ≡ Second p → c.viewer.outstanding ≡ true → ⊥
+    busy_now p at outstanding =
+        some_none Busy
+        (sym (ap (λ (q : ServerAt). refused q c.viewer.outstanding) at
+        ∙ ap (λ (b : Bool). refused (Second p) b) outstanding ∙ busy p) ∙ open_now)
+
 pub phase_request : (e : Ends) (c : Core) (incremental : Bool) (rect : Rect) → Phase e c →
     request_refusal c.viewer rect ≡ None → (c.to_viewer ≡ [])
     × Phase e (sent c (requested c.viewer) (FramebufferUpdateRequest incremental rect))
-phase_request e c incremental rect phase open_now = by phase
-  where
-    early : (vp : ServerPoint) → c.viewer.point ≡ First vp → ⊥
-    early vp at =
-        some_none NotReady
-        (sym (ap (λ (p : ServerAt). request_refused p c.viewer.outstanding rect) at) ∙ open_now)
-
-    busy_now : (p : UpdatePoint) → c.viewer.point ≡ Second p → c.viewer.outstanding ≡ true → ⊥
-    busy_now p at busy =
-        some_none Busy
-        (sym (ap (λ (q : ServerAt). request_refused q c.viewer.outstanding rect) at
-        ∙ ap (λ (b : Bool). request_refused (Second p) b rect) busy) ∙ open_now)
-
-    by : Phase e c → (c.to_viewer ≡ [])
-        × Phase e (sent c (requested c.viewer) (FramebufferUpdateRequest incremental rect))
-    by (Greeting s) = absurd (early _ s.viewer_at)
-    by (Versioned v s) = absurd (early _ s.viewer_at)
-    by (Typed v s) = absurd (early _ s.viewer_at)
-    by (Choosing37 s) = absurd (early _ s.viewer_at)
-    by (Choosing38 s) = absurd (early _ s.viewer_at)
-    by (Chosen s) = absurd (early _ s.viewer_at)
-    by (Sharing v s) = absurd (early _ s.viewer_at)
-    by (Begun v s) = absurd (early _ s.viewer_at)
-    by (Named v n text s h) = absurd (early _ s.viewer_at)
-    by (Idling p m s) = (
-      s.none,
-      Asking p (meets_as e c
-          (sent c (requested c.viewer)
-          (FramebufferUpdateRequest incremental rect))
-          p p m m.session_at m.viewer_at refl refl refl)
-          (record {
-            busy =
-                refl;
-            none = s.none;
-            between = s.between;
-            unasked = s.unasked;
-            once = asks_now c.to_server incremental rect s.later;
-            formed = form_append c.session.form c.to_server
-                (Second (FramebufferUpdateRequest incremental rect)) ∙ s.formed;
-          }),
-    )
-    by (Asking p m s) = absurd (busy_now p m.viewer_at s.busy)
-    by (Held p m s) = absurd (busy_now p m.viewer_at s.busy)
-    by (Sent p m s) = absurd (busy_now p m.viewer_at s.busy)
-
--- ---- a format
+phase_request e c incremental rect phase open_now =
+    let now = sent c (requested c.viewer) (FramebufferUpdateRequest incremental rect) in
+    taken_idle e c now (λ at outstanding. request_refused at outstanding rect) (λ vp. refl) (λ p. refl) open_now
+    (λ p m s. Asking p (meets_as e c now p p m m.session_at m.viewer_at refl refl refl) (record {
+      busy =
+          refl;
+      none = s.none;
+      between = s.between;
+      unasked = s.unasked;
+      once = asks_now c.to_server incremental rect s.later;
+      formed = form_append c.session.form c.to_server
+          (Second (FramebufferUpdateRequest incremental rect)) ∙ s.formed;
+    })) phase
 
 pub phase_format : (e : Ends) (c : Core) (form : PixelFormat) (prefix : List ℕ) → Phase e c →
     format_refusal c.viewer prefix ≡ None → (c.to_viewer ≡ [])
     × Phase e (sent c (formatted form c.viewer) (SetPixelFormat form))
-phase_format e c form prefix phase open_now = by phase
-  where
-    early : (vp : ServerPoint) → c.viewer.point ≡ First vp → ⊥
-    early vp at =
-        some_none NotReady
-        (sym (ap (λ (p : ServerAt). format_refused p c.viewer.outstanding prefix) at) ∙ open_now)
-
-    busy_now : (p : UpdatePoint) → c.viewer.point ≡ Second p → c.viewer.outstanding ≡ true → ⊥
-    busy_now p at busy =
-        some_none Busy
-        (sym (ap (λ (q : ServerAt). format_refused q c.viewer.outstanding prefix) at
-        ∙ ap (λ (b : Bool). format_refused (Second p) b prefix) busy) ∙ open_now)
-
-    by : Phase e c → (c.to_viewer ≡ [])
-        × Phase e (sent c (formatted form c.viewer) (SetPixelFormat form))
-    by (Greeting s) = absurd (early _ s.viewer_at)
-    by (Versioned v s) = absurd (early _ s.viewer_at)
-    by (Typed v s) = absurd (early _ s.viewer_at)
-    by (Choosing37 s) = absurd (early _ s.viewer_at)
-    by (Choosing38 s) = absurd (early _ s.viewer_at)
-    by (Chosen s) = absurd (early _ s.viewer_at)
-    by (Sharing v s) = absurd (early _ s.viewer_at)
-    by (Begun v s) = absurd (early _ s.viewer_at)
-    by (Named v n text s h) = absurd (early _ s.viewer_at)
-    by (Idling p m s) = (
-      s.none,
-      Idling (record p { form = form })
-          (meets_as e c (sent c (formatted form c.viewer) (SetPixelFormat form)) p
-          (record p { form = form }) m m.session_at
-          (ap (λ (q : ServerAt). with_format form q) m.viewer_at) refl refl refl)
-          (record {
-            quiet =
-                s.quiet;
-            none = s.none;
-            between = s.between;
-            unasked = s.unasked;
-            later = later_more c.to_server (Second (SetPixelFormat form)) s.later tt;
-            formed = form_append c.session.form c.to_server (Second (SetPixelFormat form));
-          }),
-    )
-    by (Asking p m s) = absurd (busy_now p m.viewer_at s.busy)
-    by (Held p m s) = absurd (busy_now p m.viewer_at s.busy)
-    by (Sent p m s) = absurd (busy_now p m.viewer_at s.busy)
+phase_format e c form prefix phase open_now =
+    let now = sent c (formatted form c.viewer) (SetPixelFormat form) in
+    taken_idle e c now (λ at outstanding. format_refused at outstanding prefix) (λ vp. refl) (λ p. refl) open_now
+    (λ p m s. Idling (record p { form = form })
+    (meets_as e c now p (record p { form = form }) m m.session_at
+    (ap (λ (q : ServerAt). with_format form q) m.viewer_at) refl refl refl) (record {
+      quiet =
+          s.quiet;
+      none = s.none;
+      between = s.between;
+      unasked = s.unasked;
+      later = later_more c.to_server (Second (SetPixelFormat form)) s.later tt;
+      formed = form_append c.session.form c.to_server (Second (SetPixelFormat form));
+    })) phase
 
 -- ---- what holds
 

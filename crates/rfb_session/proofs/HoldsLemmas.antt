@@ -62,6 +62,14 @@ holds_shown e screen c item rest h queue =
       latest = subst (λ (d : Option (Grid Colour)). ShowsLatest c.latest d) same h.latest;
     }
 
+-- queues that are the same
+same_queues : (e : Ends) (screen : Grid Colour) (c : Core) (to_server : List FromClient) (to_viewer : List FromServer) →
+    c.to_server ≡ to_server → c.to_viewer ≡ to_viewer → Holds e screen c →
+    Holds e screen (record c { to_server = to_server; to_viewer = to_viewer })
+same_queues e screen c to_server to_viewer sends gets h =
+    subst (λ (q : List FromServer). Holds e screen (record c { to_server = to_server; to_viewer = q })) gets
+    (subst (λ (q : List FromClient). Holds e screen (record c { to_server = q })) sends h)
+
 abbrev all_shown : Ends → Core → List FromServer → List FromServer → Core
 all_shown e c done left = record c {
   viewer = acts (viewer e.viewing) c.viewer done;
@@ -72,10 +80,7 @@ all_shown e c done left = record c {
 pub holds_all_shown : (e : Ends) (screen : Grid Colour) (c : Core) (done left : List FromServer) →
     Holds e screen c → c.to_viewer ≡ done ++ left → Holds e screen (all_shown e c done left)
 holds_all_shown e screen c [] left h queue =
-    subst (λ (q : List FromServer). Holds e screen
-    (record c { to_viewer = q; to_server = c.to_server ++ [] })) queue
-    (subst (λ (q : List FromClient). Holds e screen (record c { to_server = q }))
-    (sym (append-nil c.to_server)) h)
+    same_queues e screen c (c.to_server ++ []) left (sym (append-nil c.to_server)) queue h
 holds_all_shown e screen c (item ∷ done) left h queue =
     let one = holds_shown e screen c item (done ++ left) h queue in
     let others = holds_all_shown e screen (shown e c item (done ++ left)) done left one refl in
@@ -144,44 +149,43 @@ early_or_ready e c (Asking p m s) = inr m.session_at
 early_or_ready e c (Held p m s) = inr m.session_at
 early_or_ready e c (Sent p m s) = inr m.session_at
 
+-- what the viewer is to show is known, and composed, of a served item too
+shows_served : (e : Ends) (screen : Grid Colour) (c : Core) (item : FromClient)
+    (rest : List FromClient) → Holds e screen c →
+    (IsUnknown c.session.known × (c.latest ≡ None)) ⊎ (c.session.point ≡ Second tt) →
+    ShowsKnown (item_acts (server_of screen c.session) item).form
+    (item_acts (server_of screen c.session) item).known (due e (served e screen c item rest))
+    × ShowsLatest c.latest (due e (served e screen c item rest))
+shows_served e screen c item rest h (inl (unknown, none_yet)) = (
+  unknown_shows (item_acts (server_of screen c.session) item).form
+      (item_acts (server_of screen c.session) item).known
+      (due e (served e screen c item rest)) (unknown_served screen c.session item unknown),
+  subst (λ (o : Option Composing). ShowsLatest o (due e (served e screen c item rest))) (sym none_yet) tt,
+)
+shows_served e screen c item rest h (inr at) =
+    let same : due e c ≡ due e (served e screen c item rest) =
+    ap (λ (q : List FromServer). (acts (viewer e.viewing) c.viewer q).picture)
+    (sym (no_answer e c item at)) in (
+      known_served screen c.session item (due e (served e screen c item rest))
+          (subst (λ (d : Option (Grid Colour)). ShowsKnown c.session.form c.session.known d) same h.known),
+      subst (λ (d : Option (Grid Colour)). ShowsLatest c.latest d) same h.latest,
+    )
+
 pub holds_served : (e : Ends) (screen : Grid Colour) (c : Core) (item : FromClient)
     (rest : List FromClient) → Holds e screen c → c.to_server ≡ item ∷ rest →
     Holds e screen (served e screen c item rest)
-holds_served e screen c item rest h queue = by (early_or_ready e c h.phase)
-  where
-    by : (IsUnknown c.session.known × (c.latest ≡ None)) ⊎ (c.session.point ≡ Second tt) →
-        Holds e screen (served e screen c item rest)
-    by (inl (unknown, none_yet)) =
-        let sizes = size_served screen c.session item in
-        record {
-          wide = h.wide;
-          high = h.high;
-          known_wide = sizes.0 ∙ h.known_wide;
-          known_high = sizes.1 ∙ h.known_high;
-          phase = phase_served e screen c item rest h.phase queue;
-          known = unknown_shows (item_acts (server_of screen c.session) item).form
-              (item_acts (server_of screen c.session) item).known
-              (due e (served e screen c item rest)) (unknown_served screen c.session item unknown);
-          latest = subst
-              (λ (o : Option Composing). ShowsLatest o (due e (served e screen c item rest)))
-              (sym none_yet) tt;
-        }
-    by (inr at) =
-        let sizes = size_served screen c.session item in
-        let same : due e c ≡ due e (served e screen c item rest) =
-        ap (λ (q : List FromServer). (acts (viewer e.viewing) c.viewer q).picture)
-        (sym (no_answer e c item at)) in
-        record {
-          wide = h.wide;
-          high = h.high;
-          known_wide = sizes.0 ∙ h.known_wide;
-          known_high = sizes.1 ∙ h.known_high;
-          phase = phase_served e screen c item rest h.phase queue;
-          known = known_served screen c.session item (due e (served e screen c item rest))
-              (subst (λ (d : Option
-              (Grid Colour)). ShowsKnown c.session.form c.session.known d) same h.known);
-          latest = subst (λ (d : Option (Grid Colour)). ShowsLatest c.latest d) same h.latest;
-        }
+holds_served e screen c item rest h queue =
+    let sizes = size_served screen c.session item in
+    let shows = shows_served e screen c item rest h (early_or_ready e c h.phase) in
+    record {
+      wide = h.wide;
+      high = h.high;
+      known_wide = sizes.0 ∙ h.known_wide;
+      known_high = sizes.1 ∙ h.known_high;
+      phase = phase_served e screen c item rest h.phase queue;
+      known = shows.0;
+      latest = shows.1;
+    }
 
 -- the screen stays what it was
 pub kept_screen : (serving : Serving) (screen : Grid Colour) (s : SessionState)
@@ -207,10 +211,7 @@ pub holds_all_served : (e : Ends) (screen : Grid Colour) (c : Core) (done left :
     Holds e screen c → c.to_server ≡ done ++ left →
     Holds e screen (all_served e c (server_of screen c.session) done c.to_viewer left)
 holds_all_served e screen c [] left h queue =
-    subst (λ (q : List FromClient). Holds e screen
-    (record c { to_server = q; to_viewer = c.to_viewer ++ [] })) queue
-    (subst (λ (q : List FromServer). Holds e screen (record c { to_viewer = q }))
-    (sym (append-nil c.to_viewer)) h)
+    same_queues e screen c left (c.to_viewer ++ []) queue (sym (append-nil c.to_viewer)) h
 holds_all_served e screen c (item ∷ done) left h queue =
     let one = holds_served e screen c item (done ++ left) h queue in
     let others =

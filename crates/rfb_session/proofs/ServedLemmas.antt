@@ -102,80 +102,21 @@ idles_served : (e : Ends) (screen : Grid Colour) (c : Core) (p : UpdatePoint)
     (message : ClientMessage) (rest : List FromClient) → Idles c p →
     AreLater (Second message ∷ rest) → form_after c.session.form (Second message ∷ rest) ≡ p.form →
     c.session.point ≡ Second tt → Idles (served e screen c (Second message) rest) p
-idles_served e screen c p (SetPixelFormat form) rest i later formed at =
-    record {
-      quiet = i.quiet;
-      none = no_answer e c (Second (SetPixelFormat form)) at ∙ i.none;
-      between = i.between;
-      unasked = i.unasked;
-      later = later.1;
-      formed = formed;
-    }
-idles_served e screen c p (SetEncodings numbers) rest i later formed at =
-    record {
-      quiet = i.quiet;
-      none = no_answer e c (Second (SetEncodings numbers)) at ∙ i.none;
-      between = i.between;
-      unasked = i.unasked;
-      later = later.1;
-      formed = formed;
-    }
 idles_served e screen c p (FramebufferUpdateRequest incremental rect) rest i later formed at =
     absurd later.0
-idles_served e screen c p (KeyEvent down key) rest i later formed at =
-    record {
-      quiet = i.quiet;
-      none = no_answer e c (Second (KeyEvent down key)) at ∙ i.none;
-      between = i.between;
-      unasked = i.unasked;
-      later = later.1;
-      formed = formed;
-    }
-idles_served e screen c p (PointerEvent buttons x y) rest i later formed at =
-    record {
-      quiet = i.quiet;
-      none = no_answer e c (Second (PointerEvent buttons x y)) at ∙ i.none;
-      between = i.between;
-      unasked = i.unasked;
-      later = later.1;
-      formed = formed;
-    }
-idles_served e screen c p (ClientCutText text) rest i later formed at =
-    record {
-      quiet = i.quiet;
-      none = no_answer e c (Second (ClientCutText text)) at ∙ i.none;
-      between = i.between;
-      unasked = i.unasked;
-      later = later.1;
-      formed = formed;
-    }
+idles_served e screen c p message rest i later formed at = record {
+  quiet = i.quiet;
+  none = no_answer e c (Second message) at ∙ i.none;
+  between = i.between;
+  unasked = i.unasked;
+  later = later.1;
+  formed = formed;
+}
 
 asks_served : (e : Ends) (screen : Grid Colour) (c : Core) (p : UpdatePoint)
     (message : ClientMessage) (rest : List FromClient) → Meets e c p → Asks c p →
     AskOnce (Second message ∷ rest) → form_after c.session.form (Second message ∷ rest) ≡ p.form →
     Phase e (served e screen c (Second message) rest)
-asks_served e screen c p (SetPixelFormat form) rest m i once formed =
-    Asking p (served_after e screen c p (SetPixelFormat form) rest m)
-    (record {
-      busy = i.busy;
-      none = no_answer e c (Second (SetPixelFormat form)) m.session_at
-          ∙ i.none;
-      between = i.between;
-      unasked = i.unasked;
-      once = once;
-      formed = formed;
-    })
-asks_served e screen c p (SetEncodings numbers) rest m i once formed =
-    Asking p (served_after e screen c p (SetEncodings numbers) rest m)
-    (record {
-      busy = i.busy;
-      none = no_answer e c (Second (SetEncodings numbers)) m.session_at
-          ∙ i.none;
-      between = i.between;
-      unasked = i.unasked;
-      once = once;
-      formed = formed;
-    })
 asks_served e screen c p (FramebufferUpdateRequest incremental rect) rest m i once formed =
     Held p (served_after e screen c p (FramebufferUpdateRequest incremental rect) rest m)
     (record {
@@ -186,34 +127,11 @@ asks_served e screen c p (FramebufferUpdateRequest incremental rect) rest m i on
       mere = once;
       formed = sym (mere_forms c.session.form rest once) ∙ formed;
     })
-asks_served e screen c p (KeyEvent down key) rest m i once formed =
-    Asking p (served_after e screen c p (KeyEvent down key) rest m)
+asks_served e screen c p message rest m i once formed =
+    Asking p (served_after e screen c p message rest m)
     (record {
       busy = i.busy;
-      none = no_answer e c (Second (KeyEvent down key)) m.session_at
-          ∙ i.none;
-      between = i.between;
-      unasked = i.unasked;
-      once = once;
-      formed = formed;
-    })
-asks_served e screen c p (PointerEvent buttons x y) rest m i once formed =
-    Asking p (served_after e screen c p (PointerEvent buttons x y) rest m)
-    (record {
-      busy = i.busy;
-      none = no_answer e c (Second (PointerEvent buttons x y)) m.session_at
-          ∙ i.none;
-      between = i.between;
-      unasked = i.unasked;
-      once = once;
-      formed = formed;
-    })
-asks_served e screen c p (ClientCutText text) rest m i once formed =
-    Asking p (served_after e screen c p (ClientCutText text) rest m)
-    (record {
-      busy = i.busy;
-      none = no_answer e c (Second (ClientCutText text)) m.session_at
-          ∙ i.none;
+      none = no_answer e c (Second message) m.session_at ∙ i.none;
       between = i.between;
       unasked = i.unasked;
       once = once;
@@ -225,11 +143,8 @@ mere_served : (e : Ends) (screen : Grid Colour) (s : SessionState) (message : Cl
     IsMere (Second message) → ((message_acts (server_of screen s) message).form ≡ s.form)
     × ((message_acts (server_of screen s) message).area ≡ s.area)
 mere_served e screen s (SetPixelFormat form) mere = absurd mere
-mere_served e screen s (SetEncodings numbers) mere = (refl, refl)
 mere_served e screen s (FramebufferUpdateRequest incremental rect) mere = absurd mere
-mere_served e screen s (KeyEvent down key) mere = (refl, refl)
-mere_served e screen s (PointerEvent buttons x y) mere = (refl, refl)
-mere_served e screen s (ClientCutText text) mere = (refl, refl)
+mere_served e screen s message mere = (refl, refl)
 
 held_served : (e : Ends) (screen : Grid Colour) (c : Core) (p : UpdatePoint)
     (message : ClientMessage) (rest : List FromClient) → Meets e c p → Awaits c p →

@@ -188,35 +188,32 @@ module _ {C D : Type 0} (t : Telling C D) (old mid opened new : C)
   goes_turned : Goes t.steps t.opens t.declines opened (all_told turns.events) new
   goes_turned = goes_runs t.steps t.opens t.declines opened new turns.events turns.runs
 
+  -- no door has opened: what stood there stands there still
+  tenants_kept : (more : List Happening) → Goes t.steps t.opens t.declines mid more new →
+      ((d : ℕ) → IsKept d more) → events_in more ≡ events_in (all_told turns.events) → opening ≡ before →
+      HasTenants t old new doors shut
+  tenants_kept more goes kept events same = record {
+    happenings = life.happenings ++ more;
+    goes = goes_then t.steps t.opens t.declines old mid new life.happenings more life.goes goes;
+    tenants = λ d z is.
+        let stands = stands_before d z is in
+        longer t d old mid new doors life.happenings more stands.0 z goes (kept d)
+        (subst (λ (l : List Event). Says t d stands.0 z l) (sym events) stands.2)
+        (life.tenants d stands.0 (ap (λ (l : List (Place D)). slice_get l d) (sym same) ∙ stands.1));
+  }
+
   -- none came
   tenants_not : (opened ≡ mid) × (opening ≡ before) → HasTenants t old new doors shut
   tenants_not same =
       let more = all_told turns.events in
-      let goes = subst (λ (core : C). Goes t.steps t.opens t.declines core more new) same.0 goes_turned in
-      record {
-        happenings = life.happenings ++ more;
-        goes = goes_then t.steps t.opens t.declines old mid new life.happenings more life.goes goes;
-        tenants = λ d z is.
-            let stands = stands_before d z is in
-            longer t d old mid new doors life.happenings more stands.0 z goes (kept_told d turns.events)
-            stands.2
-            (life.tenants d stands.0 (ap (λ (l : List (Place D)). slice_get l d) (sym same.1) ∙ stands.1));
-      }
+      tenants_kept more (subst (λ (core : C). Goes t.steps t.opens t.declines core more new) same.0 goes_turned)
+      (λ d. kept_told d turns.events) refl same.1
 
   -- one was turned away
   tenants_away : TurnsAway t.declines mid opened before opening → HasTenants t old new doors shut
   tenants_away away =
-      let more = Declined away.from ∷ all_told turns.events in
-      let goes : Goes t.steps t.opens t.declines mid more new = (opened, away.declined, goes_turned) in
-      record {
-        happenings = life.happenings ++ more;
-        goes = goes_then t.steps t.opens t.declines old mid new life.happenings more life.goes goes;
-        tenants = λ d z is.
-            let stands = stands_before d z is in
-            longer t d old mid new doors life.happenings more stands.0 z goes (kept_told d turns.events)
-            stands.2
-            (life.tenants d stands.0 (ap (λ (l : List (Place D)). slice_get l d) (sym away.same) ∙ stands.1));
-      }
+      tenants_kept (Declined away.from ∷ all_told turns.events) (opened, away.declined, goes_turned)
+      (λ d. kept_told d turns.events) refl away.same
 
   -- one was let in
   tenants_at : OpensAt t.opens t.fresh mid opened before opening → HasTenants t old new doors shut
