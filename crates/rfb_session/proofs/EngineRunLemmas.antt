@@ -66,7 +66,7 @@ module _ {V C S P I F E A : Type 0} where
       (d.updates step) (updates_append d before more)
 
   -- no step
-  pub ran_none : (d : Driven V C S P I F E A) (end : V) → RunsOn d end [] [] 0 end
+  unfoldable pub ran_none : (d : Driven V C S P I F E A) (end : V) → RunsOn d end [] [] 0 end
   ran_none d end = λ made s prefix stands. record {
     steps = [];
     state = s;
@@ -111,7 +111,7 @@ module _ {V C S P I F E A : Type 0} where
       (sent ++ more_sent) n m (n + m) refl refl refl a (two made a.state a.rest a.stands)
 
   -- a call that fed the end
-  pub ran_fed : (d : Driven V C S P I F E A) (old new : V) (bytes : List ℕ) (event : Option E) →
+  unfoldable pub ran_fed : (d : Driven V C S P I F E A) (old new : V) (bytes : List ℕ) (event : Option E) →
       ((made : C) → FedBy (d.machine made) (d.stands made) old bytes event new) →
       RunsOn d old bytes (d.sends (Fed bytes event)) (d.updates (Fed bytes event)) new
   ran_fed d old new bytes event fed = λ made s prefix stands.

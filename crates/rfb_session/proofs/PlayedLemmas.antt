@@ -1,7 +1,7 @@
 -- A world that makes its ends itself needs no premise of them.
 use Rattle.std.proofs.Common.{ℕ, ◌*◌, ◌≤◌, List, [], refl, arith}
 use Rattle.std.proofs.lemmas.Nat.{mul-le}
-use Rattle.rfb_pixel.specs.Format.{IsFormat, rgb888}
+use Rattle.rfb_pixel.proofs.FormatLaws.{rgb888-is_format}
 use Rattle.rfb_picture.specs.Grid.{uniform}
 use Rattle.rfb_server.specs.declared.server.Server.{Server}
 use Rattle.rfb_server.specs.Server.{black, first_server}
@@ -18,18 +18,6 @@ use Rattle.rfb_session.specs.Played.{ends_for, Played}
 use Rattle.rfb_session.proofs.NetworkLemmas.{first_reached}
 use Rattle.rfb_session.proofs.SizeLemmas.{width-uniform, height-uniform}
 
-rgb888_made : IsFormat rgb888
-rgb888_made = record {
-  whole = refl;
-  deep = omega arith;
-  red = (omega arith, omega arith, omega arith);
-  green = (omega arith, omega arith, omega arith);
-  blue = (omega arith, omega arith, omega arith);
-  red_green = λ i here there. omega arith;
-  red_blue = λ i here there. omega arith;
-  green_blue = λ i here there. omega arith;
-}
-
 made_for : (width height : ℕ) → 1 ≤ width → width ≤ 4096 → 1 ≤ height → height ≤ 4096 →
     AreMade (ends_for width height)
 made_for width height wide narrow high low =
@@ -41,7 +29,7 @@ made_for width height wide narrow high low =
         height_fits = omega arith;
         name_fits = omega arith;
       };
-      form = rgb888_made;
+      form = rgb888-is_format;
       few = omega arith;
     }
 

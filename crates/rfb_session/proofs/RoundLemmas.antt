@@ -1,6 +1,6 @@
 -- The order of the eight seats, going round.
-use Rattle.std.proofs.Common.{◌≡◌, ◌⊎◌, ◌<◌, ◌≤◌, ◌+◌, ◌-◌, ℕ, suc, Bool, true, false, Some, cond}
-use Rattle.std.proofs.Common.{ap, arith, inl, inr}
+use Rattle.std.proofs.Common.{◌≡◌, ◌⊎◌, ◌<◌, ◌≤◌, ◌+◌, ◌-◌, ◌*◌, ℕ, suc}
+use Rattle.std.proofs.Common.{Bool, true, false, Some, cond, ap, arith, inl, inr}
 use Rattle.std.proofs.lemmas.Bool.Decides.{leb_tells}
 use Rattle.rfb_session.specs.Rounds.{seat_after, seats_before, is_left}
 
@@ -20,43 +20,40 @@ after_is seat count = elim (leb_tells (suc (seat + count)) 8) [
       inr (omega (arith, high.1), ap (λ (b : Bool). cond b (seat + count) (seat + count - 8)) high.0)
 ]
 
-pub after_below : (seat count : ℕ) → seat < 8 → count < 8 → seat_after seat count < 8
-after_below seat count low few = elim (after_is seat count) [
-  | inl near ↦ omega (arith, near.0, near.1)
-  | inr far ↦ omega (arith, low, few, far.0, far.1)
+-- the seats are gone round once at most
+after_turns : (seat count : ℕ) → seat < 8 → count < 8 → (turns : ℕ) × (turns ≤ 1)
+    × (seat_after seat count + 8 * turns ≡ seat + count) × (seat_after seat count < 8)
+after_turns seat count low few = elim (after_is seat count) [
+  | inl near ↦ (0, omega arith, omega (arith, near.1), omega (arith, near.0, near.1))
+  | inr far ↦ (1, omega arith, omega (arith, far.0, far.1), omega (arith, low, few, far.0, far.1))
 ]
 
-pub before_below : (first k : ℕ) → first < 8 → k < 8 → seats_before first k < 8
-before_below first k low within = elim (before_is first k) [
-  | inl less ↦ omega (arith, low, within, less.0, less.1)
-  | inr more ↦ omega (arith, low, within, more.0, more.1)
+before_turns : (first k : ℕ) → first < 8 → k < 8 → (turns : ℕ) × (turns ≤ 1)
+    × (seats_before first k + first + 8 * turns ≡ k + 8) × (seats_before first k < 8)
+before_turns first k low within = elim (before_is first k) [
+  | inl less ↦ (0, omega arith, omega (arith, low, less.0, less.1), omega (arith, low, within, less.0, less.1))
+  | inr more ↦ (1, omega arith, omega (arith, more.0, more.1), omega (arith, low, within, more.0, more.1))
 ]
+
+pub after_below : (seat count : ℕ) → seat < 8 → count < 8 → seat_after seat count < 8
+after_below seat count low few = (after_turns seat count low few).3
+
+pub before_below : (first k : ℕ) → first < 8 → k < 8 → seats_before first k < 8
+before_below first k low within = (before_turns first k low within).3
 
 -- so many come before the seat that comes so many after the first
 pub before_after : (first count : ℕ) → first < 8 → count < 8 → seats_before first (seat_after first count) ≡ count
-before_after first count low few = elim (after_is first count) [
-  | inl near ↦ elim (before_is first (seat_after first count)) [
-    | inl less ↦ omega (arith, low, few, near.0, near.1, less.0, less.1)
-    | inr more ↦ omega (arith, low, few, near.0, near.1, more.0, more.1)
-  ]
-  | inr far ↦ elim (before_is first (seat_after first count)) [
-    | inl less ↦ omega (arith, low, few, far.0, far.1, less.0, less.1)
-    | inr more ↦ omega (arith, low, few, far.0, far.1, more.0, more.1)
-  ]
-]
+before_after first count low few =
+    let a = after_turns first count low few in
+    let b = before_turns first (seat_after first count) low a.3 in
+    omega (arith, few, a.1, a.2, b.1, b.2, b.3)
 
 -- a seat is known by how many come before it
 pub before_one : (first j k : ℕ) → first < 8 → j < 8 → k < 8 → seats_before first j ≡ seats_before first k → j ≡ k
-before_one first j k low here there same = elim (before_is first j) [
-  | inl less ↦ elim (before_is first k) [
-    | inl under ↦ omega (arith, low, here, there, same, less.0, less.1, under.0, under.1)
-    | inr over ↦ omega (arith, low, here, there, same, less.0, less.1, over.0, over.1)
-  ]
-  | inr more ↦ elim (before_is first k) [
-    | inl under ↦ omega (arith, low, here, there, same, more.0, more.1, under.0, under.1)
-    | inr over ↦ omega (arith, low, here, there, same, more.0, more.1, over.0, over.1)
-  ]
-]
+before_one first j k low here there same =
+    let a = before_turns first j low here in
+    let b = before_turns first k low there in
+    omega (arith, here, there, same, a.1, a.2, b.1, b.2)
 
 -- what is left comes after the last that is served
 pub left_comes : (first last k : ℕ) → is_left first (Some last) k ≡ true →
@@ -77,70 +74,20 @@ served_comes first last k served = elim (leb_tells (suc (seats_before first last
 pub next_before : (first last k : ℕ) → first < 8 → last < 8 → k < 8 →
     seats_before first last < seats_before first k →
     seats_before (seat_after last 1) k + seats_before first last + 1 ≡ seats_before first k
-next_before first last k low ends within after = elim (after_is last 1) [
-  | inl near ↦ elim (before_is first last) [
-    | inl less ↦ elim (before_is first k) [
-      | inl under ↦ elim (before_is (seat_after last 1) k) [
-        | inl a ↦ omega (arith, low, ends, within, after, near.0, near.1, less.0, less.1, under.0, under.1, a.0, a.1)
-        | inr a ↦ omega (arith, low, ends, within, after, near.0, near.1, less.0, less.1, under.0, under.1, a.0, a.1)
-      ]
-      | inr over ↦ omega (arith, low, ends, within, after, less.0, less.1, over.0, over.1)
-    ]
-    | inr more ↦ elim (before_is first k) [
-      | inl under ↦ elim (before_is (seat_after last 1) k) [
-        | inl a ↦ omega (arith, low, ends, within, after, near.0, near.1, more.0, more.1, under.0, under.1, a.0, a.1)
-        | inr a ↦ omega (arith, low, ends, within, after, near.0, near.1, more.0, more.1, under.0, under.1, a.0, a.1)
-      ]
-      | inr over ↦ elim (before_is (seat_after last 1) k) [
-        | inl a ↦ omega (arith, low, ends, within, after, near.0, near.1, more.0, more.1, over.0, over.1, a.0, a.1)
-        | inr a ↦ omega (arith, low, ends, within, after, near.0, near.1, more.0, more.1, over.0, over.1, a.0, a.1)
-      ]
-    ]
-  ]
-  | inr far ↦ elim (before_is first last) [
-    | inl less ↦ omega (arith, low, ends, far.0, less.0)
-    | inr more ↦ elim (before_is first k) [
-      | inl under ↦ elim (before_is (seat_after last 1) k) [
-        | inl a ↦ omega (arith, low, ends, within, after, far.0, far.1, more.0, more.1, under.0, under.1, a.0, a.1)
-        | inr a ↦ omega (arith, low, ends, within, after, far.0, far.1, more.0, more.1, under.0, under.1, a.0, a.1)
-      ]
-      | inr over ↦ omega (arith, low, ends, within, after, far.0, more.0, more.1, over.0, over.1)
-    ]
-  ]
-]
+next_before first last k low ends within after =
+    let a = after_turns last 1 ends (omega arith) in
+    let b = before_turns first last low ends in
+    let c = before_turns first k low within in
+    let d = before_turns (seat_after last 1) k a.3 within in
+    omega (arith, after, a.1, a.2, b.1, b.2, b.3, c.1, c.2, c.3, d.1, d.2, d.3)
 
 -- the others come after all that were left
 pub next_after : (first last k : ℕ) → first < 8 → last < 8 → k < 8 →
     seats_before first k ≤ seats_before first last →
     seats_before (seat_after last 1) k + seats_before first last ≡ seats_before first k + 7
-next_after first last k low ends within before = elim (after_is last 1) [
-  | inl near ↦ elim (before_is first last) [
-    | inl less ↦ elim (before_is first k) [
-      | inl under ↦ elim (before_is (seat_after last 1) k) [
-        | inl a ↦ omega (arith, low, ends, within, before, near.0, near.1, less.0, less.1, under.0, under.1, a.0, a.1)
-        | inr a ↦ omega (arith, low, ends, within, before, near.0, near.1, less.0, less.1, under.0, under.1, a.0, a.1)
-      ]
-      | inr over ↦ elim (before_is (seat_after last 1) k) [
-        | inl a ↦ omega (arith, low, ends, within, before, near.0, near.1, less.0, less.1, over.0, over.1, a.0, a.1)
-        | inr a ↦ omega (arith, low, ends, within, before, near.0, near.1, less.0, less.1, over.0, over.1, a.0, a.1)
-      ]
-    ]
-    | inr more ↦ elim (before_is first k) [
-      | inl under ↦ omega (arith, low, ends, within, before, more.0, more.1, under.0, under.1)
-      | inr over ↦ elim (before_is (seat_after last 1) k) [
-        | inl a ↦ omega (arith, low, ends, within, before, near.0, near.1, more.0, more.1, over.0, over.1, a.0, a.1)
-        | inr a ↦ omega (arith, low, ends, within, before, near.0, near.1, more.0, more.1, over.0, over.1, a.0, a.1)
-      ]
-    ]
-  ]
-  | inr far ↦ elim (before_is first last) [
-    | inl less ↦ omega (arith, low, ends, far.0, less.0)
-    | inr more ↦ elim (before_is first k) [
-      | inl under ↦ omega (arith, low, ends, within, before, more.0, more.1, under.0, under.1)
-      | inr over ↦ elim (before_is (seat_after last 1) k) [
-        | inl a ↦ omega (arith, low, ends, within, before, far.0, far.1, more.0, more.1, over.0, over.1, a.0, a.1)
-        | inr a ↦ omega (arith, low, ends, within, before, far.0, far.1, more.0, more.1, over.0, over.1, a.0, a.1)
-      ]
-    ]
-  ]
-]
+next_after first last k low ends within before =
+    let a = after_turns last 1 ends (omega arith) in
+    let b = before_turns first last low ends in
+    let c = before_turns first k low within in
+    let d = before_turns (seat_after last 1) k a.3 within in
+    omega (arith, before, a.1, a.2, b.1, b.2, b.3, c.1, c.2, c.3, d.1, d.2, d.3)
