@@ -1,6 +1,6 @@
 -- Engines of an end that had failed before.
-use Rattle.std.proofs.Common.{◌≡◌, ◌≤◌, ◌-◌, ◌^◌, ℕ, List, [], Option, Result, Ok, Err, ◌⊎◌, inl}
-use Rattle.std.proofs.Common.{inr, ap, sym, ◌∙◌, subst, arith}
+use Rattle.std.proofs.Common.{◌≡◌, ◌≤◌, ◌-◌, ◌^◌, ℕ, List, [], Option, Some, Result, Ok, Err}
+use Rattle.std.proofs.Common.{◌⊎◌, inl, inr, ap, sym, ◌∙◌, subst, arith}
 use Rattle.std.specs.Io.KnownBytes.{Consumes, Keeps}
 use Rattle.std.proofs.KnownBytes.{Consumes-nil, Consumes-trans, Consumes-kept}
 use Rattle.rfb_viewer.specs.declared.fault.ViewerFault.{ViewerFault}
@@ -19,6 +19,15 @@ none_kept old mid new one kept = Consumes-kept old mid new [] one kept
 
 pub no_answer : {A E : Type 0} (a : A) (e : E) → Ok a ≡ Err e → ⊥
 no_answer a e is = absurd cc
+
+-- an answer that is an error
+abbrev err_of : {E : Type 0} (A : Type 0) → E → Result A E
+err_of A fault = Err fault
+
+-- the same error is the same answer, whatever else could be answered
+err_same : {E : Type 0} (A B : Type 0) (own fault : E) → err_of A fault ≡ err_of A own →
+    err_of B fault ≡ err_of B own
+err_same A B own fault e = let same : fault ≡ own = cc in ap (λ x. err_of B x) same
 
 module _ {A : Type 0} where
   -- how an engine of an end that had failed may answer
@@ -41,6 +50,14 @@ module _ {A : Type 0} where
       two e = absurd cc
   not_fed own ended unread left r a is not (inr (read, inr e)) = not (sym e ∙ is)
 
+-- an end that had failed before some calls fails so at the next
+pub fails_still : {A B V E F : Type 0} (fault_of : V → Option F) (own : F → E) {old mid new : V} (f : F)
+    (fault : E) → mid ≡ old → fault_of old ≡ Some f →
+    ((g : F) → fault_of mid ≡ Some g → (err_of A fault ≡ err_of A (own g)) × (new ≡ mid)) →
+    (err_of B fault ≡ err_of B (own f)) × (new ≡ old)
+fails_still {A = A} {B = B} fault_of own f fault same is fails =
+    let again = fails f (ap fault_of same ∙ is) in (err_same A B (own f) fault again.0, again.1 ∙ same)
+
 -- an answer of that kind
 abbrev pub fails_with : (A : Type 0) → EngineFault → Result A EngineFault
 fails_with A fault = Err fault
@@ -50,7 +67,7 @@ refuses_with A fault = Err fault
 
 module _ {A B : Type 0} where
   pub err_as : (own fault : EngineFault) → fails_with A fault ≡ fails_with A own → fails_with B fault ≡ fails_with B own
-  err_as own fault e = let same : fault ≡ own = cc in ap (λ (x : EngineFault). fails_with B x) same
+  err_as own fault e = err_same A B own fault e
 
   -- it stops in a part of an engine
   pub unfed_then : (own fault : EngineFault) (a : A) (ended : Result B EngineFault) (old mid new : Option (List ℕ)) →
@@ -79,7 +96,7 @@ some_turns n none out = omega (arith, none, out)
 -- a fault that is told again
 pub again_as : {A B : Type 0} (own fault : ViewerFault) → refuses_with A fault ≡ refuses_with A own →
     refuses_with B fault ≡ refuses_with B own
-again_as {B = B} own fault e = let same : fault ≡ own = cc in ap (λ (x : ViewerFault). refuses_with B x) same
+again_as {A = A} {B = B} own fault e = err_same A B own fault e
 
 pub told_as : {A B : Type 0} (own fault : ViewerFault) → refuses_with A fault ≡ refuses_with A own →
     fails_with B (ViewerEnded fault) ≡ fails_with B (ViewerEnded own)

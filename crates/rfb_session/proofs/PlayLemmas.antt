@@ -167,5 +167,10 @@ reading_until unread mid left old reads told last bytes fault new was more ends 
 }
 
 -- a read that gave some bytes gave the first of its buffer
+-- no byte was taken
+pub none_taken : (old new : Option (List ℕ)) (n : ℕ) (buf : List ℕ) → n ≡ 0 →
+    Consumes old new (take n buf) → Consumes old new []
+none_taken old new n buf none read = subst (λ (k : ℕ). Consumes old new (take k buf)) none read
+
 pub some_taken : (n : ℕ) (buf : List ℕ) → 0 < n → n ≤ length buf → 0 < length (take n buf)
 some_taken n buf some within = omega (arith, some, length-take-le n buf within)

@@ -43,7 +43,8 @@ some_more old bytes before rest told mid used new now was call = record {
       (ran_fed viewer_driven mid new (take used rest) call.event call.fed);
 }
 
-is_end : (event : Option ViewerTold) → 0 < ends_told event → event ≡ Some UpdateDone
+-- what ends an update
+pub is_end : (event : Option ViewerTold) → 0 < ends_told event → event ≡ Some UpdateDone
 is_end None some = absurd (omega (arith, some))
 is_end (Some (Reply bytes)) some = absurd (omega (arith, some))
 is_end (Some (Ready bytes width height name name_length)) some = absurd (omega (arith, some))

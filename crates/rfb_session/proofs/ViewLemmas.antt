@@ -12,7 +12,7 @@ use Rattle.rfb_viewer.specs.Calls.{request_refusal, requested}
 use Rattle.rfb_viewer.specs.Messages.{request_message}
 use Rattle.rfb_viewer.specs.ShownPieces.{Shows}
 use Rattle.rfb_viewer.specs.declared.viewer.Viewer.{Viewer}
-use Rattle.rfb_viewer.specs.Told.{ViewerTold, Reply, Ready, UpdateDone, Bell, CutText, ColourMapSkipped}
+use Rattle.rfb_viewer.specs.Told.{ViewerTold}
 use Rattle.rfb_viewer.specs.Viewer.{Viewing, ViewerState}
 use Rattle.rfb_viewer.specs.Model.{StandsFor}
 use Rattle.rfb_session.specs.Devices.{AppendsBeginning}
@@ -24,7 +24,8 @@ use Rattle.rfb_session.specs.EngineRead.{AsksForScreen, HasAsked, IsCutInAsking,
 use Rattle.rfb_session.specs.EngineRead.{Looks, IsLookCutOff}
 use Rattle.rfb_session.specs.Wire.{Writing}
 use Rattle.rfb_session.proofs.WrittenLemmas.{whole_beginning}
-use Rattle.rfb_session.proofs.EngineRunLemmas.{joined, only_one}
+use Rattle.rfb_session.proofs.EngineRunLemmas.{joined, ran_fed, ran_none}
+use Rattle.rfb_session.proofs.PlaySomeLemmas.{is_end}
 use Rattle.rfb_session.proofs.ShownLemmas.{shown_whole}
 use Rattle.rfb_session.proofs.WireLemmas.{Joins}
 
@@ -45,20 +46,8 @@ turn_append before (Did act ∷ more) turn none more_turn =
     (turn_append before more turn none more_turn.0, due_append before more none ∙ more_turn.1)
 
 pub turn_none : (now : Viewer) → RunsInTurn now [] [] 0 None now
-turn_none now = λ viewing s prefix stands. (
-  record {
-    steps = [];
-    state = s;
-    rest = prefix;
-    runs = (refl, refl);
-    stands = stands;
-    fed_is = refl;
-    sent_is = refl;
-    updates_are = refl;
-  },
-  tt,
-  refl,
-)
+unfolding ran_none
+turn_none now = λ viewing s prefix stands. (ran_none viewer_driven now viewing s prefix stands, tt, refl)
 
 pub turn_then : (old mid new : Viewer) (fed sent more_fed more_sent : List ℕ) (n m : ℕ)
     (asks : Option Bool) → RunsInTurn old fed sent n None mid →
@@ -77,21 +66,12 @@ turn_then old mid new fed sent more_fed more_sent n m asks one two = λ viewing 
 pub fed_turn : (first old : Viewer) (bytes : List ℕ) (event : Option ViewerTold) →
     WasFed first bytes event old →
     RunsInTurn first bytes (viewer_reply event) (ends_told event) (due_after event) old
-fed_turn first old bytes event fed = λ viewing s prefix stands.
-    let one = fed viewing s prefix stands in (
-      record {
-        steps = Fed bytes event ∷ [];
-        state = one.0;
-        rest = one.1;
-        runs = (s, prefix, (refl, refl), one.3);
-        stands = one.2;
-        fed_is = refl;
-        sent_is = refl;
-        updates_are = only_one (ends_told event);
-      },
-      (tt, refl),
-      refl,
-    )
+unfolding ran_fed
+fed_turn first old bytes event fed = λ viewing s prefix stands. (
+  ran_fed viewer_driven first old bytes event fed viewing s prefix stands,
+  (tt, refl),
+  refl,
+)
 
 rest_none : (event : Option ViewerTold) (incremental : Bool) (rest : List ℕ) →
     due_after event ≡ Some incremental → IfSome event (λ _. rest ≡ []) → rest ≡ []
@@ -128,13 +108,7 @@ asked_turn first old new bytes sent event incremental fed is asks = λ viewing s
 -- ---- what is due
 
 due_at_end : (event : Option ViewerTold) → 0 < ends_told event → due_after event ≡ Some true
-due_at_end None some = absurd (omega (arith, some))
-due_at_end (Some (Reply bytes)) some = absurd (omega (arith, some))
-due_at_end (Some (Ready bytes width height name name_length)) some = absurd (omega (arith, some))
-due_at_end (Some UpdateDone) some = refl
-due_at_end (Some Bell) some = absurd (omega (arith, some))
-due_at_end (Some (CutText kept text_length)) some = absurd (omega (arith, some))
-due_at_end (Some ColourMapSkipped) some = absurd (omega (arith, some))
+due_at_end event some = ap (λ (e : Option ViewerTold). due_after e) (is_end event some)
 
 pub until_some : (n : ℕ) → 0 < n → due_until n ≡ None
 until_some zero some = absurd (omega (arith, some))

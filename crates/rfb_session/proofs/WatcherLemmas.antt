@@ -63,6 +63,20 @@ module _ {A : Type 0} (steps : Listening A) where
   hears_asked first mid last old new fed n hears (inr asks) =
       NextRequest fed n asks.0 asks.1 mid last new hears asks.2
 
+  -- the first of some bytes were fed, and it ended before the others
+  pub hears_first : (Ends : ℕ → List ℕ → Viewer → Type 0) (first : Viewer) (old : A) (bytes : List ℕ)
+      (used n : ℕ) (last : Viewer) (new : A) → HearsAll steps first old (take used bytes) n last new →
+      Ends n (drop used bytes) last → HearsOf steps Ends first old bytes new
+  hears_first Ends first old bytes used n last new hears ends = record {
+    fed = take used bytes;
+    later = drop used bytes;
+    updates = n;
+    last = last;
+    bytes_are = sym (take-append-drop used bytes);
+    hears = hears;
+    ends = ends;
+  }
+
   -- ---- one read
 
   -- of some bytes the first were fed, and so many updates ended

@@ -68,6 +68,14 @@ on_ok (Err e) P p = tt
 pub rest_is : (xs : List ℕ) (n : ℕ) → take (length xs - n) (drop n xs) ≡ drop n xs
 rest_is xs n = take_all (length xs - n) (drop n xs) (omega (arith, length-drop n xs))
 
+-- some bytes more of what is left were written
+pub more_written : (old mid new : Option (List ℕ)) (bytes rest : List ℕ) (n : ℕ) →
+    AppendsUpTo old mid bytes rest → Appends mid new (take n rest) →
+    AppendsUpTo old new bytes (take (length rest - n) (drop n rest))
+more_written old mid new bytes rest n so_far more =
+    subst (λ (r : List ℕ). AppendsUpTo old new bytes r) (sym (rest_is rest n))
+    (then_written old mid new bytes rest (drop n rest) so_far (some_written mid new rest n more))
+
 -- some bytes more wait after the others
 pub more_waits : (old new : Option (List ℕ)) (text rest more : List ℕ) →
     AppendsUpTo old new text rest → AppendsUpTo old new (text ++ more) (rest ++ more)

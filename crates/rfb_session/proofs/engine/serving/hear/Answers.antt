@@ -4,7 +4,7 @@ use Rattle.rfb_server.specs.declared.server.Server.{Server}
 use Rattle.rfb_server.specs.Model.{fault_of}
 use Rattle.rfb_session.specs.declared.engine.fault.EngineFault.TheVariants.{Server as ServerEnded}
 use Rattle.rfb_session.specs.Wire.{by_steps}
-use Rattle.rfb_session.proofs.FailedLemmas.{err_as, no_answer}
+use Rattle.rfb_session.proofs.FailedLemmas.{fails_still, no_answer}
 use Rattle.rfb_session.proofs.WrittenLemmas.{empty_rest}
 use Rattle.rfb_session.proofs.WireLemmas.{steps_join}
 use Rattle.rfb_session.proofs.ServeLemmas.{hears_no_byte, hears_more, hears_whole, hears_until}
@@ -59,8 +59,5 @@ returns-clause-failed g c = λ some f is.
 pub returns-in_err-used-clause-failed : goal.returns-in_err-used-clause-failed
 returns-in_err-used-clause-failed g c =
     let p = err_from_is_err_and c.from_residual.result c.from_residual.ensures.1 in
-    rw (p.1, p.2) (λ some f is.
-    let l = c.loop-rest in
-    let was = l.invariant.failed f is in
-    let again = c.in_err-used.ensures.failed f (ap (λ (v : Server). fault_of v) was.1 ∙ is) in
-    (err_as (ServerEnded f) c.in_err-used.field-0.0 again.0, again.1 ∙ was.1))
+    rw (p.1, p.2) (λ some f is. fails_still (λ (v : Server). fault_of v) (λ f. ServerEnded f) f
+    c.in_err-used.field-0.0 (c.loop-rest.invariant.failed f is).1 is c.in_err-used.ensures.failed)

@@ -4,7 +4,7 @@ use Rattle.rfb_viewer.specs.declared.viewer.Viewer.{Viewer}
 use Rattle.rfb_viewer.specs.Model.{fault_of}
 use Rattle.rfb_session.specs.declared.engine.fault.EngineFault.TheVariants.{Viewer as ViewerEnded}
 use Rattle.rfb_session.specs.Wire.{by_steps}
-use Rattle.rfb_session.proofs.FailedLemmas.{err_as, no_answer}
+use Rattle.rfb_session.proofs.FailedLemmas.{fails_still, no_answer}
 use Rattle.rfb_session.specs.Watcher.{EndsLooking}
 use Rattle.rfb_session.proofs.EngineRunLemmas.{only_one}
 use Rattle.rfb_session.proofs.LookLemmas.{looking_none, looking_more, looking_stops, more_counted, still_looked}
@@ -70,11 +70,8 @@ returns-in_err-used-clause-stopped g c =
 pub returns-in_err-used-clause-failed : goal.returns-in_err-used-clause-failed
 returns-in_err-used-clause-failed g c =
     let p = err_from_is_err_and c.from_residual.result c.from_residual.ensures.1 in
-    rw (p.1, p.2) (λ some f is.
-    let l = c.loop-left in
-    let was = l.invariant.failed f is in
-    let again = c.in_err-used.ensures.failed f (ap (λ (v : Viewer). fault_of v) was.2 ∙ is) in
-    (err_as (ViewerEnded f) c.in_err-used.field-0.0 again.0, again.1 ∙ was.2))
+    rw (p.1, p.2) (λ some f is. fails_still (λ (v : Viewer). fault_of v) (λ f. ViewerEnded f) f
+    c.in_err-used.field-0.0 (c.loop-left.invariant.failed f is).2 is c.in_err-used.ensures.failed)
 
 pub returns-in_err-used-clause-heard : goal.returns-in_err-used-clause-heard
 returns-in_err-used-clause-heard g c =

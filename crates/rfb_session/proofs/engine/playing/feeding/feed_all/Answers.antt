@@ -6,7 +6,7 @@ use Rattle.rfb_viewer.specs.declared.viewer.Viewer.{Viewer}
 use Rattle.rfb_viewer.specs.Model.{fault_of}
 use Rattle.rfb_session.proofs.FailedLemmas.{no_answer, none_kept, none_then, some_turns, told_as}
 use Rattle.rfb_session.proofs.PlayLemmas.{reading_none, reading_more, reading_stops, reading_ends, reading_out}
-use Rattle.rfb_session.proofs.PlayLemmas.{reading_until, some_taken}
+use Rattle.rfb_session.proofs.PlayLemmas.{none_taken, reading_until, some_taken}
 use Rattle.rfb_session.specs.declared.engine.fault.EngineFault.TheVariants.{Device, Viewer as ViewerEnded}
 use Rattle.rfb_session.specs.Playback.{most}
 use Rattle.rfb_session.specs.FirstUpdates.{AreFewer, AreNoFewer}
@@ -59,11 +59,10 @@ returns-then-count-eq0-clause-heard g c =
     let l = c.loop-turn in
     let mid = g.R.Source.unread l.source in
     let new = g.R.Source.unread c.read.new.self in
-    let none : c.in-Ok.count ≡ 0 = search rules in
     over_stops g.A.Watcher.steps (λ (n : ℕ). l.updates ≡ most n)
     (EndsPlaying c.args.enough (Ok l.updates) l.viewer) (g.R.Source.unread c.args.source.now) mid new
     c.args.viewer.now c.args.watcher.now l.viewer l.watcher l.invariant.heard
-    (subst (λ (n : ℕ). Consumes mid new (take n c.read.new.buf)) none c.in-Ok.ensures.bytes.0)
+    (none_taken mid new c.in-Ok.count c.read.new.buf (search rules) c.in-Ok.ensures.bytes.0)
     (λ n was. (was, refl, (λ few. refl)))
 
 pub returns-then-count-eq0-clause-first : goal.returns-then-count-eq0-clause-first
@@ -79,8 +78,7 @@ returns-then-count-eq0-clause-played g c =
     let size : length c.read.new.buf ≡ 32768 = search rules in
     λ few. reading_ends (g.R.Source.unread c.args.source.now) mid new c.args.viewer.now l._turn
     l.updates l.viewer l.invariant.reading
-    (subst (λ (n : ℕ). Consumes mid new (take n c.read.new.buf)) none
-    c.in-Ok.ensures.bytes.0)
+    (none_taken mid new c.in-Ok.count c.read.new.buf none c.in-Ok.ensures.bytes.0)
     (c.in-Ok.ensures.bytes.1 none (omega (arith, size)))
 
 pub returns-then-are_enough-clause-first : goal.returns-then-are_enough-clause-first
@@ -94,9 +92,7 @@ returns-then-are_enough-clause-first g c =
     (c.in_ok-updates.ensures.first same)
 
 pub returns-then-are_enough-clause-played : goal.returns-then-are_enough-clause-played
-returns-then-are_enough-clause-played g c =
-    let many : AreNoFewer c.args.enough c.in_ok-updates.updates = search rules in
-    λ few. absurd (few_not_many c.args.enough c.in_ok-updates.updates few many)
+returns-then-are_enough-clause-played g c = λ few. absurd (few_not_many _ _ few (search rules))
 
 pub returns-then-are_enough-clause-heard : goal.returns-then-are_enough-clause-heard
 returns-then-are_enough-clause-heard g c =
@@ -220,12 +216,11 @@ returns-then-count-eq0-clause-failed g c = λ f is.
     let l = c.loop-turn in
     let mid = g.R.Source.unread l.source in
     let new = g.R.Source.unread c.read.new.self in
-    let none : c.in-Ok.count ≡ 0 = search rules in
     let was = l.invariant.failed f is in (
       was.2,
       inr (
         none_then (g.R.Source.unread c.args.source.now) mid new was.3
-            (subst (λ (n : ℕ). Consumes mid new (take n c.read.new.buf)) none c.in-Ok.ensures.bytes.0),
+            (none_taken mid new c.in-Ok.count c.read.new.buf (search rules) c.in-Ok.ensures.bytes.0),
         inr (ap (λ (n : ℕ). Ok n) was.1),
       ),
     )

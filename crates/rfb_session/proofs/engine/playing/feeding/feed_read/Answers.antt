@@ -4,7 +4,7 @@ use Rattle.rfb_viewer.specs.declared.viewer.Viewer.{Viewer}
 use Rattle.rfb_viewer.specs.Model.{fault_of}
 use Rattle.rfb_session.specs.FirstUpdates.{AreFewer, AreNoFewer}
 use Rattle.rfb_session.specs.Watcher.{EndsRead}
-use Rattle.rfb_session.proofs.FailedLemmas.{again_as, no_answer}
+use Rattle.rfb_session.proofs.FailedLemmas.{fails_still, no_answer}
 use Rattle.rfb_session.proofs.WrittenLemmas.{empty_rest}
 use Rattle.rfb_session.proofs.PlayLemmas.{watched_none, watched_all}
 use Rattle.rfb_session.proofs.PlaySomeLemmas.{counted_at_most, few_at_most, few_not_enough, few_not_many}
@@ -28,9 +28,7 @@ returns-then-are_enough-clause-few g c =
     c.in_ok-used.ensures.counted
 
 pub returns-then-are_enough-clause-watched : goal.returns-then-are_enough-clause-watched
-returns-then-are_enough-clause-watched g c =
-    let many : AreNoFewer c.args.enough c.in_ok-used.more = search rules in
-    λ few. absurd (few_not_many c.args.enough c.in_ok-used.more few many)
+returns-then-are_enough-clause-watched g c = λ few. absurd (few_not_many _ _ few (search rules))
 
 pub returns-then-are_enough-clause-first : goal.returns-then-are_enough-clause-first
 returns-then-are_enough-clause-first g c =
@@ -89,11 +87,8 @@ returns-in_err-used-clause-stopped g c =
 pub returns-in_err-used-clause-failed : goal.returns-in_err-used-clause-failed
 returns-in_err-used-clause-failed g c =
     let p = err_from_is_err_and c.from_residual.result c.from_residual.ensures.1 in
-    rw (p.1, p.2) (λ some f is.
-    let l = c.loop-rest in
-    let was = l.invariant.failed f is in
-    let again = c.in_err-used.ensures.failed f (ap (λ (v : Viewer). fault_of v) was.1 ∙ is) in
-    (again_as f c.in_err-used.field-0.0 again.0, again.1 ∙ was.1))
+    rw (p.1, p.2) (λ some f is. fails_still (λ (v : Viewer). fault_of v) (λ f. f) f c.in_err-used.field-0.0
+    (c.loop-rest.invariant.failed f is).1 is c.in_err-used.ensures.failed)
 
 pub returns-in_err-used-clause-heard : goal.returns-in_err-used-clause-heard
 returns-in_err-used-clause-heard g c =
