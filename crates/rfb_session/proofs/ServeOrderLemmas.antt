@@ -43,7 +43,7 @@ module _ {W : Type 0} (steps : Stepping W) (known : W → Known) (tells : Tellin
   answered_known old bytes a b new answered =
       let wrote = all_known steps known tells a b answered.sent answered.wrote in (
         (wrote.0, wrote.2),
-        record { sent = answered.sent; hears = answered.hears; wrote = wrote.1 },
+        search (answered, wrote.1),
       )
 
   -- why hearing stops
@@ -52,35 +52,12 @@ module _ {W : Type 0} (steps : Stepping W) (known : W → Known) (tells : Tellin
       KeepsReads (known a) (known b)
       × StopsHearing by_bytes old bytes (known a).written (known b).written n m fault new
   hearing_known old bytes a b n m (ServerEnded fault) new stops =
-      let wrote = all_known steps known tells a b stops.sent stops.wrote in (
-        wrote.0,
-        record {
-          fed = stops.fed;
-          slice = stops.slice;
-          sent = stops.sent;
-          last = stops.last;
-          bytes_are = stops.bytes_are;
-          hears = stops.hears;
-          wrote = wrote.1;
-          ends = stops.ends;
-        },
-      )
+      let wrote = all_known steps known tells a b stops.sent stops.wrote in
+      (wrote.0, search (stops, wrote.1))
   hearing_known old bytes a b n m Device new stops =
       let cut = stops.1 in
-      let wrote = some_known steps known tells a b cut.sent cut.wrote in (
-        wrote.0,
-        (
-          stops.0,
-          record {
-            fed = cut.fed;
-            later = cut.later;
-            sent = cut.sent;
-            bytes_are = cut.bytes_are;
-            hears = cut.hears;
-            wrote = wrote.1;
-          },
-        ),
-      )
+      let wrote = some_known steps known tells a b cut.sent cut.wrote in
+      (wrote.0, (stops.0, search (cut, wrote.1)))
   hearing_known old bytes a b n m (ViewerEnded fault) new stops = absurd stops
   hearing_known old bytes a b n m Truncated new stops = absurd stops
   hearing_known old bytes a b n m NoMemory new stops = absurd stops

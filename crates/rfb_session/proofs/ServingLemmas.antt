@@ -35,24 +35,13 @@ pub record ServedSoFar (unread left before after : Option (List ℕ)) (old : Ser
 
 pub serving_none : (unread before : Option (List ℕ)) (old : Server) →
     ServedSoFar unread unread before before old 0 0 old
+unfolding ran_none
 serving_none unread before old = record {
   fed = [];
   sent = [];
   updates = 0;
   read = Consumes-nil unread;
-  runs = λ serving s prefix stands idle. (
-    record {
-      steps = [];
-      state = s;
-      rest = prefix;
-      runs = (refl, refl);
-      stands = stands;
-      fed_is = refl;
-      sent_is = refl;
-      updates_are = refl;
-    },
-    idle,
-  );
+  runs = λ serving s prefix stands idle. (ran_none server_driven old serving s prefix stands, idle);
   wrote = Appends-nil before;
   told_is = refl;
   some = omega arith;
@@ -274,29 +263,14 @@ pub front_all : (unread left start before after : Option (List ℕ)) (front : Li
     (old : Server) (told : ℕ) (now : Server) →
     Appends start before front → AllServed unread left before after [] old told now →
     AllServed unread left start after front old told now
-front_all unread left start before after front old told now wrote all = record {
-  fed = all.fed;
-  sent = all.sent;
-  updates = all.updates;
-  told_is = all.told_is;
-  read = all.read;
-  runs = all.runs;
-  wrote = Appends-trans start before after front all.sent wrote all.wrote;
-  ended = all.ended;
-}
+front_all unread left start before after front old told now wrote all =
+    search (all, Appends-trans start before after front all.sent wrote all.wrote)
 
 front_some : (unread left start before after : Option (List ℕ)) (front : List ℕ) (old now : Server) →
     Appends start before front → ServedSome unread left before after [] old now →
     ServedSome unread left start after front old now
-front_some unread left start before after front old now wrote some = record {
-  fed = some.fed;
-  later = some.later;
-  sent = some.sent;
-  updates = some.updates;
-  read = some.read;
-  runs = some.runs;
-  wrote = begun_after start before after front some.sent wrote some.wrote;
-}
+front_some unread left start before after front old now wrote some =
+    search (some, begun_after start before after front some.sent wrote some.wrote)
 
 pub front_stops : (unread left : Option (List ℕ)) (failing failed : ℕ) (start before after : Option (List ℕ))
     (stuck stuck_mid stopped : ℕ) (front : List ℕ) (old : Server) (fault : EngineFault) (new : Server) →
@@ -311,17 +285,8 @@ front_stops unread left r s start before after v w x front old Device new wrote 
 )
 front_stops unread left r s start before after v w x front old EngineNoMemory new wrote same stops =
     front_some unread left start before after front old new wrote stops
-front_stops unread left r s start before after v w x front old (ServerEnded fault) new wrote same stops = record {
-  fed = stops.fed;
-  slice = stops.slice;
-  sent = stops.sent;
-  updates = stops.updates;
-  last = stops.last;
-  read = stops.read;
-  runs = stops.runs;
-  wrote = Appends-trans start before after front stops.sent wrote stops.wrote;
-  ends = stops.ends;
-}
+front_stops unread left r s start before after v w x front old (ServerEnded fault) new wrote same stops =
+    search (stops, Appends-trans start before after front stops.sent wrote stops.wrote)
 front_stops unread left r s start before after v w x front old (ViewerEnded fault) new wrote same stops = stops
 
 -- the greeting was not written whole

@@ -29,14 +29,7 @@ module _ {W : Type 0} (steps : Stepping W) (known : W → Known) (tells : Tellin
           later = looked.later;
           bytes_are = looked.bytes_are;
           all = looked.all;
-          looks = record {
-            sent = looks.sent;
-            updates = looks.updates;
-            counted = looks.counted;
-            runs = looks.runs;
-            wrote = wrote.1;
-            kept = looks.kept;
-          };
+          looks = search (looks, wrote.1);
         },
       )
 
@@ -44,19 +37,8 @@ module _ {W : Type 0} (steps : Stepping W) (known : W → Known) (tells : Tellin
       KeepsFirst (by_steps steps) old fed a b blank copied →
       KeepsFirst by_bytes old fed (known a).written (known b).written blank copied
   first_known old fed a b blank copied (inl all) = inl all
-  first_known old fed a b blank copied (inr part) = inr (record {
-    earlier = part.earlier;
-    part = part.part;
-    sent = part.sent;
-    updates = part.updates;
-    last = part.last;
-    mid = part.mid;
-    fed_is = part.fed_is;
-    runs = part.runs;
-    wrote = (all_known steps known tells a b part.sent part.wrote).1;
-    kept = part.kept;
-    begun = part.begun;
-  })
+  first_known old fed a b blank copied (inr part) =
+      inr (search (part, (all_known steps known tells a b part.sent part.wrote).1))
 
   pub stops_known : (old : Viewer) (bytes : List ℕ) (a b : W) (blank copied : Option (List ℕ)) (n m : ℕ)
       (fault : EngineFault) (new : Viewer) →
@@ -64,41 +46,12 @@ module _ {W : Type 0} (steps : Stepping W) (known : W → Known) (tells : Tellin
       KeepsReads (known a) (known b)
       × StopsLooking by_bytes old bytes (known a).written (known b).written blank copied n m fault new
   stops_known old bytes a b blank copied n m (ViewerEnded fault) new stops =
-      let wrote = all_known steps known tells a b stops.sent stops.wrote in (
-        wrote.0,
-        record {
-          fed = stops.fed;
-          slice = stops.slice;
-          sent = stops.sent;
-          updates = stops.updates;
-          last = stops.last;
-          bytes_are = stops.bytes_are;
-          runs = stops.runs;
-          wrote = wrote.1;
-          kept = stops.kept;
-          ends = stops.ends;
-        },
-      )
+      let wrote = all_known steps known tells a b stops.sent stops.wrote in
+      (wrote.0, search (stops, wrote.1))
   stops_known old bytes a b blank copied n m Device new stops =
       let cut = stops.1 in
-      let wrote = some_known steps known tells a b cut.sent cut.wrote in (
-        wrote.0,
-        (
-          stops.0,
-          record {
-            fed = cut.fed;
-            later = cut.later;
-            sent = cut.sent;
-            updates = cut.updates;
-            asks = cut.asks;
-            bytes_are = cut.bytes_are;
-            runs = cut.runs;
-            wrote = wrote.1;
-            kept = cut.kept;
-            first = first_known old cut.fed a b blank copied cut.first;
-          },
-        ),
-      )
+      let wrote = some_known steps known tells a b cut.sent cut.wrote in
+      (wrote.0, (stops.0, search (cut, wrote.1, first_known old cut.fed a b blank copied cut.first)))
   stops_known old bytes a b blank copied n m (ServerEnded fault) new stops = absurd stops
   stops_known old bytes a b blank copied n m Truncated new stops = absurd stops
   stops_known old bytes a b blank copied n m NoMemory new stops = absurd stops
