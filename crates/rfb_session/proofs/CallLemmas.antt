@@ -71,40 +71,12 @@ phase_mere : (e : Ends) (c : Core) (message : ClientMessage) → Phase e c → I
     call_refusal c.viewer ≡ None → Phase e (sent c c.viewer message)
 phase_mere e c message phase mere open_now =
     past_handshake e c (λ vp at. not_ready c vp at open_now)
-    (λ p m s. Idling p (meets p m) (record {
-      quiet =
-          s.quiet;
-      none = s.none;
-      between = s.between;
-      unasked = s.unasked;
-      later = later_more c.to_server (Second message) s.later (mere_later (Second message) mere);
-      formed = later_form c.session.form c.to_server message mere ∙ s.formed;
-    }))
-    (λ p m s. Asking p (meets p m) (record {
-      busy =
-          s.busy;
-      none = s.none;
-      between = s.between;
-      unasked = s.unasked;
-      once = ask_more c.to_server (Second message) s.once mere;
-      formed = later_form c.session.form c.to_server message mere ∙ s.formed;
-    }))
-    (λ p m s. Held p (meets p m) (record {
-      busy =
-          s.busy;
-      none = s.none;
-      between = s.between;
-      mere = mere_more c.to_server (Second message) s.mere mere;
-      formed = s.formed;
-    }))
-    (λ p m s. Sent p (meets p m) (record {
-      busy =
-          s.busy;
-      unasked = s.unasked;
-      mere = mere_more c.to_server (Second message) s.mere mere;
-      formed = s.formed;
-      rest = s.rest;
-    })) phase
+    (λ p m s. Idling p (meets p m) (assumption (s, later_form c.session.form c.to_server message mere ∙ s.formed,
+    later_more c.to_server (Second message) s.later (mere_later (Second message) mere))))
+    (λ p m s. Asking p (meets p m) (assumption (s, later_form c.session.form c.to_server message mere ∙ s.formed,
+    ask_more c.to_server (Second message) s.once mere)))
+    (λ p m s. Held p (meets p m) (assumption (s, mere_more c.to_server (Second message) s.mere mere)))
+    (λ p m s. Sent p (meets p m) (assumption (s, mere_more c.to_server (Second message) s.mere mere))) phase
   where
     meets : (p : UpdatePoint) → Meets e c p → Meets e (sent c c.viewer message) p
     meets p m = meets_as e c (sent c c.viewer message) p p m m.session_at m.viewer_at refl refl refl

@@ -7,7 +7,7 @@ use Rattle.rfb_session.specs.declared.engine.fault.EngineFault.{EngineFault}
 use Rattle.rfb_session.specs.declared.engine.fault.EngineFault.TheVariants.{Server as ServerEnded}
 use Rattle.rfb_session.specs.declared.engine.fault.EngineFault.TheVariants.{Viewer as ViewerEnded, Truncated, Device}
 use Rattle.rfb_session.specs.declared.engine.fault.EngineFault.TheVariants.{NoMemory as EngineNoMemory}
-use Rattle.rfb_session.specs.ViewEngine.{RunsInTurn, KeepsLast, KeepsFirst}
+use Rattle.rfb_session.specs.ViewEngine.{RunsInTurn, KeepsLast, KeepsFirst, KeepsUntil}
 use Rattle.rfb_session.specs.EngineRead.{due_until, Looks, HasLooked, StopsLooking}
 use Rattle.rfb_session.specs.Watcher.{EndsLooking}
 use Rattle.rfb_session.proofs.WrittenLemmas.{rest_is}
@@ -132,43 +132,25 @@ module _ {D : Type 0} (writing : Writing D) (joins : Joins writing) where
       StopsLooking writing last rest w after k copied failed_mid failed fault new →
       StopsLooking writing old bytes before after blank copied failing failed fault new
   looking_stops old bytes rest left mid before w after blank k copied last fb fm failed (ViewerEnded fault) new was
-      some same stops = record {
-        fed = was.fed ++ stops.fed;
-        slice = stops.slice;
-        sent = was.looks.sent ++ stops.sent;
-        updates = was.looks.updates + stops.updates;
-        last = stops.last;
-        bytes_are = all_parts bytes was.fed rest stops.fed stops.slice was.bytes_are stops.bytes_are;
-        runs = turn_then old last stops.last was.fed was.looks.sent stops.fed stops.sent
-            was.looks.updates stops.updates None
-            (open_turn old last was.fed was.looks.sent was.looks.updates mid some was.looks.runs) stops.runs;
-        wrote = joins.then before w after was.looks.sent stops.sent was.looks.wrote stops.wrote;
-        kept = (
-          stops.kept.0,
-          Appends-trans blank k stops.kept.0 was.fed stops.fed was.looks.kept stops.kept.1,
-          subst (λ (n : ℕ). KeepsLast stops.kept.0 copied stops.slice n failed) same stops.kept.2,
-        );
-        ends = stops.ends;
-      }
+      some same stops =
+      let kept : KeepsUntil blank copied (was.fed ++ stops.fed) stops.slice fb failed = (
+        stops.kept.0,
+        Appends-trans blank k stops.kept.0 was.fed stops.fed was.looks.kept stops.kept.1,
+        subst (λ (n : ℕ). KeepsLast stops.kept.0 copied stops.slice n failed) same stops.kept.2,
+      ) in
+      search (all_parts bytes was.fed rest stops.fed stops.slice was.bytes_are stops.bytes_are,
+      turn_then old last stops.last was.fed was.looks.sent stops.fed stops.sent was.looks.updates stops.updates None
+      (open_turn old last was.fed was.looks.sent was.looks.updates mid some was.looks.runs) stops.runs,
+      joins.then before w after was.looks.sent stops.sent was.looks.wrote stops.wrote, kept, stops.ends)
   looking_stops old bytes rest left mid before w after blank k copied last fb fm failed Device new was some same stops =
       let cut = stops.1 in (
         subst (λ (n : ℕ). failed ≡ n + 1) same stops.0,
-        record {
-          fed = was.fed ++ cut.fed;
-          later = cut.later;
-          sent = was.looks.sent ++ cut.sent;
-          updates = was.looks.updates + cut.updates;
-          asks = cut.asks;
-          bytes_are = all_parts bytes was.fed rest cut.fed cut.later was.bytes_are cut.bytes_are;
-          runs = turn_then old last new was.fed was.looks.sent cut.fed cut.sent was.looks.updates
-              cut.updates cut.asks
-              (open_turn old last was.fed was.looks.sent was.looks.updates mid some was.looks.runs)
-              cut.runs;
-          wrote = joins.stops before w after was.looks.sent cut.sent was.looks.wrote cut.wrote;
-          kept = begun_after blank k copied was.fed cut.fed was.looks.kept cut.kept;
-          first = first_then old last was.fed cut.fed left mid before w after blank k copied was.looks
-              some cut.first;
-        },
+        search (all_parts bytes was.fed rest cut.fed cut.later was.bytes_are cut.bytes_are,
+            turn_then old last new was.fed was.looks.sent cut.fed cut.sent was.looks.updates cut.updates cut.asks
+            (open_turn old last was.fed was.looks.sent was.looks.updates mid some was.looks.runs) cut.runs,
+            joins.stops before w after was.looks.sent cut.sent was.looks.wrote cut.wrote,
+            begun_after blank k copied was.fed cut.fed was.looks.kept cut.kept,
+            first_then old last was.fed cut.fed left mid before w after blank k copied was.looks some cut.first),
       )
   looking_stops old bytes rest left mid before w after blank k copied last fb fm failed (ServerEnded fault) new was
       some same stops = absurd stops
@@ -182,6 +164,4 @@ pub still_looked : (left before n m : ℕ) (later : List ℕ) (last : Viewer) (f
     EndsLooking left (Err fault) new n later last → EndsLooking before (Err fault) new m later last
 still_looked left before n m later last (ViewerEnded fault) new ends = ends
 still_looked left before n m later last Device new ends = ends
-still_looked left before n m later last Truncated new ends = absurd ends
-still_looked left before n m later last (ServerEnded fault) new ends = absurd ends
-still_looked left before n m later last EngineNoMemory new ends = absurd ends
+still_looked left before n m later last fault new ends = absurd ends

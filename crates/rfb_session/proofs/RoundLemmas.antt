@@ -70,24 +70,29 @@ served_comes first last k served = elim (leb_tells (suc (seats_before first last
   | inr high ↦ omega (arith, high.1)
 ]
 
+-- what comes before a seat in the next round, whether it is left or not
+next_round : (first last k : ℕ) → first < 8 → last < 8 → k < 8 →
+    (seats_before first last < seats_before first k →
+    seats_before (seat_after last 1) k + seats_before first last + 1 ≡ seats_before first k)
+    × (seats_before first k ≤ seats_before first last →
+    seats_before (seat_after last 1) k + seats_before first last ≡ seats_before first k + 7)
+next_round first last k low ends within =
+    let a = after_turns last 1 ends (omega arith) in
+    let b = before_turns first last low ends in
+    let c = before_turns first k low within in
+    let d = before_turns (seat_after last 1) k a.3 within in (
+      λ after. omega (arith, after, a.1, a.2, b.1, b.2, b.3, c.1, c.2, c.3, d.1, d.2, d.3),
+      λ before. omega (arith, before, a.1, a.2, b.1, b.2, b.3, c.1, c.2, c.3, d.1, d.2, d.3),
+    )
+
 -- in the next round so many fewer come before it
 pub next_before : (first last k : ℕ) → first < 8 → last < 8 → k < 8 →
     seats_before first last < seats_before first k →
     seats_before (seat_after last 1) k + seats_before first last + 1 ≡ seats_before first k
-next_before first last k low ends within after =
-    let a = after_turns last 1 ends (omega arith) in
-    let b = before_turns first last low ends in
-    let c = before_turns first k low within in
-    let d = before_turns (seat_after last 1) k a.3 within in
-    omega (arith, after, a.1, a.2, b.1, b.2, b.3, c.1, c.2, c.3, d.1, d.2, d.3)
+next_before first last k low ends within after = (next_round first last k low ends within).0 after
 
 -- the others come after all that were left
 pub next_after : (first last k : ℕ) → first < 8 → last < 8 → k < 8 →
     seats_before first k ≤ seats_before first last →
     seats_before (seat_after last 1) k + seats_before first last ≡ seats_before first k + 7
-next_after first last k low ends within before =
-    let a = after_turns last 1 ends (omega arith) in
-    let b = before_turns first last low ends in
-    let c = before_turns first k low within in
-    let d = before_turns (seat_after last 1) k a.3 within in
-    omega (arith, before, a.1, a.2, b.1, b.2, b.3, c.1, c.2, c.3, d.1, d.2, d.3)
+next_after first last k low ends within before = (next_round first last k low ends within).1 before

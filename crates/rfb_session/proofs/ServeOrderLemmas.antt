@@ -122,14 +122,7 @@ module _ {W : Type 0} (steps : Stepping W) (known : W → Known) (tells : Tellin
   ends_known shows old scene a b (suc zero) new last ends =
       let wrote = all_known steps known tells a b ends.bytes ends.wrote in (
         (wrote.0, wrote.2),
-        record {
-          bytes = ends.bytes;
-          composed = ends.composed;
-          updates = ends.updates;
-          wrote = wrote.1;
-          draws = ends.draws;
-          shown = ends.shown;
-        },
+        search (ends, wrote.1),
       )
   ends_known shows old scene a b (suc (suc more)) new last ends = absurd ends
 

@@ -152,14 +152,7 @@ held_served : (e : Ends) (screen : Grid Colour) (c : Core) (p : UpdatePoint)
 held_served e screen c p message rest m i mere =
     let kept = mere_served e screen c.session message mere.0 in
     Held p (served_after e screen c p message rest m)
-    (record {
-      busy =
-          i.busy;
-      none = no_answer e c (Second message) m.session_at ∙ i.none;
-      between = i.between;
-      mere = mere.1;
-      formed = kept.0 ∙ i.formed;
-    })
+    (assumption (i, no_answer e c (Second message) m.session_at ∙ i.none, mere.1, kept.0 ∙ i.formed))
 
 sent_served : (e : Ends) (screen : Grid Colour) (c : Core) (p : UpdatePoint)
     (message : ClientMessage) (rest : List FromClient) → Meets e c p → Sends c p →

@@ -11,6 +11,7 @@ use Rattle.rfb_session.specs.declared.engine.fault.EngineFault.TheVariants.{NoMe
 use Rattle.rfb_session.specs.Devices.{AppendsBeginning}
 use Rattle.rfb_session.specs.Playback.{most}
 use Rattle.rfb_session.specs.Wire.{by_bytes}
+use Rattle.rfb_session.specs.ServeEngine.{GoesOn, IsGreeting}
 use Rattle.rfb_session.specs.ServeEngine.{server_driven, ServerRuns, RunsToIdle, KeepsIdle, RunsFromIdle, IsHeard}
 use Rattle.rfb_session.specs.ServeEngine.{IsUpdated, StopsHearing, StopsUpdating, AllServed, ServedSome, StopsServing}
 use Rattle.rfb_session.proofs.WrittenLemmas.{whole_beginning}
@@ -258,6 +259,10 @@ updating_fails unread mid left before w x after old reads told last heard bytes 
     more h same none stops = absurd stops
 
 -- ---- after a greeting
+
+pub goes_after : (After : List ℕ → Type 0) (old : Server) (greeting : List ℕ) → IsGreeting old greeting →
+    After greeting → GoesOn After old
+goes_after After old greeting is goes_on = record { greeting = greeting; greeting_is = is; goes_on = goes_on }
 
 pub front_all : (unread left start before after : Option (List ℕ)) (front : List ℕ)
     (old : Server) (told : ℕ) (now : Server) →

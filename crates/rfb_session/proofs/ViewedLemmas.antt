@@ -9,7 +9,7 @@ use Rattle.rfb_session.specs.declared.engine.fault.EngineFault.{EngineFault}
 use Rattle.rfb_session.specs.declared.engine.fault.EngineFault.TheVariants.{Server as ServerEnded}
 use Rattle.rfb_session.specs.declared.engine.fault.EngineFault.TheVariants.{Viewer as ViewerEnded, Truncated, Device}
 use Rattle.rfb_session.specs.declared.engine.fault.EngineFault.TheVariants.{NoMemory as EngineNoMemory}
-use Rattle.rfb_session.specs.ViewEngine.{RunsInTurn, HasViewed, HasMissed, ViewedSome, StopsViewing}
+use Rattle.rfb_session.specs.ViewEngine.{KeepsUntil, RunsInTurn, HasViewed, HasMissed, ViewedSome, StopsViewing}
 use Rattle.rfb_session.specs.EngineRead.{due_until, Looks, HasLooked, StopsLooking}
 use Rattle.rfb_session.specs.Watcher.{EndsLooking, EndsViewing}
 use Rattle.rfb_session.proofs.WrittenLemmas.{whole_beginning}
@@ -166,45 +166,27 @@ pub looking_fails : (unread mid left before w after blank k copied : Option (Lis
     StopsLooking by_bytes last bytes w after k copied failing failed fault new →
     StopsViewing unread left before after blank copied all_failing all_failed old asked fault new
 looking_fails unread mid left before w after blank k copied old reads asked still last bytes fb failed fa af
-    (ViewerEnded fault) new was more same counted stops = record {
-      fed = was.fed ++ stops.fed;
-      slice = stops.slice;
-      sent = was.looks.sent ++ stops.sent;
-      updates = was.looks.updates + stops.updates;
-      last = stops.last;
-      read = whole_read unread mid left was.fed bytes stops.fed stops.slice was.read more stops.bytes_are;
-      runs = turn_then old last stops.last was.fed was.looks.sent stops.fed stops.sent
-          was.looks.updates stops.updates None
-          (open_turn old last was.fed was.looks.sent was.looks.updates still was.going was.looks.runs)
-          stops.runs;
-      wrote = Appends-trans before w after was.looks.sent stops.sent was.looks.wrote stops.wrote;
-      kept = (
-        stops.kept.0,
-        Appends-trans blank k stops.kept.0 was.fed stops.fed was.looks.kept stops.kept.1,
-        kept_as stops.kept.0 copied stops.slice fb failed fa af same counted stops.kept.2,
-      );
-      ends = stops.ends;
-    }
+    (ViewerEnded fault) new was more same counted stops =
+    let kept : KeepsUntil blank copied (was.fed ++ stops.fed) stops.slice fa af = (
+      stops.kept.0,
+      Appends-trans blank k stops.kept.0 was.fed stops.fed was.looks.kept stops.kept.1,
+      kept_as stops.kept.0 copied stops.slice fb failed fa af same counted stops.kept.2,
+    ) in
+    search (whole_read unread mid left was.fed bytes stops.fed stops.slice was.read more stops.bytes_are,
+    turn_then old last stops.last was.fed was.looks.sent stops.fed stops.sent was.looks.updates stops.updates None
+    (open_turn old last was.fed was.looks.sent was.looks.updates still was.going was.looks.runs) stops.runs,
+    Appends-trans before w after was.looks.sent stops.sent was.looks.wrote stops.wrote, kept, stops.ends)
 looking_fails unread mid left before w after blank k copied old reads asked still last bytes fb failed fa af Device
     new was more same counted stops =
     let cut = stops.1 in (
       counted stops.0,
-      record {
-        fed = was.fed ++ cut.fed;
-        later = cut.later;
-        sent = was.looks.sent ++ cut.sent;
-        updates = was.looks.updates + cut.updates;
-        asks = cut.asks;
-        read = whole_read unread mid left was.fed bytes cut.fed cut.later was.read more cut.bytes_are;
-        runs = turn_then old last new was.fed was.looks.sent cut.fed cut.sent was.looks.updates
-            cut.updates cut.asks
-            (open_turn old last was.fed was.looks.sent was.looks.updates still was.going was.looks.runs)
-            cut.runs;
-        wrote = begun_after before w after was.looks.sent cut.sent was.looks.wrote cut.wrote;
-        kept = begun_after blank k copied was.fed cut.fed was.looks.kept cut.kept;
-        first = first_then by_bytes bytes_join old last was.fed cut.fed asked still before w after blank k
-            copied was.looks was.going cut.first;
-      },
+      search (whole_read unread mid left was.fed bytes cut.fed cut.later was.read more cut.bytes_are,
+          turn_then old last new was.fed was.looks.sent cut.fed cut.sent was.looks.updates cut.updates cut.asks
+          (open_turn old last was.fed was.looks.sent was.looks.updates still was.going was.looks.runs) cut.runs,
+          begun_after before w after was.looks.sent cut.sent was.looks.wrote cut.wrote,
+          begun_after blank k copied was.fed cut.fed was.looks.kept cut.kept,
+          first_then by_bytes bytes_join old last was.fed cut.fed asked still before w after blank k copied
+          was.looks was.going cut.first),
     )
 looking_fails unread mid left before w after blank k copied old reads asked still last bytes fb failed fa af
     (ServerEnded fault) new was more same counted stops = absurd stops
@@ -228,9 +210,7 @@ pub then_viewed : (left asked n m : ℕ) (later : List ℕ) (last : Viewer) (fau
     EndsLooking left (Err fault) new n later last → EndsViewing asked (Err fault) new m later last
 then_viewed left asked n m later last (ViewerEnded fault) new ends = ends
 then_viewed left asked n m later last Device new ends = ends
-then_viewed left asked n m later last Truncated new ends = absurd ends
-then_viewed left asked n m later last (ServerEnded fault) new ends = absurd ends
-then_viewed left asked n m later last EngineNoMemory new ends = absurd ends
+then_viewed left asked n m later last fault new ends = absurd ends
 
 -- where the answer is an error, what follows of what it says of each
 pub err_each : {A E : Type 0} (r : Result A E) (P Q : E → Type 0) → ((e : E) → P e → Q e) →

@@ -261,16 +261,5 @@ module _ {A : Type 0} (steps : Listening A) where
       (old new : A) → ((n : ℕ) (later : List ℕ) (last : Viewer) → One n later last → Two n later last) →
       HearsRead steps One unread left first old new → HearsRead steps Two unread left first old new
   hears_ends One Two unread left first old new ends heard =
-      let h = heard.2 in (
-        heard.0,
-        heard.1,
-        record {
-          fed = h.fed;
-          later = h.later;
-          updates = h.updates;
-          last = h.last;
-          bytes_are = h.bytes_are;
-          hears = h.hears;
-          ends = ends h.updates h.later h.last h.ends;
-        },
-      )
+      let h = heard.2 in
+      (heard.0, heard.1, search (h, ends h.updates h.later h.last h.ends))

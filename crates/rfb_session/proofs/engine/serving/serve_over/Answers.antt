@@ -12,7 +12,7 @@ use Rattle.rfb_session.specs.Turns.{InTurn, StopsInTurn, TakesTurns, TooEarly, U
 use Rattle.rfb_session.specs.Wire.{Tells, Went}
 use Rattle.rfb_session.proofs.FailedLemmas.{none_read, unfed_then, unread_then}
 use Rattle.rfb_session.proofs.ServeOrderLemmas.{as_before}
-use Rattle.rfb_session.proofs.ServingLemmas.{front_all, front_stops, unheard}
+use Rattle.rfb_session.proofs.ServingLemmas.{front_all, front_stops, goes_after, unheard}
 use Rattle.rfb_session.proofs.TurnLemmas.{greeted_stops}
 use Rattle.rfb_session.proofs.WireLemmas.{all_known, some_known}
 use Rattle.rfb_session.proofs.engine.serving.serve_over.Given.{Over}
@@ -53,16 +53,13 @@ turned g c told =
         wrote = c.in_ok-send_over.ensures.done;
         goes_on = all.in_order;
       },
-      record {
-        greeting = c.greeting-greeting.result;
-        greeting_is = c.greeting-greeting.ensures;
-        goes_on = as_before old mid told.0 (λ (u : Option (List ℕ)) (n : ℕ). AllServed u
-            new.unread old.written new.written c.greeting-greeting.result c.args.server.now
-            c.in_ok-updates.updates c.serve_all.new.server)
-            (front_all mid.unread new.unread old.written mid.written new.written
-            c.greeting-greeting.result c.args.server.now c.in_ok-updates.updates
-            c.serve_all.new.server told.1 all.served);
-      },
+      goes_after _ c.args.server.now c.greeting-greeting.result c.greeting-greeting.ensures
+          (as_before old mid told.0 (λ (u : Option (List ℕ)) (n : ℕ). AllServed u
+          new.unread old.written new.written c.greeting-greeting.result c.args.server.now
+          c.in_ok-updates.updates c.serve_all.new.server)
+          (front_all mid.unread new.unread old.written mid.written new.written
+          c.greeting-greeting.result c.args.server.now c.in_ok-updates.updates
+          c.serve_all.new.server told.1 all.served)),
       record {
         greeting = c.greeting-greeting.result;
         greeting_is = c.greeting-greeting.ensures;
@@ -99,17 +96,13 @@ returns-in_err-send_over g c =
       turns = tt;
       between = tt;
       none_failed = tt;
-      stopped = record {
-        greeting = c.greeting-greeting.result;
-        greeting_is = c.greeting-greeting.ensures;
-        goes_on = (
-          omega (arith, c.in_err-send_over.ensures.one_failed, cut.0.1),
-          subst (λ (u : Option (List ℕ)). ServedSome old.unread u old.written new.written
-              c.greeting-greeting.result c.args.server.now c.args.server.now) (sym cut.0.0)
-              (unheard old.unread old.written new.written c.greeting-greeting.result
-              c.args.server.now cut.1),
-        );
-      };
+      stopped = goes_after _ c.args.server.now c.greeting-greeting.result c.greeting-greeting.ensures (
+        omega (arith, c.in_err-send_over.ensures.one_failed, cut.0.1),
+        subst (λ (u : Option (List ℕ)). ServedSome old.unread u old.written new.written
+            c.greeting-greeting.result c.args.server.now c.args.server.now) (sym cut.0.0)
+            (unheard old.unread old.written new.written c.greeting-greeting.result
+            c.args.server.now cut.1),
+      );
       in_turn = Unheard refl c.greeting-greeting.result c.greeting-greeting.ensures cut.1 cut.0.0
           refl refl;
       failed = λ f is. (refl, inr (none_read old.unread new.unread cut.0.0, inl refl));
@@ -152,16 +145,12 @@ returns-then-not-between g c =
       turns = tt;
       between = tt;
       none_failed = tt;
-      stopped = record {
-        greeting = turns.1.greeting;
-        greeting_is = turns.1.greeting_is;
-        goes_on = (
-          c.in_ok-updates.updates,
-          turns.1.goes_on,
-          λ serving s prefix stands.
-              sym c.if-not-between.true ∙ c.between.ensures.value serving s prefix stands,
-        );
-      };
+      stopped = goes_after _ c.args.server.now turns.1.greeting turns.1.greeting_is (
+        c.in_ok-updates.updates,
+        turns.1.goes_on,
+        λ serving s prefix stands.
+            sym c.if-not-between.true ∙ c.between.ensures.value serving s prefix stands,
+      );
       in_turn = TooEarly refl c.in_ok-updates.updates turns.2;
       failed = λ f is.
           let still = c.in_ok-updates.ensures.failed f is in (
@@ -199,18 +188,15 @@ returns-in_err-updates g c =
       turns = tt;
       between = tt;
       none_failed = tt;
-      stopped = record {
-        greeting = c.greeting-greeting.result;
-        greeting_is = c.greeting-greeting.ensures;
-        goes_on = as_before old mid told.0 (λ (u : Option (List ℕ)) (n : ℕ). StopsServing u
-            new.unread n new.failed_reads old.written new.written old.failed_writes
-            new.failed_writes c.greeting-greeting.result c.args.server.now
-            c.in_err-updates.field-0.0 c.serve_all.new.server)
-            (front_stops mid.unread new.unread mid.failed_reads new.failed_reads old.written
-            mid.written new.written old.failed_writes mid.failed_writes
-            new.failed_writes c.greeting-greeting.result c.args.server.now
-            c.in_err-updates.field-0.0 c.serve_all.new.server told.1 told.2 all.stopped);
-      };
+      stopped = goes_after _ c.args.server.now c.greeting-greeting.result c.greeting-greeting.ensures
+          (as_before old mid told.0 (λ (u : Option (List ℕ)) (n : ℕ). StopsServing u
+          new.unread n new.failed_reads old.written new.written old.failed_writes
+          new.failed_writes c.greeting-greeting.result c.args.server.now
+          c.in_err-updates.field-0.0 c.serve_all.new.server)
+          (front_stops mid.unread new.unread mid.failed_reads new.failed_reads old.written
+          mid.written new.written old.failed_writes mid.failed_writes
+          new.failed_writes c.greeting-greeting.result c.args.server.now
+          c.in_err-updates.field-0.0 c.serve_all.new.server told.1 told.2 all.stopped));
       in_turn = InTurn c.greeting-greeting.result c.greeting-greeting.ensures mid.written told.1
           (as_before old mid told.0 (λ (u : Option (List ℕ)) (n : ℕ). StopsInTurn
           g.S.Scene.shows u new.unread n new.failed_reads mid.written new.written
