@@ -42,23 +42,19 @@ turn-requires g c =
 pub returns-in-None : goal.returns-in-None
 returns-in-None g c =
     let l = c.loop-turn in
-    let old = g.W.Wire.known c.args.wire.now in
-    let mid = g.W.Wire.known l.wire in
-    let new = g.W.Wire.known c.turn.new.wire in
     let ended = c.in_ok-more.ensures.ended (search rules) in
     let end = end_known g.W.Wire.steps g.W.Wire.known g.met.W.Wire.tells l.wire l.server l.scene
     c.turn.new.wire c.turn.new.server c.turn.new.scene ended in
-    let none = none_failed_then old mid new l.invariant.none_failed end.0 in
+    let none = none_failed_then (g.W.Wire.known c.args.wire.now) (g.W.Wire.known l.wire)
+    (g.W.Wire.known c.turn.new.wire) l.invariant.none_failed end.0 in
     record {
       in_order = order_ends g.W.Wire.steps g.S.Scene.shows c.args.wire.now c.args.server.now
           c.args.scene.now l._turn l.updates l.wire l.server l.scene c.turn.new.wire
           c.turn.new.server c.turn.new.scene l.invariant.order ended;
       stopped_in_order = tt;
-      served = served_end old.unread mid.unread new.unread old.written mid.written new.written
-          c.args.server.now l._turn l.updates l.server l.scene c.turn.new.server
+      served = served_end _ _ _ _ _ _ c.args.server.now l._turn l.updates l.server l.scene c.turn.new.server
           c.turn.new.scene l.invariant.served end.1;
-      turns = turns_end g.S.Scene.shows old.unread mid.unread new.unread old.written mid.written
-          new.written c.args.server.now c.args.scene.now l.updates l.server l.scene
+      turns = turns_end g.S.Scene.shows _ _ _ _ _ _ c.args.server.now c.args.scene.now l.updates l.server l.scene
           c.turn.new.server c.turn.new.scene l.invariant.turns end.1;
       none_failed = (none.0, none.1);
       stopped = tt;
@@ -67,7 +63,7 @@ returns-in-None g c =
           let was = l.invariant.failed f is in (
             ended.1 ∙ was.2,
             inr (
-              none_then old.unread mid.unread new.unread was.3 end.1.read,
+              none_then _ _ _ was.3 end.1.read,
               inr (ap (λ (n : ℕ). Ok n) was.1),
             ),
           );
@@ -78,9 +74,6 @@ pub returns-in_err-more : goal.returns-in_err-more
 returns-in_err-more g c =
     let p = err_from_is_err_and c.from_residual.result c.from_residual.ensures.1 in
     rw (p.1, p.2) (let l = c.loop-turn in
-    let old = g.W.Wire.known c.args.wire.now in
-    let mid = g.W.Wire.known l.wire in
-    let new = g.W.Wire.known c.turn.new.wire in
     let none = l.invariant.none_failed in
     let stop = stop_known g.W.Wire.steps g.W.Wire.known g.met.W.Wire.tells l.wire c.turn.new.wire
     l.server c.in_err-more.field-0.0 c.turn.new.server c.in_err-more.ensures.stopped in
@@ -93,21 +86,16 @@ returns-in_err-more g c =
       served = tt;
       turns = tt;
       none_failed = tt;
-      stopped = served_stop old.unread mid.unread new.unread old.written mid.written new.written
-          old.failed_reads mid.failed_reads new.failed_reads old.failed_writes
-          mid.failed_writes new.failed_writes c.args.server.now l._turn l.updates l.server
+      stopped = served_stop _ _ _ _ _ _ _ _ _ _ _ _ c.args.server.now l._turn l.updates l.server
           c.in_err-more.field-0.0 c.turn.new.server l.invariant.served none.0 none.1 stop.1;
-      in_turn = turns_stop g.S.Scene.shows old.unread mid.unread new.unread old.written
-          mid.written new.written old.failed_reads mid.failed_reads new.failed_reads
-          old.failed_writes mid.failed_writes new.failed_writes c.args.server.now
+      in_turn = turns_stop g.S.Scene.shows _ _ _ _ _ _ _ _ _ _ _ _ c.args.server.now
           c.args.scene.now l.updates l.server l.scene c.in_err-more.field-0.0 c.turn.new.server
           c.turn.new.scene l.invariant.turns none.0 none.1 c.in_err-more.ensures.undrawn stop.1;
       failed = λ f is.
           let was = l.invariant.failed f is in
           let again = c.in_err-more.ensures.failed f (ap (λ (v : Server). fault_of v) was.2 ∙ is) in (
             again.0 ∙ was.2,
-            unfed_then (ServerEnded f) c.in_err-more.field-0.0 None (Ok 0) old.unread mid.unread new.unread
-                was.3 again.1,
+            unfed_then (ServerEnded f) c.in_err-more.field-0.0 None (Ok 0) _ _ _ was.3 again.1,
           );
       same_references = stop.0 ∙ none.2;
     })
@@ -115,9 +103,6 @@ returns-in_err-more g c =
 pub loop-turn-preserved : goal.loop-turn-preserved
 loop-turn-preserved g c =
     let l = c.loop-turn in
-    let old = g.W.Wire.known c.args.wire.now in
-    let mid = g.W.Wire.known l.wire in
-    let new = g.W.Wire.known c.turn.new.wire in
     let over = turned_by c.in_ok-more.field-0 c.in-Some.more
     (λ (n : ℕ). TurnOver g.W.Wire.steps g.S.Scene.shows l.wire l.server l.scene n c.turn.new.wire
     c.turn.new.server c.turn.new.scene) c.in-Some.is c.in_ok-more.ensures.turned in
@@ -128,19 +113,18 @@ loop-turn-preserved g c =
           c.args.scene.now l._turn l.updates l.wire l.server l.scene c.in-Some.more
           c.saturating_add-updates.result c.turn.new.wire c.turn.new.server c.turn.new.scene
           l.invariant.order over c.saturating_add-updates.ensures;
-      served = served_more g.S.Scene.shows old.unread mid.unread new.unread old.written
-          mid.written new.written c.args.server.now l._turn l.updates l.server l.scene
+      served = served_more g.S.Scene.shows _ _ _ _ _ _ c.args.server.now l._turn l.updates l.server l.scene
           c.in-Some.more c.saturating_add-updates.result c.turn.new.server c.turn.new.scene
           l.invariant.served turn.1 c.saturating_add-updates.ensures;
-      turns = turns_more g.S.Scene.shows old.unread mid.unread new.unread old.written mid.written
-          new.written c.args.server.now c.args.scene.now l.updates l.server l.scene
+      turns = turns_more g.S.Scene.shows _ _ _ _ _ _ c.args.server.now c.args.scene.now l.updates l.server l.scene
           c.in-Some.more c.saturating_add-updates.result c.turn.new.server c.turn.new.scene
           l.invariant.turns turn.1 c.saturating_add-updates.ensures;
-      none_failed = none_failed_then old mid new l.invariant.none_failed turn.0;
+      none_failed = none_failed_then (g.W.Wire.known c.args.wire.now) (g.W.Wire.known l.wire)
+          (g.W.Wire.known c.turn.new.wire) l.invariant.none_failed turn.0;
       failed = λ f is.
           let was = l.invariant.failed f is in
           let again = c.turn.ensures.failed f (ap (λ (v : Server). fault_of v) was.2 ∙ is) in
-          absurd (not_fed (ServerEnded f) (Ok None) mid.unread new.unread c.turn.result
+          absurd (not_fed (ServerEnded f) (Ok None) _ _ c.turn.result
           (Some c.in-Some.more) (c.in_ok-more.was ∙ ap (λ (o : Option ℕ). Ok o) c.in-Some.is)
           (none_some c.in-Some.more (Ok None) refl) again.1);
     }

@@ -100,9 +100,6 @@ returns-in_default g c =
 pub returns-then-count-eq0 : goal.returns-then-count-eq0
 returns-then-count-eq0 g c =
     let l = c.loop-turn in
-    let old = g.W.Wire.known c.args.wire.now in
-    let mid = g.W.Wire.known l.wire in
-    let new = g.W.Wire.known c.read.new.self in
     let none : c.in-Ok.count ≡ 0 = search rules in
     let step = c.in-Ok.ensures.stepped.1 none in
     let told = g.met.W.Wire.tells l.wire c.read.new.self Ended step in
@@ -115,19 +112,19 @@ returns-then-count-eq0 g c =
       told = tt;
       viewed = tt;
       none_failed = tt;
-      stopped = subst (λ (o : Option (List ℕ)). HasMissed old.unread new.unread old.written o
+      stopped = subst (λ (o : Option (List ℕ)). HasMissed (g.W.Wire.known c.args.wire.now).unread
+          (g.W.Wire.known c.read.new.self).unread (g.W.Wire.known c.args.wire.now).written o
           (g.K.Sink.written c.args.kept.now) (g.K.Sink.written l.kept) c.args.viewer.now
           c.args.updates l.viewer) (sym told.0.0)
-          (viewing_misses old.unread mid.unread new.unread old.written mid.written
-          (g.K.Sink.written c.args.kept.now) (g.K.Sink.written l.kept) c.args.viewer.now
-          l._turn c.args.updates l.left l.viewer l.invariant.viewed told.1 told.3);
+          (viewing_misses _ _ _ _ _ _ _ c.args.viewer.now l._turn c.args.updates l.left l.viewer
+          l.invariant.viewed told.1 told.3);
       failed = λ f is.
           let was = l.invariant.failed f is in
-          (was.1, inr (none_then old.unread mid.unread new.unread was.2 told.1, inr refl));
+          (was.1, inr (none_then _ _ _ was.2 told.1, inr refl));
       same_reference = l.invariant.same_reference;
       same_references = told.0.2 ∙ l.invariant.none_failed.2;
       heard = over_stops g.A.Watcher.steps (λ (n : ℕ). c.args.updates ≡ n + l.left)
-          (EndsViewing c.args.updates (Err Truncated) l.viewer) old.unread mid.unread new.unread
+          (EndsViewing c.args.updates (Err Truncated) l.viewer) _ _ _
           c.args.viewer.now c.args.watcher.now l.viewer l.watcher l.invariant.heard told.1
           (λ n was. (fewer_than c.args.updates n l.left was l.invariant.viewed.going, refl, refl));
     }
@@ -136,9 +133,6 @@ returns-then-count-eq0 g c =
 pub returns-then-fewer-eq0 : goal.returns-then-fewer-eq0
 returns-then-fewer-eq0 g c =
     let l = c.loop-turn in
-    let old = g.W.Wire.known c.args.wire.now in
-    let mid = g.W.Wire.known l.wire in
-    let new = g.W.Wire.known c.look.new.wire in
     let size : length c.read.new.buf ≡ 32768 = search rules in
     let some : 0 < c.in-Ok.count = search rules in
     let none : c.in_ok-fewer.fewer ≡ 0 = search rules in
@@ -157,7 +151,8 @@ returns-then-fewer-eq0 g c =
     let look = look_known g.W.Wire.steps g.W.Wire.known g.met.W.Wire.tells l.wire
     (g.K.Sink.written l.kept) l.viewer l.left 0 c.look.new.wire
     (g.K.Sink.written c.look.new.kept) c.look.new.viewer over in
-    let all = none_failed_then old mid new l.invariant.none_failed look.0 in
+    let all = none_failed_then (g.W.Wire.known c.args.wire.now) (g.W.Wire.known l.wire)
+    (g.W.Wire.known c.look.new.wire) l.invariant.none_failed look.0 in
     record {
       in_order = (
         l._turn + 1,
@@ -167,9 +162,7 @@ returns-then-fewer-eq0 g c =
       );
       stopped_in_order = tt;
       told = refl;
-      viewed = viewing_ends old.unread mid.unread new.unread old.written mid.written new.written
-          (g.K.Sink.written c.args.kept.now) (g.K.Sink.written l.kept)
-          (g.K.Sink.written c.look.new.kept) c.args.viewer.now l._turn c.args.updates l.left
+      viewed = viewing_ends _ _ _ _ _ _ _ _ _ c.args.viewer.now l._turn c.args.updates l.left
           l.viewer (take c.in-Ok.count c.read.new.buf) c.look.new.viewer l.invariant.viewed
           look.1 look.2;
       none_failed = (
@@ -186,8 +179,8 @@ returns-then-fewer-eq0 g c =
       same_references = all.2;
       heard = over_ends g.A.Watcher.steps (λ (n : ℕ). c.args.updates ≡ n + l.left)
           (EndsLooking l.left (Ok c.in_ok-fewer.fewer) c.look.new.viewer)
-          (EndsViewing c.args.updates (Ok c.args.updates) c.look.new.viewer) old.unread mid.unread
-          new.unread c.args.viewer.now c.args.watcher.now l.viewer l.watcher
+          (EndsViewing c.args.updates (Ok c.args.updates) c.look.new.viewer) _ _ _ c.args.viewer.now
+          c.args.watcher.now l.viewer l.watcher
           (take c.in-Ok.count c.read.new.buf) c.look.new.watcher l.invariant.heard look.1
           c.in_ok-fewer.ensures.heard
           (λ m n later last was ends. (omega (arith, was, ends.0, none), ends.1));
@@ -255,9 +248,6 @@ returns-in_err-fewer g c =
 pub loop-turn-preserved : goal.loop-turn-preserved
 loop-turn-preserved g c =
     let l = c.loop-turn in
-    let old = g.W.Wire.known c.args.wire.now in
-    let mid = g.W.Wire.known l.wire in
-    let new = g.W.Wire.known c.look.new.wire in
     let size : length c.read.new.buf ≡ 32768 = search rules in
     let some : 0 < c.in-Ok.count = search rules in
     let going : 0 < c.in_ok-fewer.fewer = search rules in
@@ -278,12 +268,11 @@ loop-turn-preserved g c =
       order = NextLook l._turn l.left c.in_ok-fewer.fewer l.wire c.look.new.wire
           (g.K.Sink.written l.kept) (g.K.Sink.written c.look.new.kept) l.viewer
           c.look.new.viewer l.invariant.order l.invariant.viewed.going over;
-      viewed = viewing_more old.unread mid.unread new.unread old.written mid.written new.written
-          (g.K.Sink.written c.args.kept.now) (g.K.Sink.written l.kept)
-          (g.K.Sink.written c.look.new.kept) c.args.viewer.now l._turn c.args.updates l.left
+      viewed = viewing_more _ _ _ _ _ _ _ _ _ c.args.viewer.now l._turn c.args.updates l.left
           c.in_ok-fewer.fewer l.viewer (take c.in-Ok.count c.read.new.buf) c.look.new.viewer
           l.invariant.viewed look.1 over.some look.2 going;
-      none_failed = none_failed_then old mid new l.invariant.none_failed look.0;
+      none_failed = none_failed_then (g.W.Wire.known c.args.wire.now) (g.W.Wire.known l.wire)
+          (g.W.Wire.known c.look.new.wire) l.invariant.none_failed look.0;
       none_unkept = c.in_ok-fewer.ensures.none_failed.1 ∙ l.invariant.none_unkept;
       same_reference = c.look.ensures.same_reference ∙ l.invariant.same_reference;
       size = size;
@@ -293,8 +282,8 @@ loop-turn-preserved g c =
           absurd (no_answer c.in_ok-fewer.fewer (ViewerEnded f) again.0);
       heard = over_more g.A.Watcher.steps (λ (n : ℕ). c.args.updates ≡ n + l.left)
           (λ (n : ℕ). c.args.updates ≡ n + c.in_ok-fewer.fewer)
-          (EndsLooking l.left (Ok c.in_ok-fewer.fewer) c.look.new.viewer) old.unread mid.unread
-          new.unread c.args.viewer.now c.args.watcher.now l.viewer l.watcher
+          (EndsLooking l.left (Ok c.in_ok-fewer.fewer) c.look.new.viewer) _ _ _ c.args.viewer.now
+          c.args.watcher.now l.viewer l.watcher
           (take c.in-Ok.count c.read.new.buf) c.look.new.viewer c.look.new.watcher
           l.invariant.heard look.1 c.in_ok-fewer.ensures.heard
           (λ m n later last was ends. (
