@@ -134,22 +134,11 @@ pub heard_last : (old new : Link) (bytes : List ℕ) (count : ℕ) → bytes ≡
     SessionEndsBy old.session bytes new.session → new.viewer ≡ old.viewer →
     new.to_server ≡ drop count old.to_server → new.to_viewer ≡ old.to_viewer → new.latest ≡ old.latest →
     EndsHearing old count false new
-heard_last old new bytes count is ends same gets sends latest = record {
-  fed = [];
-  later = bytes;
-  sent = [];
-  soles = 0;
-  asked = never_sole;
-  last = old.session;
-  bytes_are = sym is;
-  hears = λ screen. feeds_none (session_driven screen) old.session;
-  failed = λ some. takes_none old.session;
-  ends = ends;
-  gone = gets;
-  answered = sends ∙ sym (append-nil old.to_viewer);
-  viewer = same;
-  latest = latest;
-}
+heard_last old new bytes count is ends same gets sends latest =
+    let none : take count old.to_server ≡ [] ++ bytes = sym is in
+    let answered : new.to_viewer ≡ old.to_viewer ++ [] = sends ∙ sym (append-nil old.to_viewer) in
+    search (none, answered, never_sole, takes_none old.session,
+    λ (screen : Grid Colour). feeds_none (session_driven screen) old.session)
 
 -- what reached it, either way
 pub heard_reaches : (old new : Link) (count : ℕ) (sole : Bool) →

@@ -98,16 +98,7 @@ module _ {W : Type 0} (steps : Stepping W) (known : W → Known) (before mid : W
   view_stops : (fault : EngineFault) (after : W) (copied : Option (List ℕ)) (failing failed : ℕ) (new : Viewer) →
       StopsLookOver steps known count mid kept failing now fault after copied failed new →
       StopsViewInOrder steps known before blank failing old updates fault after copied failed new
-  view_stops fault after copied failing failed new stops = record {
-    count = count;
-    left = left;
-    going = going;
-    mid = mid;
-    kept = kept;
-    between = now;
-    looks = so_far;
-    stops = stops;
-  }
+  view_stops fault after copied failing failed new stops = search (going, so_far, stops)
 
   pub view_misses : (after : W) (failing failed : ℕ) → steps mid Missed after →
       StopsViewInOrder steps known before blank failing old updates Device after kept failed now
