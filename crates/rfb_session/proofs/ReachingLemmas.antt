@@ -18,7 +18,7 @@ use Rattle.rfb_session.specs.declared.link.Link.{Link}
 use Rattle.rfb_session.specs.InFlight.{viewer_reply, server_reply}
 use Rattle.rfb_session.specs.LinkBytes.{session_driven, IsSole, sole_told, HearsOver, SessionEndsBy, ReachesSession}
 use Rattle.rfb_session.specs.LinkBytes.{TellsSole, ViewerEndsBy, ReachesViewer}
-use Rattle.rfb_session.specs.EngineRun.{TakesNone}
+use Rattle.rfb_session.specs.EngineRun.{FeedsOn, TakesNone}
 use Rattle.rfb_session.specs.ViewerActs.{viewer_driven, ViewerFeeds, ends_told}
 use Rattle.rfb_session.specs.inside.LinkDelivery.{HasHeard, EndsHearing, HasWatched, EndsWatching}
 use Rattle.rfb_session.proofs.EngineRunLemmas.{feeds_none, feeds_once, feeds_then, takes_none, takes_none_then}
@@ -33,6 +33,39 @@ sole_sum : (p q : Bool) (m n : ℕ) → IsSole p m → IsSole q n → IsSole (p 
 sole_sum true q m n one two = record { some = λ e. omega (arith, one.some refl); none = λ e. cc }
 sole_sum false true m n one two = record { some = λ e. omega (arith, two.some refl); none = λ e. cc }
 sole_sum false false m n one two = record { some = λ e. cc; none = λ e. omega (arith, one.none refl, two.none refl) }
+
+-- ---- the bytes of two deliveries, one after the other
+
+gone_more : (a b c : List ℕ) (k j : ℕ) → b ≡ drop k a → c ≡ drop j b → c ≡ drop (k + j) a
+gone_more a b c k j one two = two ∙ ap (λ (rest : List ℕ). drop j rest) one ∙ drop-drop j k a
+
+taken_more : (a b : List ℕ) (k j : ℕ) → b ≡ drop k a → take k a ++ take j b ≡ take (k + j) a
+taken_more a b k j gone =
+    ap (λ (rest : List ℕ). take k a ++ take j rest) gone ∙ sym (take-add k j a)
+
+-- of which the second are parted
+parted_more : (a b : List ℕ) (k j : ℕ) (fed later : List ℕ) → b ≡ drop k a → take j b ≡ fed ++ later →
+    take (k + j) a ≡ (take k a ++ fed) ++ later
+parted_more a b k j fed later gone is =
+    sym (taken_more a b k j gone) ∙ ap (λ (rest : List ℕ). take k a ++ rest) is
+    ∙ sym (append_assoc (take k a) fed later)
+
+-- their answers joined the bytes that were in flight
+joined_more : (a b c one two : List ℕ) → b ≡ a ++ one → c ≡ b ++ two → c ≡ a ++ (one ++ two)
+joined_more a b c one two first second =
+    second ∙ ap (λ (l : List ℕ). l ++ two) first ∙ append_assoc a one two
+
+-- an end that had failed took none of either
+none_more : {V : Type 0} (Failed : V → Type 0) {old mid new : V} {fed sent more_fed more_sent : List ℕ}
+    {n m : ℕ} (all : List ℕ) → fed ++ more_fed ≡ all → (Failed old → TakesNone old fed sent n mid) →
+    (Failed mid → TakesNone mid more_fed more_sent m new) →
+    Failed old → TakesNone old all (sent ++ more_sent) (n + m) new
+none_more {V = V} Failed {old = old} {mid = mid} {new = new} {fed = fed} {sent = sent} {more_fed = more_fed}
+    {more_sent = more_sent} {n = n} {m = m} all is one two some =
+    let first = one some in
+    subst (λ (l : List ℕ). TakesNone old l (sent ++ more_sent) (n + m) new) is
+    (takes_none_then old mid new fed sent more_fed more_sent n m first
+    (two (subst (λ (v : V). Failed v) (sym first.same) some)))
 
 -- ---- the session
 
@@ -75,59 +108,32 @@ heard_once old new bytes count used sole event going few is some fed same gets s
       latest = latest;
     }
 
-still_failed : (old new : Session) → new ≡ old → session_fault old ≢ None → session_fault new ≢ None
-still_failed old new same some = subst (λ (s : Session). session_fault s ≢ None) (sym same) some
-
 -- some, and then some more
 pub heard_more : (a b c : Link) (k j : ℕ) (p q : Bool) → HasHeard a k p b → HasHeard b j q c →
     HasHeard a (k + j) (p || q) c
-heard_more a b c k j p q one two = record {
-  sent = one.sent ++ two.sent;
-  soles = one.soles + two.soles;
-  asked = sole_sum p q one.soles two.soles one.asked two.asked;
-  failed = λ some. subst (λ (bytes : List ℕ). TakesNone a.session bytes (one.sent ++ two.sent)
-      (one.soles + two.soles) c.session)
-      (sym (take-add k j a.to_server ∙ ap (λ (rest : List ℕ). take k a.to_server ++ take j rest) (sym one.gone)))
-      (takes_none_then a.session b.session c.session (take k a.to_server) one.sent (take j b.to_server) two.sent
-      one.soles two.soles
-      (one.failed some) (two.failed (still_failed a.session b.session (one.failed some).same some)));
-  hears = subst (λ (bytes : List ℕ). HearsOver a.session bytes (one.sent ++ two.sent) (one.soles + two.soles) c.session)
-      (sym (take-add k j a.to_server ∙ ap (λ (rest : List ℕ). take k a.to_server ++ take j rest) (sym one.gone)))
-      (λ screen. feeds_then (session_driven screen) a.session b.session c.session (take k a.to_server) one.sent
-      (take j b.to_server) two.sent one.soles two.soles (one.hears screen) (two.hears screen));
-  gone = two.gone ∙ ap (λ (rest : List ℕ). drop j rest) one.gone ∙ drop-drop j k a.to_server;
-  answered =
-      two.answered ∙ ap (λ (l : List ℕ). l ++ two.sent) one.answered ∙ append_assoc a.to_viewer one.sent two.sent;
-  viewer = two.viewer ∙ one.viewer;
-  latest = two.latest ∙ one.latest;
-}
+heard_more a b c k j p q one two =
+    let all = taken_more a.to_server b.to_server k j one.gone in
+    search (sole_sum p q one.soles two.soles one.asked two.asked,
+    none_more (λ (v : Session). session_fault v ≢ None) (take (k + j) a.to_server) all one.failed two.failed,
+    λ (screen : Grid Colour). subst (λ (bytes : List ℕ). FeedsOn (session_driven screen) a.session bytes
+    (one.sent ++ two.sent) (one.soles + two.soles) c.session) all
+    (feeds_then (session_driven screen) a.session b.session c.session (take k a.to_server) one.sent
+    (take j b.to_server) two.sent one.soles two.soles (one.hears screen) (two.hears screen)),
+    gone_more a.to_server b.to_server c.to_server k j one.gone two.gone,
+    joined_more a.to_viewer b.to_viewer c.to_viewer one.sent two.sent one.answered two.answered,
+    two.viewer ∙ one.viewer, two.latest ∙ one.latest)
 
 -- some, and then it ends
 pub heard_ends : (a b c : Link) (k j : ℕ) (p q : Bool) → HasHeard a k p b → EndsHearing b j q c →
     EndsHearing a (k + j) (p || q) c
-heard_ends a b c k j p q one two = record {
-  fed = take k a.to_server ++ two.fed;
-  later = two.later;
-  sent = one.sent ++ two.sent;
-  soles = one.soles + two.soles;
-  asked = sole_sum p q one.soles two.soles one.asked two.asked;
-  last = two.last;
-  bytes_are = take-add k j a.to_server
-      ∙ ap (λ (rest : List ℕ). take k a.to_server ++ take j rest) (sym one.gone)
-      ∙ ap (λ (rest : List ℕ). take k a.to_server ++ rest) two.bytes_are
-      ∙ sym (append_assoc (take k a.to_server) two.fed two.later);
-  hears = λ screen. feeds_then (session_driven screen) a.session b.session two.last (take k a.to_server) one.sent
-      two.fed two.sent one.soles two.soles (one.hears screen) (two.hears screen);
-  failed = λ some. takes_none_then a.session b.session two.last (take k a.to_server) one.sent two.fed two.sent
-      one.soles two.soles
-      (one.failed some) (two.failed (still_failed a.session b.session (one.failed some).same some));
-  ends = two.ends;
-  gone = two.gone ∙ ap (λ (rest : List ℕ). drop j rest) one.gone ∙ drop-drop j k a.to_server;
-  answered =
-      two.answered ∙ ap (λ (l : List ℕ). l ++ two.sent) one.answered ∙ append_assoc a.to_viewer one.sent two.sent;
-  viewer = two.viewer ∙ one.viewer;
-  latest = two.latest ∙ one.latest;
-}
+heard_ends a b c k j p q one two =
+    search (parted_more a.to_server b.to_server k j two.fed two.later one.gone two.bytes_are,
+    sole_sum p q one.soles two.soles one.asked two.asked,
+    none_more (λ (v : Session). session_fault v ≢ None) (take k a.to_server ++ two.fed) refl one.failed two.failed,
+    λ (screen : Grid Colour). feeds_then (session_driven screen) a.session b.session two.last (take k a.to_server)
+    one.sent two.fed two.sent one.soles two.soles (one.hears screen) (two.hears screen),
+    gone_more a.to_server b.to_server c.to_server k j one.gone two.gone,
+    joined_more a.to_viewer b.to_viewer c.to_viewer one.sent two.sent one.answered two.answered, ◌∙◌)
 
 -- a call that it ends at
 pub heard_last : (old new : Link) (bytes : List ℕ) (count : ℕ) → bytes ≡ take count old.to_server →
@@ -143,36 +149,16 @@ heard_last old new bytes count is ends same gets sends latest =
 -- what reached it, either way
 pub heard_reaches : (old new : Link) (count : ℕ) (sole : Bool) →
     HasHeard old count sole new ⊎ EndsHearing old count sole new → ReachesSession old count new
-heard_reaches old new count sole (inl all) = record {
-  fed = take count old.to_server;
-  later = [];
-  sent = all.sent;
-  soles = all.soles;
-  last = new.session;
-  bytes_are = sym (append-nil (take count old.to_server));
-  hears = all.hears;
-  failed = all.failed;
-  ends = inl (refl, refl);
-  gone = all.gone;
-  answered = all.answered;
-  viewer = all.viewer;
-  latest = all.latest;
-}
-heard_reaches old new count sole (inr ended) = record {
-  fed = ended.fed;
-  later = ended.later;
-  sent = ended.sent;
-  soles = ended.soles;
-  last = ended.last;
-  bytes_are = ended.bytes_are;
-  hears = ended.hears;
-  failed = ended.failed;
-  ends = inr ended.ends;
-  gone = ended.gone;
-  answered = ended.answered;
-  viewer = ended.viewer;
-  latest = ended.latest;
-}
+heard_reaches old new count sole (inl all) =
+    let parts : take count old.to_server ≡ take count old.to_server ++ [] = sym (append-nil _) in
+    let none : List ℕ = [] in
+    let ends : ((none ≡ []) × (new.session ≡ new.session)) ⊎ SessionEndsBy new.session none new.session =
+    inl (refl, refl) in
+    search (all, parts, ends)
+heard_reaches old new count sole (inr ended) =
+    let ends : ((ended.later ≡ []) × (new.session ≡ ended.last))
+    ⊎ SessionEndsBy ended.last ended.later new.session = inr ended.ends in
+    search (ended, ends)
 
 -- calls so far that left some, and one more: it goes on, or it ended at the last
 pub heard_goes_on : (a b c : Link) (used left all : ℕ) (p q : Bool) → 0 < used → used ≤ left → left ≤ all →
@@ -235,111 +221,51 @@ watched_once old new bytes count used event going few is some fed same gets send
       latest = latest;
     }
 
-still_broken : (old new : Viewer) → new ≡ old → fault_of old ≢ None → fault_of new ≢ None
-still_broken old new same some = subst (λ (v : Viewer). fault_of v ≢ None) (sym same) some
-
 -- some, and then some more
 pub watched_more : (a b c : Link) (k j : ℕ) → HasWatched a k b → HasWatched b j c → HasWatched a (k + j) c
-watched_more a b c k j one two = record {
-  sent = one.sent ++ two.sent;
-  updates = one.updates + two.updates;
-  failed = λ some. subst (λ (bytes : List ℕ). TakesNone a.viewer bytes (one.sent ++ two.sent)
-      (one.updates + two.updates) c.viewer)
-      (sym (take-add k j a.to_viewer ∙ ap (λ (rest : List ℕ). take k a.to_viewer ++ take j rest) (sym one.gone)))
-      (takes_none_then a.viewer b.viewer c.viewer (take k a.to_viewer) one.sent (take j b.to_viewer) two.sent
-      one.updates two.updates
-      (one.failed some) (two.failed (still_broken a.viewer b.viewer (one.failed some).same some)));
-  watches = subst (λ (bytes : List ℕ). ViewerFeeds a.viewer bytes (one.sent ++ two.sent)
-      (one.updates + two.updates) c.viewer)
-      (sym (take-add k j a.to_viewer ∙ ap (λ (rest : List ℕ). take k a.to_viewer ++ take j rest) (sym one.gone)))
-      (feeds_then viewer_driven a.viewer b.viewer c.viewer (take k a.to_viewer) one.sent (take j b.to_viewer)
-      two.sent one.updates two.updates one.watches two.watches);
-  gone = two.gone ∙ ap (λ (rest : List ℕ). drop j rest) one.gone ∙ drop-drop j k a.to_viewer;
-  answered =
-      two.answered ∙ ap (λ (l : List ℕ). l ++ two.sent) one.answered ∙ append_assoc a.to_server one.sent two.sent;
-  session = two.session ∙ one.session;
-  latest = two.latest ∙ one.latest;
-}
+watched_more a b c k j one two =
+    let all = taken_more a.to_viewer b.to_viewer k j one.gone in
+    search (none_more (λ (v : Viewer). fault_of v ≢ None) (take (k + j) a.to_viewer) all one.failed two.failed,
+    subst (λ (bytes : List ℕ). ViewerFeeds a.viewer bytes (one.sent ++ two.sent) (one.updates + two.updates)
+    c.viewer) all (feeds_then viewer_driven a.viewer b.viewer c.viewer (take k a.to_viewer) one.sent
+    (take j b.to_viewer) two.sent one.updates two.updates one.watches two.watches),
+    gone_more a.to_viewer b.to_viewer c.to_viewer k j one.gone two.gone,
+    joined_more a.to_server b.to_server c.to_server one.sent two.sent one.answered two.answered,
+    two.session ∙ one.session, two.latest ∙ one.latest)
 
 -- some, and then it ends
 pub watched_ends : (a b c : Link) (k j : ℕ) → HasWatched a k b → EndsWatching b j c → EndsWatching a (k + j) c
-watched_ends a b c k j one two = record {
-  fed = take k a.to_viewer ++ two.fed;
-  later = two.later;
-  sent = one.sent ++ two.sent;
-  updates = one.updates + two.updates;
-  last = two.last;
-  bytes_are = take-add k j a.to_viewer
-      ∙ ap (λ (rest : List ℕ). take k a.to_viewer ++ take j rest) (sym one.gone)
-      ∙ ap (λ (rest : List ℕ). take k a.to_viewer ++ rest) two.bytes_are
-      ∙ sym (append_assoc (take k a.to_viewer) two.fed two.later);
-  watches = feeds_then viewer_driven a.viewer b.viewer two.last (take k a.to_viewer) one.sent two.fed two.sent
-      one.updates two.updates one.watches two.watches;
-  failed = λ some. takes_none_then a.viewer b.viewer two.last (take k a.to_viewer) one.sent two.fed two.sent
-      one.updates two.updates
-      (one.failed some) (two.failed (still_broken a.viewer b.viewer (one.failed some).same some));
-  ends = two.ends;
-  gone = two.gone ∙ ap (λ (rest : List ℕ). drop j rest) one.gone ∙ drop-drop j k a.to_viewer;
-  answered =
-      two.answered ∙ ap (λ (l : List ℕ). l ++ two.sent) one.answered ∙ append_assoc a.to_server one.sent two.sent;
-  session = two.session ∙ one.session;
-  latest = two.latest ∙ one.latest;
-}
+watched_ends a b c k j one two =
+    search (parted_more a.to_viewer b.to_viewer k j two.fed two.later one.gone two.bytes_are,
+    none_more (λ (v : Viewer). fault_of v ≢ None) (take k a.to_viewer ++ two.fed) refl one.failed two.failed,
+    feeds_then viewer_driven a.viewer b.viewer two.last (take k a.to_viewer) one.sent two.fed two.sent
+    one.updates two.updates one.watches two.watches,
+    gone_more a.to_viewer b.to_viewer c.to_viewer k j one.gone two.gone,
+    joined_more a.to_server b.to_server c.to_server one.sent two.sent one.answered two.answered, ◌∙◌)
 
 -- a call that it ends at
 pub watched_last : (old new : Link) (bytes : List ℕ) (count : ℕ) → bytes ≡ take count old.to_viewer →
     ViewerEndsBy old.viewer bytes new.viewer → new.session ≡ old.session →
     new.to_viewer ≡ drop count old.to_viewer → new.to_server ≡ old.to_server → new.latest ≡ old.latest →
     EndsWatching old count new
-watched_last old new bytes count is ends same gets sends latest = record {
-  fed = [];
-  later = bytes;
-  sent = [];
-  updates = 0;
-  last = old.viewer;
-  bytes_are = sym is;
-  watches = feeds_none viewer_driven old.viewer;
-  failed = λ some. takes_none old.viewer;
-  ends = ends;
-  gone = gets;
-  answered = sends ∙ sym (append-nil old.to_server);
-  session = same;
-  latest = latest;
-}
+watched_last old new bytes count is ends same gets sends latest =
+    let none : take count old.to_viewer ≡ [] ++ bytes = sym is in
+    let answered : new.to_server ≡ old.to_server ++ [] = sends ∙ sym (append-nil old.to_server) in
+    search (none, answered, feeds_none viewer_driven old.viewer, takes_none old.viewer)
 
 -- what reached it, either way
 pub watched_reaches : (old new : Link) (count : ℕ) →
     HasWatched old count new ⊎ EndsWatching old count new → ReachesViewer old count new
-watched_reaches old new count (inl all) = record {
-  fed = take count old.to_viewer;
-  later = [];
-  sent = all.sent;
-  updates = all.updates;
-  last = new.viewer;
-  bytes_are = sym (append-nil (take count old.to_viewer));
-  watches = all.watches;
-  failed = all.failed;
-  ends = inl (refl, refl);
-  gone = all.gone;
-  answered = all.answered;
-  session = all.session;
-  latest = all.latest;
-}
-watched_reaches old new count (inr ended) = record {
-  fed = ended.fed;
-  later = ended.later;
-  sent = ended.sent;
-  updates = ended.updates;
-  last = ended.last;
-  bytes_are = ended.bytes_are;
-  watches = ended.watches;
-  failed = ended.failed;
-  ends = inr ended.ends;
-  gone = ended.gone;
-  answered = ended.answered;
-  session = ended.session;
-  latest = ended.latest;
-}
+watched_reaches old new count (inl all) =
+    let parts : take count old.to_viewer ≡ take count old.to_viewer ++ [] = sym (append-nil _) in
+    let none : List ℕ = [] in
+    let ends : ((none ≡ []) × (new.viewer ≡ new.viewer)) ⊎ ViewerEndsBy new.viewer none new.viewer =
+    inl (refl, refl) in
+    search (all, parts, ends)
+watched_reaches old new count (inr ended) =
+    let ends : ((ended.later ≡ []) × (new.viewer ≡ ended.last))
+    ⊎ ViewerEndsBy ended.last ended.later new.viewer = inr ended.ends in
+    search (ended, ends)
 
 -- calls so far that left some, and one more: it goes on, or it ended at the last
 pub watched_goes_on : (a b c : Link) (used left all : ℕ) → 0 < used → used ≤ left → left ≤ all →

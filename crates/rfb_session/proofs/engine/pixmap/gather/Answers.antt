@@ -19,11 +19,8 @@ loop-start-init g c =
 
 pub returns-in_err-make_room-clause-stopped : goal.returns-in_err-make_room-clause-stopped
 returns-in_err-make_room-clause-stopped g c =
-    let l = c.loop-start in
-    on_err c.from_residual.result _
-    (gathering_stopped (g.W.Sink.written c.args.sink.now) (g.W.Sink.written l.sink)
-    (g.W.Sink.written c.make_room.new.sink) c.args.waiting.now l.waiting c.args.colours.now
-    l.start l.invariant.gathered c.in_err-make_room.ensures.stopped)
+    on_err c.from_residual.result _ (gathering_stopped _ _ _ c.args.waiting.now c.loop-start.waiting
+    c.args.colours.now c.loop-start.start c.loop-start.invariant.gathered c.in_err-make_room.ensures.stopped)
 
 pub append_components-requires : goal.append_components-requires
 append_components-requires g c =
