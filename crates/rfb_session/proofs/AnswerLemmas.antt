@@ -13,11 +13,11 @@ use Rattle.rfb_hello.specs.declared.version.Version.{Version}
 use Rattle.rfb_hello.specs.declared.version.Version.TheVariants.{V33, V37, V38}
 use Rattle.rfb_hello.specs.Version.{lower}
 use Rattle.rfb_hello.specs.ClientHandshake.{AwaitsVersion as AwaitsClientVersion, AwaitsChoice}
-use Rattle.rfb_hello.specs.ClientHandshake.{AwaitsInit as AwaitsClientInit, ClientItem}
+use Rattle.rfb_hello.specs.ClientHandshake.{AwaitsInit as AwaitsClientInit}
 use Rattle.rfb_hello.specs.ClientHandshake.{ProtocolVersion as ClientVersion, SecurityType, ClientInit, after_version}
-use Rattle.rfb_hello.specs.ServerHandshake.{ServerPoint, AwaitsVersion, AwaitsSecurity, AwaitsResult, AwaitsInit}
-use Rattle.rfb_hello.specs.ServerHandshake.{AwaitsName, ServerItem, ProtocolVersion, SecurityNone, SecurityTypes}
-use Rattle.rfb_hello.specs.ServerHandshake.{SecurityResult, ServerInit, Name}
+use Rattle.rfb_hello.specs.ServerHandshake.{AwaitsVersion, AwaitsSecurity, AwaitsResult, AwaitsInit}
+use Rattle.rfb_hello.specs.ServerHandshake.{ProtocolVersion, SecurityNone, SecurityTypes}
+use Rattle.rfb_hello.specs.ServerHandshake.{SecurityResult, ServerInit}
 use Rattle.rfb_hello.specs.ServerAnswers.{types_asked, init_asked, name_asked}
 use Rattle.rfb_hello.specs.ServerEnd.{answer_bytes, server_tells}
 use Rattle.rfb_hello.specs.ViewerAnswers.{reply_bytes}

@@ -68,6 +68,7 @@ pub record OnlyCalls (event : Event) : Type 0 where
   pub not_composing : (world : World) → ComposesNothing world event → ⊥
   pub not_idle : (screen : Grid Colour) (link : Link) → IsIdleOn screen link event → ⊥
 
+-- every event that is a call does no more
 only_calls : (event : Event) → IsCall event → OnlyCalls event
 only_calls (Fill rect colour) is = absurd is
 only_calls (Put x y row) is = absurd is

@@ -1,5 +1,5 @@
 -- Bytes that reach an end that has failed have no effect.
-use Rattle.std.proofs.Common.{ℕ, ◌+◌, List, drop, drop-drop, refl, arith}
+use Rattle.std.proofs.Common.{ℕ, ◌+◌, drop-drop, refl, arith}
 use Rattle.rfb_session.specs.declared.link.Link.{Link}
 use Rattle.rfb_session.specs.LinkModel.{LosesToViewer, LosesToServer}
 

@@ -1,5 +1,5 @@
 -- A world that makes its ends itself needs no premise of them.
-use Rattle.std.proofs.Common.{ℕ, ◌*◌, ◌≤◌, List, [], refl, arith}
+use Rattle.std.proofs.Common.{ℕ, ◌*◌, ◌≤◌, List, [], arith}
 use Rattle.std.proofs.lemmas.Nat.{mul-le}
 use Rattle.rfb_pixel.proofs.FormatLaws.{rgb888-is_format}
 use Rattle.rfb_picture.specs.Grid.{uniform}

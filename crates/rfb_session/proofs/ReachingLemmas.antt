@@ -36,9 +36,11 @@ sole_sum false false m n one two = record { some = λ e. cc; none = λ e. omega 
 
 -- ---- the bytes of two deliveries, one after the other
 
+-- what is left of those that were in flight
 gone_more : (a b c : List ℕ) (k j : ℕ) → b ≡ drop k a → c ≡ drop j b → c ≡ drop (k + j) a
 gone_more a b c k j one two = two ∙ ap (λ (rest : List ℕ). drop j rest) one ∙ drop-drop j k a
 
+-- the first of them and the next are the first of all
 taken_more : (a b : List ℕ) (k j : ℕ) → b ≡ drop k a → take k a ++ take j b ≡ take (k + j) a
 taken_more a b k j gone =
     ap (λ (rest : List ℕ). take k a ++ take j rest) gone ∙ sym (take-add k j a)

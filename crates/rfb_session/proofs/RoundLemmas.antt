@@ -28,6 +28,7 @@ after_turns seat count low few = elim (after_is seat count) [
   | inr far ↦ (1, omega arith, omega (arith, far.0, far.1), omega (arith, low, few, far.0, far.1))
 ]
 
+-- nor more than once where those before a seat are counted
 before_turns : (first k : ℕ) → first < 8 → k < 8 → (turns : ℕ) × (turns ≤ 1)
     × (seats_before first k + first + 8 * turns ≡ k + 8) × (seats_before first k < 8)
 before_turns first k low within = elim (before_is first k) [

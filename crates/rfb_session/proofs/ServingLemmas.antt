@@ -260,6 +260,7 @@ updating_fails unread mid left before w x after old reads told last heard bytes 
 
 -- ---- after a greeting
 
+-- what holds of its bytes holds after it
 pub goes_after : (After : List ℕ → Type 0) (old : Server) (greeting : List ℕ) → IsGreeting old greeting →
     After greeting → GoesOn After old
 goes_after After old greeting is goes_on = record { greeting = greeting; greeting_is = is; goes_on = goes_on }
