@@ -2,6 +2,8 @@
 use Rattle.std.proofs.Common.{◌≡◌, ℕ, zero, suc, ◌+◌, ◌-◌, ◌*◌, ◌==◌, Bool, true, false, List, [], ◌∷◌, ◌++◌, map}
 use Rattle.std.proofs.Common.{length, None, replicate, slice_index_or, refl, sym, ap, ◌∙◌, subst, arith}
 use Rattle.std.proofs.lemmas.Bool.Decides.{nat_tests}
+use Rattle.std.specs.List.{fold}
+use Rattle.std.proofs.lemmas.List.Sums.{fold-append}
 use Rattle.rfb_pixel.specs.Format.{PixelFormat}
 use Rattle.rfb_picture.specs.declared.rect.Rect.{Rect}
 use Rattle.rfb_picture.specs.Grid.{Grid, at_or, uniform}
@@ -70,13 +72,11 @@ form_past form (Second (PointerEvent buttons x y)) = form
 form_past form (Second (ClientCutText text)) = form
 
 abbrev pub form_after : PixelFormat → List FromClient → PixelFormat
-form_after form [] = form
-form_after form (item ∷ items) = form_after (form_past form item) items
+form_after form items = fold form_past form items
 
 pub form_append : (form : PixelFormat) (items : List FromClient) (last : FromClient) →
     form_after form (items ++ last ∷ []) ≡ form_past (form_after form items) last
-form_append form [] last = refl
-form_append form (item ∷ items) last = form_append (form_past form item) items last
+form_append form items last = fold-append form_past form items (last ∷ [])
 
 pub mere_form : (form : PixelFormat) (item : FromClient) → IsMere item → form_past form item ≡ form
 mere_form form (First step) mere = refl
