@@ -38,6 +38,7 @@ pub mod ShareMemoryLemmas
 pub mod ShareLifeLemmas
 pub mod ShareLemmas
 mod ShareWorkLemmas
+pub mod ShareStateLemmas
 pub mod MirrorSizeLemmas
 pub mod ShareMoveLemmas
 pub mod MirrorLemmas

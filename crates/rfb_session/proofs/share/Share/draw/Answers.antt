@@ -4,8 +4,8 @@ use Rattle.rfb_server.proofs.DrawingLaws.{area_held}
 use Rattle.rfb_session.specs.declared.share.screen.Screen.{Screen}
 use Rattle.rfb_session.specs.ShareScreen.{shown_on}
 use Rattle.rfb_session.specs.ShareSeats.{IsNotifiedIn}
-use Rattle.rfb_session.specs.ShareWork.{OthersRest}
 use Rattle.rfb_session.proofs.FollowLemmas.{AllFollow, all_about, all_notified}
+use Rattle.rfb_session.proofs.ShareStateLemmas.{sound_seen}
 use Rattle.rfb_session.proofs.ShareWorkLemmas.{rest_of_all}
 use Rattle.rfb_session.proofs.share.Share.draw.Goals as goal
 
@@ -29,16 +29,7 @@ invariant_of-self c =
     record { eight = s.eight; columns = s.columns; rows = s.rows; follow = s.follow; rest = s.rest }
 
 pub invariant_of-self-in-Break-1 : goal.invariant_of-self-in-Break-1
-invariant_of-self-in-Break-1 c =
-    let s = c.args.self.now in
-    let is = c.in-Drawn.is in
-    record {
-      eight = s.eight;
-      columns = subst (λ (x : Screen). (shown_on x).width ≤ 4096) is s.columns;
-      rows = subst (λ (x : Screen). (shown_on x).height ≤ 4096) is s.rows;
-      follow = subst (λ (x : Screen). AllFollow (λ seat. seat.session) (shown_on x) s.seats) is s.follow;
-      rest = subst (λ (x : Screen). OthersRest (shown_on x) s.seats s.stirred) is s.rest;
-    }
+invariant_of-self-in-Break-1 c = assumption (sound_seen c.args.self.now _ c.in-Drawn.is)
 
 pub invariant_of-self-2 : goal.invariant_of-self-2
 invariant_of-self-2 c =

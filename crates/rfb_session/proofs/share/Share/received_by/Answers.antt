@@ -1,46 +1,21 @@
 use Rattle.std.proofs.Common.{◌<◌, ◌≡◌, ◌&&◌, ℕ, true, length, set, sym, refl, ap, ◌∙◌, arith}
-use Rattle.std.proofs.lemmas.List.{length-set}
 use Rattle.std.proofs.lemmas.Result.{err_from_is_err_and}
 use Rattle.rfb_picture.specs.Places.{has_bit}
-use Rattle.rfb_server.specs.KnownScreen.{Follows}
 use Rattle.rfb_server.specs.Told.{seen}
-use Rattle.rfb_session.specs.ShareScreen.{shown_on}
 use Rattle.rfb_session.specs.ShareSteps.{asks_alone}
-use Rattle.rfb_session.proofs.FollowLemmas.{all_set, all_emptied}
 use Rattle.rfb_session.proofs.ShareLemmas.{refused_there, received_there, refused_as, received_as, seen_none}
-use Rattle.rfb_session.proofs.SlotLemmas.{at_slot, each_seat, ends_sole, ends_none, flag_others}
+use Rattle.rfb_session.proofs.SlotLemmas.{at_slot, ends_sole, ends_none, flag_others}
 use Rattle.rfb_session.proofs.SlotLemmas.{stays_emptied, stays_clear, seat_set_same, seat_set_other}
-use Rattle.rfb_session.proofs.ShareWorkLemmas.{rest_more, rest_with, rest_emptied}
+use Rattle.rfb_session.proofs.ShareStateLemmas.{sound_more, sound_heard, sound_emptied}
 use Rattle.rfb_session.proofs.share.Share.received_by.Goals as goal
 
 pub invariant_of-self : goal.invariant_of-self
-invariant_of-self c =
-    let s = c.args.self.now in
-    record {
-      eight = s.eight;
-      columns = s.columns;
-      rows = s.rows;
-      follow = s.follow;
-      rest = rest_more (shown_on s.screen) s.seats s.stirred c.with-self.result c.args.seat
-          c.with-self.ensures s.rest;
-    }
+invariant_of-self c = assumption (sound_more c.args.self.now c.with-self.result c.args.seat c.with-self.ensures)
 
 pub invariant_of-self-in-Break-1 : goal.invariant_of-self-in-Break-1
 invariant_of-self-in-Break-1 c =
-    let s = c.args.self.now in
-    let k = c.place-place.result in
-    let within : k < length s.seats = omega (arith, c.place-place.ensures.below, s.eight) in
-    record {
-      eight = length-set s.seats k c.hear_in.new.slot ∙ s.eight;
-      columns = s.columns;
-      rows = s.rows;
-      rest = rest_with (shown_on s.screen) s.seats s.stirred c.with-self.result k c.args.seat
-          c.hear_in.new.slot c.place-place.ensures.value c.with-self.ensures s.rest;
-      follow = all_set (λ seat. seat.session) (shown_on s.screen) s.seats k c.hear_in.new.slot within
-          s.follow (λ seat is. c.hear_in.ensures.follows (shown_on s.screen) (λ x there.
-          each_seat (λ y. Follows (shown_on s.screen) y.session) s.seats s.follow k x
-          (sym (at_slot s.seats k _ within) ∙ there)) seat is);
-    }
+    assumption (sound_heard c.args.self.now c.place-place.result c.place-place.ensures.below c.hear_in.new.slot
+    c.with-self.result c.args.seat _ c.place-place.ensures.value c.with-self.ensures c.hear_in.ensures.follows)
 
 pub returns-in_err-fed-clause-refused : goal.returns-in_err-fed-clause-refused
 returns-in_err-fed-clause-refused c =
@@ -58,25 +33,11 @@ pub invariant_of-self-then-is_sole : goal.invariant_of-self-then-is_sole
 invariant_of-self-then-is_sole c =
     let s = c.args.self.now in
     let k = c.place-place.result in
-    let within : k < length s.seats = omega (arith, c.place-place.ensures.below, s.eight) in
-    record {
-      eight = c.empty_others-ended.ensures.size
-          ∙ (length-set s.seats k c.hear_in.new.slot ∙ s.eight);
-      columns = s.columns;
-      rows = s.rows;
-      rest = rest_emptied (shown_on s.screen) (set s.seats k c.hear_in.new.slot)
-          c.empty_others-ended.new.slots c.with-self.result k
-          (rest_with (shown_on s.screen) s.seats s.stirred c.with-self.result k c.args.seat
-          c.hear_in.new.slot c.place-place.ensures.value c.with-self.ensures s.rest)
-          c.empty_others-ended.ensures.own c.empty_others-ended.ensures.others;
-      follow = all_emptied (λ seat. seat.session) (shown_on s.screen) (set s.seats k c.hear_in.new.slot)
-          c.empty_others-ended.new.slots k
-          (all_set (λ seat. seat.session) (shown_on s.screen) s.seats k c.hear_in.new.slot within s.follow
-          (λ seat is. c.hear_in.ensures.follows (shown_on s.screen) (λ x there.
-          each_seat (λ y. Follows (shown_on s.screen) y.session) s.seats s.follow k x
-          (sym (at_slot s.seats k _ within) ∙ there)) seat is))
-          c.empty_others-ended.ensures.own c.empty_others-ended.ensures.others;
-    }
+    let others = c.empty_others-ended.ensures in
+    assumption (sound_emptied s.screen (set s.seats k c.hear_in.new.slot) c.empty_others-ended.new.slots
+    c.with-self.result k
+    (sound_heard s k c.place-place.ensures.below c.hear_in.new.slot c.with-self.result c.args.seat _
+    c.place-place.ensures.value c.with-self.ensures c.hear_in.ensures.follows) others.size others.own others.others)
 
 pub returns-then-is_sole-clause-heard : goal.returns-then-is_sole-clause-heard
 returns-then-is_sole-clause-heard c =
@@ -104,20 +65,8 @@ returns-then-is_sole-clause-heard c =
 
 pub invariant_of-self-else-is_sole : goal.invariant_of-self-else-is_sole
 invariant_of-self-else-is_sole c =
-    let s = c.args.self.now in
-    let k = c.place-place.result in
-    let within : k < length s.seats = omega (arith, c.place-place.ensures.below, s.eight) in
-    record {
-      eight = length-set s.seats k c.hear_in.new.slot ∙ s.eight;
-      columns = s.columns;
-      rows = s.rows;
-      rest = rest_with (shown_on s.screen) s.seats s.stirred c.with-self.result k c.args.seat
-          c.hear_in.new.slot c.place-place.ensures.value c.with-self.ensures s.rest;
-      follow = all_set (λ seat. seat.session) (shown_on s.screen) s.seats k c.hear_in.new.slot within
-          s.follow (λ seat is. c.hear_in.ensures.follows (shown_on s.screen) (λ x there.
-          each_seat (λ y. Follows (shown_on s.screen) y.session) s.seats s.follow k x
-          (sym (at_slot s.seats k _ within) ∙ there)) seat is);
-    }
+    assumption (sound_heard c.args.self.now c.place-place.result c.place-place.ensures.below c.hear_in.new.slot
+    c.with-self.result c.args.seat _ c.place-place.ensures.value c.with-self.ensures c.hear_in.ensures.follows)
 
 pub returns-clause-heard : goal.returns-clause-heard
 returns-clause-heard c =

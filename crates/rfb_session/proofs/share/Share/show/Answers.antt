@@ -6,35 +6,17 @@ use Rattle.rfb_session.specs.declared.share.mirror.Mirror.{Mirror}
 use Rattle.rfb_session.specs.declared.share.screen.Screen.{Screen}
 use Rattle.rfb_session.specs.Mirrors.{seen_by}
 use Rattle.rfb_session.specs.ShareScreen.{shown_on}
-use Rattle.rfb_session.specs.ShareWork.{OthersRest}
 use Rattle.rfb_session.proofs.FollowLemmas.{AllFollow}
 use Rattle.rfb_session.proofs.ShareRelayLemmas.{all_alike, all_whole}
+use Rattle.rfb_session.proofs.ShareStateLemmas.{sound_seen}
 use Rattle.rfb_session.proofs.ShareWorkLemmas.{rest_of_all}
 use Rattle.rfb_session.proofs.share.Share.show.Goals as goal
 
 pub invariant_of-self-in-Err-1 : goal.invariant_of-self-in-Err-1
-invariant_of-self-in-Err-1 c =
-    let s = c.args.self.now in
-    let is = c.in-Seen.is in
-    record {
-      eight = s.eight;
-      columns = subst (λ (x : Screen). (shown_on x).width ≤ 4096) is s.columns;
-      rows = subst (λ (x : Screen). (shown_on x).height ≤ 4096) is s.rows;
-      follow = subst (λ (x : Screen). AllFollow (λ seat. seat.session) (shown_on x) s.seats) is s.follow;
-      rest = subst (λ (x : Screen). OthersRest (shown_on x) s.seats s.stirred) is s.rest;
-    }
+invariant_of-self-in-Err-1 c = assumption (sound_seen c.args.self.now _ c.in-Seen.is)
 
 pub invariant_of-self-then-not-is_alike : goal.invariant_of-self-then-not-is_alike
-invariant_of-self-then-not-is_alike c =
-    let s = c.args.self.now in
-    let is = c.in-Seen.is in
-    record {
-      eight = s.eight;
-      columns = subst (λ (x : Screen). (shown_on x).width ≤ 4096) is s.columns;
-      rows = subst (λ (x : Screen). (shown_on x).height ≤ 4096) is s.rows;
-      follow = subst (λ (x : Screen). AllFollow (λ seat. seat.session) (shown_on x) s.seats) is s.follow;
-      rest = subst (λ (x : Screen). OthersRest (shown_on x) s.seats s.stirred) is s.rest;
-    }
+invariant_of-self-then-not-is_alike c = assumption (sound_seen c.args.self.now _ c.in-Seen.is)
 
 pub tell_whole-requires : goal.tell_whole-requires
 tell_whole-requires c =
