@@ -81,12 +81,12 @@ same_outside old new result stands outside failed x y out = by (fault_or (fault_
 
 -- ---- its picture keeps its size
 
-pub sized_shown : (w h : ℕ) (o : Option (Grid Colour)) → IsSized w h o →
+sized_shown : (w h : ℕ) (o : Option (Grid Colour)) → IsSized w h o →
     (o ≡ Some (shown_of o)) × ((shown_of o).width ≡ w) × ((shown_of o).height ≡ h)
 sized_shown w h None sized = absurd sized
 sized_shown w h (Some g) sized = (refl, sized.0, sized.1)
 
-pub shown_sized : (o : Option (Grid Colour)) → o ≡ Some (shown_of o) →
+shown_sized : (o : Option (Grid Colour)) → o ≡ Some (shown_of o) →
     IsSized (shown_of o).width (shown_of o).height o
 shown_sized None none = absurd (let e = none in cc)
 shown_sized (Some g) is = (refl, refl)
@@ -98,7 +98,7 @@ sized_stable w h (Some g) not = (
   nat_stable g.height h (λ differ. not (λ sized. differ sized.1)),
 )
 
-pub feed_sized : (w h : ℕ) (old new : Viewer) (bytes : List ℕ) (result : Result (Fed ViewerEvent) ViewerFault) →
+feed_sized : (w h : ℕ) (old new : Viewer) (bytes : List ℕ) (result : Result (Fed ViewerEvent) ViewerFault) →
     ∥ StandsOrFailed old ∥₁ → StaysFailed (fault_of old) old result new →
     IfOk result (λ fed. (viewing : Viewing) → FedBy (viewer_end viewing) (StandsFor viewing) old (take fed.used
     bytes)
@@ -122,6 +122,20 @@ feed_sized w h old new bytes result stands failed fed keeps sized = by (fault_or
     by (inl going) = sized_stable w h (picture_of new) (λ not.
         not_nothing old stands going (λ one. not (at result fed keeps going one)))
     by (inr (fault, is)) = subst (λ (v : Viewer). IsSized w h (picture_of v)) (sym (failed fault is).1) sized
+
+-- so a viewer that had a picture has one of its size
+pub feed_shows : (old new : Viewer) (bytes : List ℕ) (result : Result (Fed ViewerEvent) ViewerFault) →
+    picture_of old ≡ Some (seen_by old) → ∥ StandsOrFailed old ∥₁ →
+    StaysFailed (fault_of old) old result new → IfOk result (λ fed. (viewing : Viewing) →
+    FedBy (viewer_end viewing) (StandsFor viewing) old (take fed.used bytes) (seen fed.event) new) →
+    IfErr result (λ fault. fault_of old ≡ None → KeepsPicture fault old bytes new) →
+    (picture_of new ≡ Some (seen_by new)) × ((seen_by new).width ≡ (seen_by old).width)
+    × ((seen_by new).height ≡ (seen_by old).height)
+feed_shows old new bytes result shown stands failed fed keeps =
+    let w = (seen_by old).width in
+    let h = (seen_by old).height in
+    sized_shown w h (picture_of new)
+    (feed_sized w h old new bytes result stands failed fed keeps (shown_sized (picture_of old) shown))
 
 -- ---- and it stands for something or has failed
 
@@ -157,6 +171,14 @@ keeps_stands old new fault goes stands = ∥∥₁_map stands (λ has going.
 pub shown_kept : (old new : Viewer) → picture_of new ≡ picture_of old → picture_of old ≡ Some (seen_by old) →
     picture_of new ≡ Some (seen_by new)
 shown_kept old new same shown = same ∙ shown ∙ ap (λ (o : Option (Grid Colour)). Some (shown_of o)) (sym same)
+
+-- so a viewer that keeps its fault and its picture, and what it stood for, is one to show as it was
+pub keeps_shown : (old new : Viewer) → fault_of new ≡ fault_of old → picture_of new ≡ picture_of old →
+    ((viewing : Viewing) (s : ViewerState) (prefix : List ℕ) → StandsFor viewing old s prefix →
+    StandsFor viewing new s prefix) → picture_of old ≡ Some (seen_by old) → ∥ StandsOrFailed old ∥₁ →
+    (picture_of new ≡ Some (seen_by new)) × ∥ StandsOrFailed new ∥₁
+keeps_shown old new fault picture goes shown stands =
+    (shown_kept old new picture shown, keeps_stands old new fault goes stands)
 
 -- a call that is made keeps it, and one that is refused changes nothing
 pub call_stands : (old new : Viewer) (call : Call) (result : Result (Unit {0}) AppendFault) →

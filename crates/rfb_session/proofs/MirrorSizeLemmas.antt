@@ -54,12 +54,23 @@ module _ (w h : ℕ) where
         ap (λ (g : Grid Colour). g.height) is ∙ shown_rows f rect s.front before,
       )
 
+  same_sized : (g stored : Option (Grid Colour)) → stored ≡ g → IsSized w h g → IsSized w h stored
+  same_sized g stored same sized = subst (λ (k : Option (Grid Colour)). IsSized w h k) (sym same) sized
+
+  -- a picture of which a part of a rectangle is stored has the size of what is stored
+  part_sized : (f : PixelFormat) (rect : Rect) (encoding : Encoding) (before : Grid Colour) (body pending : List ℕ)
+      (now : Grid Colour) (g stored : Option (Grid Colour)) → g ≡ Some before → stored ≡ Some now →
+      ShowsFront f rect encoding before body pending now → IsSized w h g → IsSized w h stored
+  part_sized f rect encoding before body pending now g stored was is shows sized =
+      let size = front_sized f rect encoding before body pending now shows in
+      let two = sized_some w h g before was sized in
+      some_sized w h stored now is (size.0 ∙ two.0) (size.1 ∙ two.1)
+
   stored_there : (at : ServerAt) (g stored : Option (Grid Colour)) (prefix : List ℕ) →
       ShowsAt at g prefix stored →
       IsSized w h stored → IsSized w h g
-  stored_there (First p) g stored prefix shows sized = subst (λ (k : Option (Grid Colour)). IsSized w h k) shows sized
-  stored_there (Second q) g stored prefix (inl shows) sized =
-      subst (λ (k : Option (Grid Colour)). IsSized w h k) shows.1 sized
+  stored_there (First p) g stored prefix shows sized = same_sized stored g (sym shows) sized
+  stored_there (Second q) g stored prefix (inl shows) sized = same_sized stored g (sym shows.1) sized
   stored_there (Second q) g stored prefix (inr (before, now, was, is, pieces)) sized =
       let size = front_sized q.form pieces.head.rect pieces.head.encoding before pieces.body pieces.pending now
       pieces.shown in
@@ -69,28 +80,20 @@ module _ (w h : ℕ) where
   pub there_stored : (at : ServerAt) (g stored : Option (Grid Colour)) (prefix : List ℕ) →
       ShowsAt at g prefix stored →
       IsSized w h g → IsSized w h stored
-  there_stored (First p) g stored prefix shows sized =
-      subst (λ (k : Option (Grid Colour)). IsSized w h k) (sym shows) sized
-  there_stored (Second q) g stored prefix (inl shows) sized =
-      subst (λ (k : Option (Grid Colour)). IsSized w h k) (sym shows.1) sized
+  there_stored (First p) g stored prefix shows sized = same_sized g stored shows sized
+  there_stored (Second q) g stored prefix (inl shows) sized = same_sized g stored shows.1 sized
   there_stored (Second q) g stored prefix (inr (before, now, was, is, pieces)) sized =
-      let size = front_sized q.form pieces.head.rect pieces.head.encoding before pieces.body pieces.pending now
-      pieces.shown in
-      let two = sized_some w h g before was sized in
-      some_sized w h stored now is (size.0 ∙ two.0) (size.1 ∙ two.1)
+      part_sized q.form pieces.head.rect pieces.head.encoding before pieces.body pieces.pending now g stored was is
+      pieces.shown sized
 
   -- and so has what is shown last
   last_stored : (at : ServerAt) (g stored : Option (Grid Colour)) (bytes : List ℕ) → ShowsLast at g bytes stored →
       IsSized w h g → IsSized w h stored
-  last_stored (First p) g stored bytes shows sized =
-      subst (λ (k : Option (Grid Colour)). IsSized w h k) (sym shows) sized
-  last_stored (Second q) g stored bytes (inl shows) sized =
-      subst (λ (k : Option (Grid Colour)). IsSized w h k) (sym shows.1) sized
+  last_stored (First p) g stored bytes shows sized = same_sized g stored shows sized
+  last_stored (Second q) g stored bytes (inl shows) sized = same_sized g stored shows.1 sized
   last_stored (Second q) g stored bytes (inr (before, now, was, is, until)) sized =
-      let size = front_sized q.form until.head.rect until.head.encoding before _ until.refused.pending now
-      until.refused.shows in
-      let two = sized_some w h g before was sized in
-      some_sized w h stored now is (size.0 ∙ two.0) (size.1 ∙ two.1)
+      part_sized q.form until.head.rect until.head.encoding before _ until.refused.pending now g stored was is
+      until.refused.shows sized
 
   -- ---- items keep it
 
@@ -163,20 +166,28 @@ module _ (w h : ℕ) where
 
   -- ---- a viewer that is fed keeps it
 
+  -- what it stands for has a picture of the size of its own
+  stands_sized : (viewing : Viewing) (old : Viewer) (s : ViewerState) (prefix : List ℕ) →
+      StandsFor viewing old s prefix → IsSized w h old.picture → IsSized w h s.picture × IsMade s.point
+  stands_sized viewing old s prefix stands sized =
+      let there = stored_there s.point s.picture old.picture prefix
+      (shows_at viewing old old.progress s.point s.picture prefix stands.progress_is) sized in (
+        there,
+        made_at s.point s.picture
+            (at_screen viewing old old.progress s.point s.picture prefix stands.progress_is) there,
+      )
+
   pub fed_sized : (viewing : Viewing) (old new : Viewer) (bytes : List ℕ) (event : Option ViewerTold)
       (s : ViewerState)
       (prefix : List ℕ) → StandsFor viewing old s prefix →
       FedBy (viewer viewing) (StandsFor viewing) old bytes event new →
       IsSized w h old.picture → IsSized w h new.picture
   fed_sized viewing old new bytes event s prefix stands fed sized =
-      let there = stored_there s.point s.picture old.picture prefix
-      (shows_at viewing old old.progress s.point s.picture prefix stands.progress_is) sized in
-      let made = made_at s.point s.picture
-      (at_screen viewing old old.progress s.point s.picture prefix stands.progress_is) there in
+      let was = stands_sized viewing old s prefix stands sized in
       let one = fed s prefix stands in
       let t : ViewerState = one.0 in
       let takes = one.3 in
-      let after = items_sized viewing takes.items s (prefix ++ bytes) one.1 takes.reads made there in
+      let after = items_sized viewing takes.items s (prefix ++ bytes) one.1 takes.reads was.1 was.0 in
       there_stored t.point t.picture new.picture one.1
       (shows_at viewing new new.progress t.point t.picture one.1 one.2.progress_is)
       (subst (λ (k : ViewerState). IsSized w h k.picture) (sym takes.state) after)
@@ -185,11 +196,8 @@ module _ (w h : ℕ) where
       (prefix : List ℕ) → StandsFor viewing old s prefix → KeepsPicture fault old bytes new →
       IsSized w h old.picture → IsSized w h new.picture
   refused_sized viewing old new bytes fault s prefix stands keeps sized =
-      let there = stored_there s.point s.picture old.picture prefix
-      (shows_at viewing old old.progress s.point s.picture prefix stands.progress_is) sized in
-      let made = made_at s.point s.picture
-      (at_screen viewing old old.progress s.point s.picture prefix stands.progress_is) there in
+      let was = stands_sized viewing old s prefix stands sized in
       let one = keeps viewing s prefix stands in
       let t : ViewerState = acts (viewer viewing) s one.items in
-      let after = items_sized viewing one.items s (prefix ++ bytes) (one.front ++ one.later) one.reads made there in
+      let after = items_sized viewing one.items s (prefix ++ bytes) (one.front ++ one.later) one.reads was.1 was.0 in
       last_stored t.point t.picture new.picture one.front one.asked.shows after
