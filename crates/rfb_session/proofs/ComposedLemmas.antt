@@ -7,8 +7,7 @@ use Rattle.rfb_pixel.specs.Format.{PixelFormat}
 use Rattle.rfb_picture.specs.Grid.{Grid}
 use Rattle.rfb_picture.specs.Area.{Places}
 use Rattle.rfb_server.specs.Server.{ServerState}
-use Rattle.rfb_server.specs.Model.{SessionStandsFor, session_fault, notes_in, Notes}
-use Rattle.rfb_server.specs.Composition.{Composes}
+use Rattle.rfb_server.specs.Model.{session_fault, notes_in, Notes}
 use Rattle.rfb_server.specs.Hints.{hints_in}
 use Rattle.rfb_server.specs.UpdateCall.{HasSent, SendsUpdate, OwesUpdate, OwesNone}
 use Rattle.rfb_server.proofs.ServerLaws.{session_noted}
@@ -18,12 +17,11 @@ use Rattle.rfb_session.specs.declared.event.Event.TheVariants.{Compose}
 use Rattle.rfb_session.specs.declared.told.Told.{Told}
 use Rattle.rfb_session.specs.declared.link.Link.{Link}
 use Rattle.rfb_session.specs.Latest.{composing_in}
-use Rattle.rfb_session.specs.Link.{LinkState, server_of, session_of}
-use Rattle.rfb_session.specs.LinkSteps.{ComposesOn, update_items}
+use Rattle.rfb_session.specs.Link.{server_of}
 use Rattle.rfb_session.specs.LinkModel.{LinkDoesOver, ComposesNothingOver}
 use Rattle.rfb_session.specs.LinkBytes.{ComposesOver}
 use Rattle.rfb_session.proofs.NetworkLemmas.{reached_holds}
-use Rattle.rfb_session.proofs.SentLemmas.{composed_flies}
+use Rattle.rfb_session.proofs.SentLemmas.{sent_link, sent_composes, sent_stands, sent_flies}
 
 -- where a composing composes nothing no update was due
 pub idle_not_due : (screen : Grid Colour) (link : Link) → OwesUpdate screen link.session →
@@ -46,37 +44,15 @@ composed_does screen old new told over none taken did = λ e n made reached here
     let one : HasSent e.serving s c.server_has (hints_in old.session) n.screen new.session old.to_viewer
     new.to_viewer =
     updates.sent e.serving s c.server_has c.server_is in
-    let after_same : server_of n.screen (session_of one.resulting) ≡ one.resulting =
-    ap (λ (g : Grid Colour). server_of g (session_of one.resulting))
-    (sym one.composes.same_screen) in
-    let l : LinkState = record n.link {
-      session = session_of one.resulting;
-      to_viewer = n.link.to_viewer ++ update_items one.copies one.blocks;
-      latest = Some (record {
-        screen = n.screen;
-        area = n.link.session.area;
-        form = n.link.session.form;
-      });
-    } in
-    let composes : ComposesOn n.screen n.link l = record {
-      due = one.due;
-      session = session_of one.resulting;
-      bytes = one.bytes;
-      copies = one.copies;
-      blocks = one.blocks;
-      composed = subst (λ (t : ServerState). Composes s t one.bytes one.copies one.blocks)
-          (sym after_same) one.composes;
-      result = refl;
-    } in
-    let flies = composed_flies e n.screen n.link l _ (reached_holds e n reached) c.flies composes in
+    let flies = sent_flies e n.link one _ (reached_holds e n reached) c.flies in
     let areas : (notes_in old.session).area ≡ n.link.session.area =
     ap (λ (notes : Notes). notes.area) (session_noted e.serving n.screen old.session s c.server_has c.server_is) in
     let forms : (notes_in new.session).form ≡ n.link.session.form =
     ap (λ (notes : Notes). notes.form)
     (session_noted e.serving n.screen new.session one.resulting c.server_has one.stands)
     ∙ one.composes.same_format in (
-      record n { link = l },
-      (refl, inl composes),
+      record n { link = sent_link e n.link one },
+      (refl, inl (sent_composes e n.link one)),
       record {
         moved = none;
         refused = taken;
@@ -87,8 +63,7 @@ composed_does screen old new told over none taken did = λ e n made reached here
         carries = record {
           server_has = c.server_has;
           viewer_has = c.viewer_has;
-          server_is = subst (λ (t : ServerState). SessionStandsFor e.serving n.screen new.session t c.server_has)
-              (sym after_same) one.stands;
+          server_is = sent_stands e n.link one;
           viewer_is = subst (λ (v : Viewer). ViewerStandsFor e.viewing v n.link.viewer c.viewer_has)
               (sym over.viewer) c.viewer_is;
           flies = rw (over.to_server, one.appended) flies;

@@ -16,7 +16,7 @@ use Rattle.rfb_session.specs.ShareMirrors.{FailsOn, MakesOn}
 use Rattle.rfb_session.specs.ShareSeats.{session_at, KeepsShareSeat}
 use Rattle.rfb_session.specs.Slots.{OnSlot}
 use Rattle.rfb_session.proofs.HopSeatLemmas.{follows, keeps_copies}
-use Rattle.rfb_session.proofs.ShareLawLemmas.{became}
+use Rattle.rfb_session.proofs.SlotLemmas.{became}
 use Rattle.rfb_session.proofs.ShareLifeLemmas.{lives_drawn}
 
 pub told_lives : (serving : Serving) (old new : Share) (k : ℕ) (heard taken : List ℕ) →

@@ -1,6 +1,6 @@
 -- A seat of a share whose screen is a viewer's picture goes on as a link does while the picture changes.
-use Rattle.std.proofs.Common.{◌≡◌, ℕ, ◌+◌, ◌-◌, ◌*◌, ◌<◌, true, List, ◌++◌, length}
-use Rattle.std.proofs.Common.{Some, inr, inl, refl, sym, ap, ◌∙◌}
+use Rattle.std.proofs.Common.{◌≡◌, ℕ, ◌+◌, ◌-◌, ◌*◌, ◌<◌, true, List, length}
+use Rattle.std.proofs.Common.{Some, sym, ap, ◌∙◌}
 use Rattle.std.proofs.Common.{subst, arith, Result}
 use Rattle.std.proofs.lemmas.Bool.Decides.{nat_tests}
 use Rattle.std.proofs.lemmas.List.{get_or_default}
@@ -12,7 +12,6 @@ use Rattle.rfb_hello.specs.declared.fed.Fed.{Fed}
 use Rattle.rfb_server.specs.Strokes.{Stroke, Rows, IsInside, drawn_by}
 use Rattle.rfb_server.specs.KnownScreen.{Follows}
 use Rattle.rfb_server.specs.Model.{Notes}
-use Rattle.rfb_server.proofs.ServerLaws.{session_over}
 use Rattle.rfb_viewer.specs.declared.call.Call.{Call}
 use Rattle.rfb_viewer.specs.declared.event.ViewerEvent.{ViewerEvent}
 use Rattle.rfb_viewer.specs.declared.fault.AppendFault.{AppendFault}
@@ -22,17 +21,15 @@ use Rattle.rfb_viewer.specs.Moved.{moved_of}
 use Rattle.rfb_session.specs.declared.share.Share.{Share}
 use Rattle.rfb_session.specs.declared.share.seat.ShareSeat.{ShareSeat}
 use Rattle.rfb_session.specs.Link.{Ends}
-use Rattle.rfb_session.specs.Network.{Network, Strokes}
+use Rattle.rfb_session.specs.Network.{Network}
 use Rattle.rfb_session.specs.Share.{seat_in, screen_of}
 use Rattle.rfb_session.specs.ShareMirrors.{HasCopies, HasTold, FeedsOn, FailsOn, MakesOn, ShowsOther, Relays}
-use Rattle.rfb_session.specs.ShareSeats.{session_at, waiting_in, KeepsShareSeat}
+use Rattle.rfb_session.specs.ShareSeats.{session_at, KeepsShareSeat}
 use Rattle.rfb_session.specs.ShareViewers.{IsWatchedBy, GoesOn, StaysWatched}
 use Rattle.rfb_session.specs.Slots.{OnSlot}
-use Rattle.rfb_session.proofs.ShareLawLemmas.{became}
 use Rattle.rfb_session.proofs.ShareRelayLemmas.{slot_by}
-use Rattle.rfb_session.proofs.ShareViewerLemmas.{to_viewer_same}
-use Rattle.rfb_session.proofs.SlotLemmas.{each_seat}
-use Rattle.rfb_session.proofs.WorldLemmas.{reached_stroke}
+use Rattle.rfb_session.proofs.ShareViewerLemmas.{watched_stroke}
+use Rattle.rfb_session.proofs.SlotLemmas.{became, each_seat}
 
 -- ---- one picture is drawn over by another
 
@@ -89,34 +86,8 @@ watched_told e old new k viewer to_server on_way n told w =
     let high : (screen_of new).height ≡ (screen_of old).height =
     after.alike.rows ∙ ap (λ (s : Notes). s.known.height) keeps.session.notes_are ∙ sym before.alike.rows in
     let whole = is_whole (screen_of old) (screen_of new) before.whole after.whole wide high in
-    let s = whole_of (screen_of new) in
-    let drawn : Strokes s n (record n { screen = screen_of new }) =
-    inl (
-      subst (λ (g : Grid Colour). IsInside g s) (sym w.screen_is) whole.0,
-      ap (λ (g : Grid Colour). record n { screen = g })
-          (whole.1 ∙ ap (λ (g : Grid Colour). drawn_by s g) (sym w.screen_is)),
-    ) in
-    let had = w.carries in (
-      record n { screen = screen_of new },
-      inr (inr (s, drawn)),
-      record {
-        seat = one.0;
-        there = one.1;
-        screen_is = refl;
-        reached = reached_stroke e n (record n { screen = screen_of new }) s w.reached drawn;
-        carries = to_viewer_same e (record n { screen = screen_of new }) one.0.session viewer
-            to_server (on_way ++ waiting_in w.seat) (on_way ++ waiting_in one.0)
-            (ap (λ (q : List ℕ). on_way ++ q) keeps.waits)
-            (record {
-              server_has = had.server_has;
-              viewer_has = had.viewer_has;
-              server_is = session_over e.serving n.screen (screen_of new) one.0.session _ _
-                  (keeps.session.stands e.serving n.screen _ _ had.server_is);
-              viewer_is = had.viewer_is;
-              flies = had.flies;
-            });
-      },
-    )
+    watched_stroke e old new (whole_of (screen_of new)) k viewer to_server on_way n w one.0 whole.0 whole.1 one.1
+    keeps
 
 -- ---- bytes of the server's, and another viewer
 

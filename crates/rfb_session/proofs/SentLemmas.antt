@@ -12,15 +12,20 @@ use Rattle.rfb_codec.specs.UpdateStream.{UpdatePoint}
 use Rattle.rfb_codec.specs.WholeUpdate.{update_of}
 use Rattle.rfb_hello.specs.ServerHandshake.{ServerPoint}
 use Rattle.rfb_server.specs.ClientBytes.{ClientAt, FromClient, client_two}
-use Rattle.rfb_server.specs.Composition.{sent_as, between}
+use Rattle.rfb_server.specs.declared.hint.Hint.{Hint}
+use Rattle.rfb_server.specs.declared.session.Session.{Session}
+use Rattle.rfb_server.specs.Composition.{Composes, sent_as, between}
+use Rattle.rfb_server.specs.Model.{SessionStandsFor}
+use Rattle.rfb_server.specs.Server.{ServerState}
+use Rattle.rfb_server.specs.UpdateCall.{HasSent}
 use Rattle.rfb_server.proofs.ServerLaws.{client_bytes_laws}
 use Rattle.rfb_viewer.specs.declared.fault.CallFault.TheVariants.{Busy}
 use Rattle.rfb_viewer.specs.ServerBytes.{ServerAt, FromServer, server_two}
 use Rattle.rfb_viewer.specs.Viewer.{ViewerState}
 use Rattle.rfb_viewer.specs.Calls.{format_refused, format_refusal}
 use Rattle.rfb_viewer.proofs.ViewerLaws.{server_bytes_laws}
-use Rattle.rfb_session.specs.Link.{Ends, server_of, LinkState}
-use Rattle.rfb_session.specs.LinkSteps.{begun, calls, ComposesOn}
+use Rattle.rfb_session.specs.Link.{Ends, server_of, session_of, LinkState}
+use Rattle.rfb_session.specs.LinkSteps.{begun, calls, ComposesOn, update_items}
 use Rattle.rfb_session.specs.InFlight.{Flight, Flies}
 use Rattle.rfb_session.proofs.PhaseLemmas.{Core, core, Phase, Greeting, Versioned, Typed, Choosing37, Choosing38}
 use Rattle.rfb_session.proofs.PhaseLemmas.{Chosen, Sharing, Begun, Named, Idling, Asking, Held, Sent}
@@ -73,6 +78,41 @@ composed_flies e screen old new f h flies c =
       at_server = flies.at_server;
       server_within = flies.server_within;
     })
+
+-- a session sent an update over the screen: what its link is then, and that this is a composing of the link
+module _ (e : Ends) (old : LinkState) {screen : Grid Colour} {has : List ℕ} {hints : List Hint} {session : Session}
+    {before after : List ℕ}
+    (one : HasSent e.serving (server_of screen old.session) has hints screen session before after) where
+  abbrev pub sent_link : LinkState
+  sent_link = record old {
+    session = session_of one.resulting;
+    to_viewer = old.to_viewer ++ update_items one.copies one.blocks;
+    latest = Some (record { screen = screen; area = old.session.area; form = old.session.form });
+  }
+
+  after_same : server_of screen (session_of one.resulting) ≡ one.resulting
+  after_same = ap (λ (g : Grid Colour). server_of g (session_of one.resulting)) (sym one.composes.same_screen)
+
+  pub sent_composes : ComposesOn screen old sent_link
+  sent_composes = record {
+    due = one.due;
+    session = session_of one.resulting;
+    bytes = one.bytes;
+    copies = one.copies;
+    blocks = one.blocks;
+    composed = subst (λ (t : ServerState).
+        Composes (server_of screen old.session) t one.bytes one.copies one.blocks) (sym after_same) one.composes;
+    result = refl;
+  }
+
+  pub sent_stands : SessionStandsFor e.serving screen session (server_of screen (session_of one.resulting)) has
+  sent_stands =
+      subst (λ (t : ServerState). SessionStandsFor e.serving screen session t has) (sym after_same) one.stands
+
+  pub sent_flies : (f : Flight) → Holds e screen (core old) → Flies e old f →
+      Flies e sent_link (record f { viewer_gets = f.viewer_gets ++ one.bytes })
+  unfolding sent_composes
+  sent_flies f h flies = composed_flies e screen old sent_link f h flies sent_composes
 
 -- ---- calls of the viewer
 

@@ -17,7 +17,7 @@ use Rattle.rfb_session.specs.ShareSteps.{NoneHeard, SeatEmptied, SeatEnded, Writ
 use Rattle.rfb_session.specs.ShareSteps.{KeepsScreen}
 use Rattle.rfb_session.specs.ShareViewers.{StaysWatched}
 use Rattle.rfb_session.proofs.SlotLemmas.{not_both, other}
-use Rattle.rfb_session.proofs.ShareViewerLemmas.{to_viewer_same}
+use Rattle.rfb_session.proofs.ShareViewerLemmas.{to_viewer_same, watched_as}
 
 -- ---- a seat that is as it was, over the screen as it was
 
@@ -99,19 +99,13 @@ pub watched_wanted : (old new : Share) (k : ℕ) → WantsRoomAs old k new → S
 watched_wanted old new k wants = λ e viewer to_server on_way n w.
     let one = wanting (screen_of old) (seat_in old k) (seat_in new k) w.seat wants.seat w.there in
     let c = w.carries in
-    record {
-      seat = one.0;
-      there = one.1;
-      screen_is = w.screen_is ∙ sym wants.keeps.screen;
-      reached = w.reached;
-      carries = to_viewer_same e n one.0.session viewer to_server (on_way ++ waiting_in w.seat)
-          (on_way ++ waiting_in one.0)
-          (ap (λ (q : List ℕ). on_way ++ q) (one.2.waits ∙ sym one.2.written))
-          (record {
-            server_has = c.server_has;
-            viewer_has = c.viewer_has;
-            server_is = one.2.kept.stands e.serving n.screen _ _ c.server_is;
-            viewer_is = c.viewer_is;
-            flies = c.flies;
-          });
-    }
+    watched_as e old new k viewer to_server on_way on_way n one.0 w one.1 wants.keeps.screen
+    (to_viewer_same e n one.0.session viewer to_server (on_way ++ waiting_in w.seat) (on_way ++ waiting_in one.0)
+    (ap (λ (q : List ℕ). on_way ++ q) (one.2.waits ∙ sym one.2.written))
+    (record {
+      server_has = c.server_has;
+      viewer_has = c.viewer_has;
+      server_is = one.2.kept.stands e.serving n.screen _ _ c.server_is;
+      viewer_is = c.viewer_is;
+      flies = c.flies;
+    }))

@@ -23,8 +23,7 @@ use Rattle.rfb_server.specs.Strokes.{Stroke, notice_of}
 use Rattle.rfb_session.specs.ShareSteps.{JoinsAs, Full, Joined, DrawsOn, ReceivesAs}
 use Rattle.rfb_session.specs.ShareSteps.{RefusesAs, NoneHeard, SeatEmptied, SeatEnded, WritesAs, ComposesAs}
 use Rattle.rfb_session.specs.ShareSteps.{WantsRoomAs, KeepsScreen}
-use Rattle.rfb_session.specs.Slots.{OnSlot}
-use Rattle.rfb_session.proofs.SlotLemmas.{one_seat, not_both}
+use Rattle.rfb_session.proofs.SlotLemmas.{became, one_seat, not_both}
 use Rattle.rfb_session.proofs.ShareLifeLemmas.{lived_first, lives_heard, lives_ended, lives_written}
 use Rattle.rfb_session.proofs.ShareLifeLemmas.{lives_kept, lives_drawn, lives_sent}
 
@@ -34,20 +33,6 @@ pub over : (serving : Serving) (old new : Share) (seat : ShareSeat) (heard taken
     Lives serving (screen_of new) seat heard taken
 over serving old new seat heard taken keeps lives =
     subst (λ (g : Grid Colour). Lives serving g seat heard taken) (sym keeps.screen) lives
-
--- what stands in a slot of which something became
-pub became : (R : ShareSeat → ShareSeat → Type 0) (a b : Option ShareSeat) (old : ShareSeat) →
-    OnSlot R a b → a ≡ Some old → (new : ShareSeat) × (b ≡ Some new) × R old new
-became R None b old is there = absurd (none_some there)
-  where
-    none_some : None ≡ Some old → ⊥
-    none_some e = cc
-became R (Some a) None old is there = absurd is
-became R (Some a) (Some b) old is there =
-    (b, refl, subst (λ (s : ShareSeat). R s b) (one there) is)
-  where
-    one : Some a ≡ Some old → a ≡ old
-    one e = cc
 
 pub joined_lives : (old new : Share) (joined : Option ℕ) (k : ℕ) → JoinsAs old joined new →
     joined ≡ Some k → LivesAt (serving_in old) new k [] []

@@ -1,12 +1,10 @@
 -- An update that is composed for a share's seat is one of its link.
 use Rattle.std.proofs.Common.{◌≡◌, ℕ, List, ◌++◌}
 use Rattle.std.proofs.Common.{append-nil, Some}
-use Rattle.std.proofs.Common.{inl, inr, refl, sym, ap, ◌∙◌, subst}
+use Rattle.std.proofs.Common.{inl, refl, sym, ap, ◌∙◌, subst}
 use Rattle.rfb_pixel.specs.declared.colour.Colour.{Colour}
 use Rattle.rfb_picture.specs.Grid.{Grid}
-use Rattle.rfb_server.specs.Composition.{Composes}
 use Rattle.rfb_server.specs.Server.{ServerState}
-use Rattle.rfb_server.specs.Model.{SessionStandsFor}
 use Rattle.rfb_viewer.specs.declared.viewer.Viewer.{Viewer}
 use Rattle.rfb_session.specs.declared.event.Event.TheVariants.{Compose as OfCompose}
 use Rattle.rfb_session.specs.declared.share.Share.{Share}
@@ -14,18 +12,16 @@ use Rattle.rfb_session.specs.declared.share.event.Composing.{Composing}
 use Rattle.rfb_session.specs.declared.share.event.Composing.TheVariants.{Composed, NotDue}
 use Rattle.rfb_session.specs.declared.share.event.Composing.TheVariants.{Waiting, NoSuchSeat}
 use Rattle.rfb_session.specs.declared.share.seat.ShareSeat.{ShareSeat}
-use Rattle.rfb_session.specs.Link.{Ends, LinkState, server_of, session_of}
-use Rattle.rfb_session.specs.LinkSteps.{ComposesOn, update_items}
+use Rattle.rfb_session.specs.Link.{Ends, server_of}
 use Rattle.rfb_session.specs.Network.{Network, IsReached}
 use Rattle.rfb_session.specs.Share.{seat_in, screen_of}
 use Rattle.rfb_session.specs.ShareSeats.{waiting_in, ComposesAt, Sends}
 use Rattle.rfb_session.specs.ShareSteps.{ComposesAs}
 use Rattle.rfb_session.specs.ShareViewers.{IsWatchedBy, GoesOn}
 use Rattle.rfb_session.proofs.NetworkLemmas.{reached_holds}
-use Rattle.rfb_session.proofs.SentLemmas.{composed_flies}
+use Rattle.rfb_session.proofs.SentLemmas.{sent_link, sent_composes, sent_stands, sent_flies}
 use Rattle.rfb_session.proofs.ShareLawLemmas.{composes_at}
-use Rattle.rfb_session.proofs.WorldLemmas.{reached_step}
-use Rattle.rfb_session.proofs.ShareViewerLemmas.{Between, to_viewer_same}
+use Rattle.rfb_session.proofs.ShareViewerLemmas.{Between, goes_by, to_viewer_same}
 
 -- an update is one of the network's
 sent_watched : (e : Ends) (share : Share) (n : Network) (a b : ShareSeat) (k : ℕ)
@@ -36,52 +32,34 @@ sent_watched : (e : Ends) (share : Share) (n : Network) (a b : ShareSeat) (k : �
 sent_watched e share n a b k viewer to_server on_way here there reached c sends =
     let s : ServerState = server_of n.screen n.link.session in
     let one = sends.update.sent e.serving s c.server_has c.server_is in
-    let after_same : server_of n.screen (session_of one.resulting) ≡ one.resulting =
-    ap (λ (g : Grid Colour). server_of g (session_of one.resulting)) (sym one.composes.same_screen) in
-    let l : LinkState = record n.link {
-      session = session_of one.resulting;
-      to_viewer = n.link.to_viewer ++ update_items one.copies one.blocks;
-      latest = Some (record {
-        screen = n.screen;
-        area = n.link.session.area;
-        form = n.link.session.form;
-      });
-    } in
-    let composes : ComposesOn n.screen n.link l = record {
-      due = one.due;
-      session = session_of one.resulting;
-      bytes = one.bytes;
-      copies = one.copies;
-      blocks = one.blocks;
-      composed = subst (λ (t : ServerState). Composes s t one.bytes one.copies one.blocks)
-          (sym after_same) one.composes;
-      result = refl;
-    } in
-    let flies = composed_flies e n.screen n.link l _ (reached_holds e n reached) c.flies composes in
+    let composes = sent_composes e n.link one in
+    let flies = sent_flies e n.link one _ (reached_holds e n reached) c.flies in
     let gets : on_way ++ waiting_in b ≡ (on_way ++ waiting_in a) ++ one.bytes =
     ap (λ (q : List ℕ). on_way ++ q) one.appended
     ∙ ap (λ (q : List ℕ). q ++ one.bytes) (sym (append-nil on_way)
-    ∙ ap (λ (q : List ℕ). on_way ++ q) (sym sends.written)) in (
-      record n { link = l },
-      inr (inl (OfCompose, (refl, inl composes))),
-      record {
-        seat = b;
-        there = there;
-        screen_is = here;
-        reached = reached_step e n (record n { link = l }) OfCompose reached (refl, inl composes);
-        carries = to_viewer_same e (record n { link = l }) b.session viewer to_server
-            ((on_way ++ waiting_in a) ++ one.bytes) (on_way ++ waiting_in b) gets
-            (record {
-              server_has = c.server_has;
-              viewer_has = c.viewer_has;
-              server_is = subst (λ (t : ServerState).
-                  SessionStandsFor e.serving n.screen b.session t c.server_has)
-                  (sym after_same) one.stands;
-              viewer_is = c.viewer_is;
-              flies = flies;
-            });
-      },
-    )
+    ∙ ap (λ (q : List ℕ). on_way ++ q) (sym sends.written)) in
+    goes_by e share k viewer to_server on_way n (sent_link e n.link one) OfCompose b reached (refl, inl composes)
+    there here
+    (to_viewer_same e (record n { link = sent_link e n.link one }) b.session viewer to_server
+    ((on_way ++ waiting_in a) ++ one.bytes) (on_way ++ waiting_in b) gets
+    (record {
+      server_has = c.server_has;
+      viewer_has = c.viewer_has;
+      server_is = sent_stands e n.link one;
+      viewer_is = c.viewer_is;
+      flies = flies;
+    }))
+
+-- what is carried between the seat and its viewer is so over the same network
+still_watched : (e : Ends) (share : Share) (n : Network) (seat : ShareSeat) (k : ℕ) (viewer : Viewer)
+    (to_server on_way : List ℕ) → n.screen ≡ screen_of share → seat_in share k ≡ Some seat →
+    IsReached e n → Between e n seat.session viewer to_server (on_way ++ waiting_in seat) →
+    GoesOn e n share k viewer to_server on_way
+still_watched e share n seat k viewer to_server on_way here there reached carries = (
+  n,
+  inl refl,
+  record { seat = seat; there = there; screen_is = here; reached = reached; carries = carries },
+)
 
 composed_watched : (e : Ends) (share : Share) (n : Network) (told : Composing) (a b : ShareSeat)
     (k : ℕ) (viewer : Viewer) (to_server on_way : List ℕ) → n.screen ≡ screen_of share →
@@ -90,38 +68,20 @@ composed_watched : (e : Ends) (share : Share) (n : Network) (told : Composing) (
     ComposesAt n.screen told a b → GoesOn e n share k viewer to_server on_way
 composed_watched e share n Composed a b k viewer to_server on_way here there reached c composes =
     sent_watched e share n a b k viewer to_server on_way here there reached c composes
-composed_watched e share n NotDue a b k viewer to_server on_way here there reached c composes = (
-  n,
-  inl refl,
-  record {
-    seat = b;
-    there = there;
-    screen_is = here;
-    reached = reached;
-    carries = to_viewer_same e n b.session viewer to_server (on_way ++ waiting_in a)
-        (on_way ++ waiting_in b)
-        (ap (λ (q : List ℕ). on_way ++ q) (composes.none.appended ∙ sym composes.written))
-        (record {
-          server_has = c.server_has;
-          viewer_has = c.viewer_has;
-          server_is = composes.none.kept.stands e.serving n.screen _ _ c.server_is;
-          viewer_is = c.viewer_is;
-          flies = c.flies;
-        });
-  },
-)
-composed_watched e share n Waiting a b k viewer to_server on_way here there reached c composes = (
-  n,
-  inl refl,
-  record {
-    seat = b;
-    there = there;
-    screen_is = here;
-    reached = reached;
-    carries = subst (λ (s : ShareSeat).
-        Between e n s.session viewer to_server (on_way ++ waiting_in s)) (sym composes.same) c;
-  },
-)
+composed_watched e share n NotDue a b k viewer to_server on_way here there reached c composes =
+    still_watched e share n b k viewer to_server on_way here there reached
+    (to_viewer_same e n b.session viewer to_server (on_way ++ waiting_in a) (on_way ++ waiting_in b)
+    (ap (λ (q : List ℕ). on_way ++ q) (composes.none.appended ∙ sym composes.written))
+    (record {
+      server_has = c.server_has;
+      viewer_has = c.viewer_has;
+      server_is = composes.none.kept.stands e.serving n.screen _ _ c.server_is;
+      viewer_is = c.viewer_is;
+      flies = c.flies;
+    }))
+composed_watched e share n Waiting a b k viewer to_server on_way here there reached c composes =
+    still_watched e share n b k viewer to_server on_way here there reached
+    (subst (λ (s : ShareSeat). Between e n s.session viewer to_server (on_way ++ waiting_in s)) (sym composes.same) c)
 composed_watched e share n NoSuchSeat a b k viewer to_server on_way here there reached c composes =
     absurd composes
 

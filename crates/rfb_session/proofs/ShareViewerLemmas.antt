@@ -25,12 +25,13 @@ use Rattle.rfb_session.specs.declared.share.event.ShareFault.TheVariants.{NoMemo
 use Rattle.rfb_session.specs.declared.share.seat.ShareSeat.{ShareSeat}
 use Rattle.rfb_session.specs.TwoEnds.{Carries}
 use Rattle.rfb_session.specs.InFlight.{AreMade, Flies, first_flight, server_reply, viewer_reply}
-use Rattle.rfb_session.specs.Link.{Ends, first_link}
+use Rattle.rfb_session.specs.Link.{Ends, LinkState, first_link}
 use Rattle.rfb_session.specs.LinkModel.{ServesOver}
 use Rattle.rfb_session.specs.declared.event.Event.TheVariants.{ToServer as OfServer, ToViewer as OfViewer}
-use Rattle.rfb_session.specs.Network.{Network, Strokes}
+use Rattle.rfb_session.specs.declared.event.Event.{Event}
+use Rattle.rfb_session.specs.Network.{IsReached, Network, Steps, Strokes}
 use Rattle.rfb_session.specs.Share.{seat_in, screen_of, serving_in, waits_at, waiting_for}
-use Rattle.rfb_session.specs.ShareSeats.{waiting_in, WritesAt, IsNotifiedIn}
+use Rattle.rfb_session.specs.ShareSeats.{waiting_in, WritesAt, IsNotifiedIn, KeepsShareSeat}
 use Rattle.rfb_server.specs.Strokes.{Stroke, IsInside, drawn_by, notice_of}
 use Rattle.rfb_session.specs.ShareSteps.{JoinsAs, Full, Joined, DrawsOn}
 use Rattle.rfb_session.specs.ShareSteps.{ReceivesAs, RefusesAs, NoneHeard, SeatEmptied, SeatEnded, WritesAs}
@@ -40,8 +41,7 @@ use Rattle.rfb_session.proofs.DeliveringLemmas.{server_steps, viewer_steps}
 use Rattle.rfb_session.proofs.FlightLemmas.{first_flies}
 use Rattle.rfb_session.proofs.MoveLemmas.{viewer_flight, server_flight}
 use Rattle.rfb_session.proofs.NetworkLemmas.{first_reached, reached_holds}
-use Rattle.rfb_session.proofs.ShareLawLemmas.{became}
-use Rattle.rfb_session.proofs.SlotLemmas.{one_seat, not_both}
+use Rattle.rfb_session.proofs.SlotLemmas.{became, one_seat, not_both}
 use Rattle.rfb_session.proofs.WorldLemmas.{reached_step, reached_stroke}
 
 -- what is carried between a session and a viewer
@@ -65,6 +65,38 @@ pub to_viewer_same : (e : Ends) (n : Network) (session : Session) (viewer : View
     Between e n session viewer to_server new
 to_viewer_same e n session viewer to_server old new is c =
     subst (λ (q : List ℕ). Between e n session viewer to_server q) (sym is) c
+
+-- the seat has become another over the same screen, which carries what is between it and its viewer
+pub watched_as : (e : Ends) (old new : Share) (k : ℕ) (viewer : Viewer) (to_server on_way later : List ℕ)
+    (n : Network) (seat : ShareSeat) → IsWatchedBy e old k viewer to_server on_way n →
+    seat_in new k ≡ Some seat → screen_of new ≡ screen_of old →
+    Between e n seat.session viewer to_server (later ++ waiting_in seat) →
+    IsWatchedBy e new k viewer to_server later n
+watched_as e old new k viewer to_server on_way later n seat w there screen carries = record {
+  seat = seat;
+  there = there;
+  screen_is = w.screen_is ∙ sym screen;
+  reached = w.reached;
+  carries = carries;
+}
+
+-- by an event of the link's the seat has become another, which carries what is between it and its viewer
+pub goes_by : (e : Ends) (share : Share) (k : ℕ) (viewer : Viewer) (to_server on_way : List ℕ) (n : Network)
+    (l : LinkState) (event : Event) (seat : ShareSeat) → IsReached e n →
+    Steps e n event (record n { link = l }) → seat_in share k ≡ Some seat → n.screen ≡ screen_of share →
+    Between e (record n { link = l }) seat.session viewer to_server (on_way ++ waiting_in seat) →
+    GoesOn e n share k viewer to_server on_way
+goes_by e share k viewer to_server on_way n l event seat reached step there here carries = (
+  record n { link = l },
+  inr (inl (event, step)),
+  record {
+    seat = seat;
+    there = there;
+    screen_is = here;
+    reached = reached_step e n (record n { link = l }) event reached step;
+    carries = carries;
+  },
+)
 
 -- ---- a viewer that joins
 
@@ -108,40 +140,47 @@ watched_joined e old new joined k viewer made fresh
 
 -- ---- drawings
 
-pub watched_drawn : (e : Ends) (old new : Share) (s : Stroke) (k : ℕ) (viewer : Viewer)
-    (to_server on_way : List ℕ) (n : Network) → IsInside (screen_of old) s → DrawsOn old s new →
-    IsWatchedBy e old k viewer to_server on_way n → GoesOn e n new k viewer to_server on_way
-watched_drawn e old new s k viewer to_server on_way n inside draws w =
-    let one = became (λ a b. IsNotifiedIn (notice_of s) a b) (seat_in old k) (seat_in new k) w.seat
-    (draws.seats k) w.there in
-    let keeps = one.2.keeps in
+-- a drawing makes one screen of the other, and the seat keeps what it stands for
+pub watched_stroke : (e : Ends) (old new : Share) (s : Stroke) (k : ℕ) (viewer : Viewer)
+    (to_server on_way : List ℕ) (n : Network) (w : IsWatchedBy e old k viewer to_server on_way n)
+    (seat : ShareSeat) → IsInside (screen_of old) s → screen_of new ≡ drawn_by s (screen_of old) →
+    seat_in new k ≡ Some seat → KeepsShareSeat w.seat seat → GoesOn e n new k viewer to_server on_way
+watched_stroke e old new s k viewer to_server on_way n w seat inside is there keeps =
     let had = w.carries in
     let drawn : Strokes s n (record n { screen = screen_of new }) =
     inl (
       subst (λ (g : Grid Colour). IsInside g s) (sym w.screen_is) inside,
       ap (λ (g : Grid Colour). record n { screen = g })
-          (draws.screen ∙ ap (λ (g : Grid Colour). drawn_by s g) (sym w.screen_is)),
+          (is ∙ ap (λ (g : Grid Colour). drawn_by s g) (sym w.screen_is)),
     ) in (
       record n { screen = screen_of new },
       inr (inr (s, drawn)),
       record {
-        seat = one.0;
-        there = one.1;
+        seat = seat;
+        there = there;
         screen_is = refl;
         reached = reached_stroke e n (record n { screen = screen_of new }) s w.reached drawn;
-        carries = to_viewer_same e (record n { screen = screen_of new }) one.0.session viewer
-            to_server (on_way ++ waiting_in w.seat) (on_way ++ waiting_in one.0)
+        carries = to_viewer_same e (record n { screen = screen_of new }) seat.session viewer
+            to_server (on_way ++ waiting_in w.seat) (on_way ++ waiting_in seat)
             (ap (λ (q : List ℕ). on_way ++ q) keeps.waits)
             (record {
               server_has = had.server_has;
               viewer_has = had.viewer_has;
-              server_is = session_over e.serving n.screen (screen_of new) one.0.session _ _
+              server_is = session_over e.serving n.screen (screen_of new) seat.session _ _
                   (keeps.session.stands e.serving n.screen _ _ had.server_is);
               viewer_is = had.viewer_is;
               flies = had.flies;
             });
       },
     )
+
+pub watched_drawn : (e : Ends) (old new : Share) (s : Stroke) (k : ℕ) (viewer : Viewer)
+    (to_server on_way : List ℕ) (n : Network) → IsInside (screen_of old) s → DrawsOn old s new →
+    IsWatchedBy e old k viewer to_server on_way n → GoesOn e n new k viewer to_server on_way
+watched_drawn e old new s k viewer to_server on_way n inside draws w =
+    let one = became (λ a b. IsNotifiedIn (notice_of s) a b) (seat_in old k) (seat_in new k) w.seat
+    (draws.seats k) w.there in
+    watched_stroke e old new s k viewer to_server on_way n w one.0 inside draws.screen one.1 one.2.keeps
 
 -- ---- bytes that reach the seat
 
@@ -158,20 +197,13 @@ watched_received e old new k bytes told viewer to_server later on_way n made is 
     (reached_holds e n w.reached) c (r.hears.fed e.serving n.screen) in
     let all = server_flight e n.link _ c.flies in
     let sum = length-append front later in
-    let step = server_steps e n one.0 (length front) (omega (arith, all, sum)) one.1 in (
-      record n { link = one.0 },
-      inr (inl (OfServer (length front), step)),
-      record {
-        seat = r.now;
-        there = r.is_there;
-        screen_is = w.screen_is ∙ sym r.keeps.screen;
-        reached = reached_step e n (record n { link = one.0 }) (OfServer (length front)) w.reached step;
-        carries = to_viewer_same e (record n { link = one.0 }) r.now.session viewer later
-            ((on_way ++ waiting_in r.was) ++ server_reply r.told) (on_way ++ waiting_in r.now)
-            (ap (λ (q : List ℕ). on_way ++ q) r.hears.waits
-            ∙ sym (append_assoc on_way (waiting_in r.was) (server_reply r.told))) one.3;
-      },
-    )
+    let step = server_steps e n one.0 (length front) (omega (arith, all, sum)) one.1 in
+    goes_by e new k viewer later on_way n one.0 (OfServer (length front)) r.now w.reached step r.is_there
+    (w.screen_is ∙ sym r.keeps.screen)
+    (to_viewer_same e (record n { link = one.0 }) r.now.session viewer later
+    ((on_way ++ waiting_in r.was) ++ server_reply r.told) (on_way ++ waiting_in r.now)
+    (ap (λ (q : List ℕ). on_way ++ q) r.hears.waits
+    ∙ sym (append_assoc on_way (waiting_in r.was) (server_reply r.told))) one.3)
 
 -- what a session ended at is refused by its fault
 ended_refused : (old new : Session) (bytes : List ℕ) (fault : ServerFault) →
@@ -230,16 +262,12 @@ watched_written e old new k count viewer to_server on_way n writes w =
     ∙ ap (λ (l : List ℕ). (on_way ++ take count (waiting_in w.seat)) ++ l) one.2.waits
     ∙ append_assoc on_way (take count (waiting_in w.seat)) (drop count (waiting_in w.seat))
     ∙ ap (λ (l : List ℕ). on_way ++ l) (take-append-drop count (waiting_in w.seat)) in
-    record {
-      seat = one.0;
-      there = one.1;
-      screen_is = w.screen_is ∙ sym writes.keeps.screen;
-      reached = w.reached;
-      carries = to_viewer_same e n one.0.session viewer to_server (on_way ++ waiting_in w.seat)
-          ((on_way ++ take count (waits_at old k)) ++ waiting_in one.0) whole
-          (subst (λ (s : Session). Between e n s viewer to_server (on_way ++ waiting_in w.seat))
-          (sym one.2.session) w.carries);
-    }
+    watched_as e old new k viewer to_server on_way (on_way ++ take count (waits_at old k)) n one.0 w one.1
+    writes.keeps.screen
+    (to_viewer_same e n one.0.session viewer to_server (on_way ++ waiting_in w.seat)
+    ((on_way ++ take count (waits_at old k)) ++ waiting_in one.0) whole
+    (subst (λ (s : Session). Between e n s viewer to_server (on_way ++ waiting_in w.seat)) (sym one.2.session)
+    w.carries))
 
 pub watched_shown : (e : Ends) (share : Share) (k : ℕ) (old new : Viewer)
     (bytes later : List ℕ) (event : Option ViewerTold) (to_server on_way : List ℕ) (n : Network) →
@@ -256,14 +284,6 @@ watched_shown e share k old new bytes later event to_server on_way n made is fed
     to_server bytes (later ++ waits) event n.link made (reached_holds e n w.reached) c fed in
     let all = viewer_flight e n.link _ c.flies in
     let sum = length-append bytes (later ++ waits) in
-    let step = viewer_steps e n one.0 (length bytes) (omega (arith, all, sum)) one.1 in (
-      record n { link = one.0 },
-      inr (inl (OfViewer (length bytes), step)),
-      record {
-        seat = w.seat;
-        there = w.there;
-        screen_is = w.screen_is;
-        reached = reached_step e n (record n { link = one.0 }) (OfViewer (length bytes)) w.reached step;
-        carries = one.3;
-      },
-    )
+    let step = viewer_steps e n one.0 (length bytes) (omega (arith, all, sum)) one.1 in
+    goes_by e share k new (to_server ++ viewer_reply event) later n one.0 (OfViewer (length bytes)) w.seat w.reached
+    step w.there w.screen_is one.3

@@ -140,6 +140,17 @@ module _ {X : Type 0} where
       one : Some b ≡ Some new → b ≡ new
       one e = cc
 
+  -- and what a seat became
+  slot_back : (R : X → X → Type 0) (a b : Option X) → OnSlot R a b → OnSlot (λ x y. R y x) b a
+  slot_back R None None is = tt
+  slot_back R None (Some b) is = is
+  slot_back R (Some a) None is = is
+  slot_back R (Some a) (Some b) is = is
+
+  pub became : (R : X → X → Type 0) (a b : Option X) (old : X) →
+      OnSlot R a b → a ≡ Some old → (new : X) × (b ≡ Some new) × R old new
+  became R a b old is there = on_seat (λ x y. R y x) b a old (slot_back R a b is) there
+
   -- ---- slots emptied one after another
 
   pub record Emptying (own : ℕ) (first now : List (Option X)) (i ended : ℕ) : Type 0 where
