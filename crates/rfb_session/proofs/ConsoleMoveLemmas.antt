@@ -22,7 +22,7 @@ use Rattle.rfb_session.specs.console.Desk.{lines_of}
 use Rattle.rfb_session.specs.declared.share.event.SeatEvent.{SeatEvent}
 use Rattle.rfb_session.specs.console.Viewers.{HearsAt, LetsGo, LetsGoFor, Admits}
 use Rattle.rfb_session.specs.console.Turns.{TurnsAs, IsFreshDesk, DrawsAs, HoldsAs, ShowsAs, WritesLines, WritesSeat}
-use Rattle.rfb_session.specs.console.Console.{OnDesk, NoDesk, Over, Done, RanOut, ObeysSome}
+use Rattle.rfb_session.specs.console.Console.{ByDoor, OnDesk, NoDesk, Over, Done, RanOut, ObeysSome}
 use Rattle.rfb_session.specs.console.History.{left_in}
 
 -- the bytes that came at a door by what happened
@@ -80,6 +80,18 @@ at_door (suc k) = elim (leb_tells 8 k) [
   ]
   | inr near ↦ AtSeat k (omega (arith, near.1)) (omega arith)
 ]
+
+-- what follows at each of the doors follows at any
+pub by_door : {X : Type 0} {door : ℕ} {owner : Type 0} {seat : ℕ → Type 0} {lines other : Type 0} →
+    ByDoor door owner seat lines other → (door ≡ 0 → owner → X) → ((k : ℕ) → seat k → X) →
+    (lines → X) → (other → X) → X
+by_door {X} {door} does at_owner at_seat at_lines at_other = by (at_door door)
+  where
+    by : AtDoor door → X
+    by (AtOwner is) = at_owner is (does.at_owner is)
+    by (AtSeat k within is) = at_seat k (does.at_seat k within is)
+    by (AtLines is) = at_lines (does.at_lines is)
+    by (AtOther far) = at_other (does.at_other far)
 
 pub if_other : (d door : ℕ) (bytes : List ℕ) → d ≢ door → (if d == door then bytes else []) ≡ []
 if_other d door bytes other = elim (eqb_tells d door) [

@@ -1,5 +1,6 @@
 -- What a happening does to a console that goes on: to its desk, and to what it has read of its owner.
-use Rattle.std.proofs.Common.{◌≡◌, ◌≢◌, ◌<◌, ◌+◌, ◌-◌, ◌++◌, ◌∙◌, ℕ, zero, suc, List, [], ◌∷◌}
+use Rattle.std.proofs.Common.{◌≡◌, ◌≢◌, ◌<◌, ◌+◌, ◌-◌, ◌++◌, ◌∙◌}
+use Rattle.std.proofs.Common.{ℕ, zero, suc, List, []}
 use Rattle.std.proofs.Common.{Option, Some, None, refl, sym, ap, subst, arith, inl, inr, length, take}
 use Rattle.std.proofs.lemmas.Bool.Decides.{eqb_tells, leb_tells}
 use Rattle.rfb_session.specs.declared.console.Console.{Console}
@@ -16,12 +17,13 @@ use Rattle.rfb_session.specs.owner.Reader.{ComesTo, ComesFurther, Closes, Feeds,
 use Rattle.rfb_session.specs.Share.{waits_at}
 use Rattle.rfb_session.specs.console.Console.{ObeysSome, HearsOwner, Ignored, Heard}
 use Rattle.rfb_session.specs.console.Console.{EndsOwner, EndedBefore, EndsNow, Declines, NotYet, IsFull, WantsMemory}
-use Rattle.rfb_session.specs.console.Console.{Stays, DoesOnDesk, DoesAlways, KeepsDesk}
+use Rattle.rfb_session.specs.console.Console.{Stays, Steps, OpensAs, DeclinesAs, DoesOnDesk, DoesAlways, KeepsDesk}
 use Rattle.rfb_session.specs.console.Console.{waiting_at, seat_waits, lines_on}
 use Rattle.rfb_session.specs.console.History.{Happens, Lasts, HasRead, left_in}
 use Rattle.rfb_session.proofs.ConsoleMoveLemmas.{Moves, Moved, Goes, Loses, Hears, Writes, WritesOut, Turns}
 use Rattle.rfb_session.proofs.ConsoleMoveLemmas.{Comes, Refuses, IsSilent, AtDoor, AtOwner, AtSeat, AtLines, AtOther}
 use Rattle.rfb_session.proofs.ConsoleMoveLemmas.{at_door, if_other, came_elsewhere, left_elsewhere, none_some, alike}
+use Rattle.rfb_session.proofs.FirstHappeningLemmas.{so_before}
 use Rattle.rfb_session.proofs.ConsoleMoveLemmas.{on_desk, order_moves, still_none, order_none, known_stays, in_place}
 
 -- ---- the end of all
@@ -49,13 +51,9 @@ module _ {S : Type 0} where
 
   pub lasts_on : (old new : Console S) (happenings : List Happening) → Lasts old happenings new →
       new.outcome ≡ None → old.outcome ≡ None
-  lasts_on old new [] lasts goes = ap (λ (c : Console S). c.outcome) (sym lasts) ∙ goes
-  lasts_on old new (Told event ∷ more) lasts goes =
-      went_on old lasts.0 (stays_so (Told event) old lasts.0 lasts.1) (lasts_on lasts.0 new more lasts.2 goes)
-  lasts_on old new (Opened door from ∷ more) lasts goes =
-      went_on old lasts.0 (stays_so (Opened door from) old lasts.0 lasts.1) (lasts_on lasts.0 new more lasts.2 goes)
-  lasts_on old new (Declined from ∷ more) lasts goes =
-      went_on old lasts.0 (stays_so (Declined from) old lasts.0 lasts.1) (lasts_on lasts.0 new more lasts.2 goes)
+  lasts_on old new happenings lasts goes =
+      so_before Steps OpensAs DeclinesAs (λ c. c.outcome ≡ None)
+      (λ a h b happens on. went_on a b (stays_so h a b happens) on) old new happenings lasts goes
 
 -- ---- what waits
 

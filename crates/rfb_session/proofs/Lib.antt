@@ -136,6 +136,7 @@ pub mod RoundKeptLemmas
 pub mod BoundLemmas
 pub mod ConsoleLemmas
 pub mod ConsoleMoveLemmas
+pub mod FirstHappeningLemmas
 pub mod ConsoleStepLemmas
 pub mod SeatLifeLemmas
 pub mod SeatHistoryLemmas

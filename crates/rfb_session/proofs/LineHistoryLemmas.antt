@@ -1,5 +1,6 @@
 -- What a console's owner is told, and what of the owner's bytes is obeyed, over all that happens.
-use Rattle.std.proofs.Common.{◌≡◌, ◌≢◌, ◌+◌, ◌++◌, ◌∙◌, ◌==◌, ℕ, zero, suc, Bool, true, false, List, [], ◌∷◌}
+use Rattle.std.proofs.Common.{◌≡◌, ◌+◌, ◌++◌, ◌∙◌, ◌==◌, ◌∷◌}
+use Rattle.std.proofs.Common.{ℕ, zero, suc, Bool, true, false, List, []}
 use Rattle.std.proofs.Common.{Option, Some, None, refl, sym, ap, subst, arith, inl, inr, length, take, drop, cond}
 use Rattle.std.proofs.Common.{append-nil, append_assoc, take-append-drop}
 use Rattle.std.proofs.lemmas.Bool.Decides.{eqb_tells}
@@ -19,7 +20,7 @@ use Rattle.rfb_session.specs.declared.share.event.SeatEvent.{SeatEvent}
 use Rattle.rfb_session.specs.console.Viewers.{HearsAt, Took, Refused, MakesRoom}
 use Rattle.rfb_session.specs.console.Turns.{tells_late}
 use Rattle.rfb_session.specs.console.Console.{IsFreshConsole, Stays, HearsOwner, Ignored, Heard, ObeysSome, Obeys}
-use Rattle.rfb_session.specs.console.Console.{lines_on}
+use Rattle.rfb_session.specs.console.Console.{DeclinesAs, OpensAs, Steps, lines_on}
 use Rattle.rfb_session.specs.console.History.{Happens, Lasts, HasRead, left_in, TellsEach, TellsAll, joined}
 use Rattle.rfb_session.specs.console.History.{Reads, Part, Line, Deed, Obeyed, Met, orders_in}
 use Rattle.rfb_session.specs.console.History.{but_owners}
@@ -27,8 +28,9 @@ use Rattle.rfb_session.specs.console.History.{DoesAll, IsObeyed}
 use Rattle.rfb_session.proofs.ConsoleMoveLemmas.{Moves, None_yet, Begun, Moved, DeskMove, IsSilent}
 use Rattle.rfb_session.proofs.ConsoleMoveLemmas.{Alike, Draws, Goes, Loses, Holds, Shows, Hears, Writes, WritesOut}
 use Rattle.rfb_session.proofs.ConsoleMoveLemmas.{Turns, Comes, Refuses, if_other}
-use Rattle.rfb_session.proofs.ConsoleStepLemmas.{moves_so, read_on, stays_so, went_on, lasts_on, IsBeside, kept_so}
-use Rattle.rfb_session.proofs.ConsoleStepLemmas.{kept_read, heard_read, left_over}
+use Rattle.rfb_session.proofs.ConsoleStepLemmas.{moves_so, read_on, stays_so, went_on, lasts_on, IsBeside}
+use Rattle.rfb_session.proofs.ConsoleStepLemmas.{kept_so, kept_read, heard_read, left_over}
+use Rattle.rfb_session.proofs.FirstHappeningLemmas.{first_of, bytes_first}
 
 -- ---- lines
 
@@ -148,30 +150,15 @@ module _ {S : Type 0} where
     each = lasts;
     order = ap (λ (c : Console S). lines_on c.desk) lasts ∙ sym (append-nil (lines_on old.desk));
   }
-  tells_all old new (Told event ∷ more) part read goes lasts =
-      let on = lasts_on lasts.0 new more lasts.2 goes in
-      let was = went_on old lasts.0 (stays_so (Told event) old lasts.0 lasts.1) on in
-      let next = read_on old lasts.0 (Told event) part read was on lasts.1 in
-      tells_then (Told event) old lasts.0 new (Told event ∷ more) more
-      (happening_tells _ _ _ (moves_so old lasts.0 (Told event) part read was on lasts.1))
-      (tells_all lasts.0 new more next.0 next.1 goes lasts.2) refl
-      (λ texts text each lines. (lasts.0, lasts.1, lines, each))
-  tells_all old new (Opened door from ∷ more) part read goes lasts =
-      let on = lasts_on lasts.0 new more lasts.2 goes in
-      let was = went_on old lasts.0 (stays_so (Opened door from) old lasts.0 lasts.1) on in
-      let next = read_on old lasts.0 (Opened door from) part read was on lasts.1 in
-      tells_then (Opened door from) old lasts.0 new (Opened door from ∷ more) more
-      (happening_tells _ _ _ (moves_so old lasts.0 (Opened door from) part read was on lasts.1))
-      (tells_all lasts.0 new more next.0 next.1 goes lasts.2) refl
-      (λ texts text each lines. (lasts.0, lasts.1, lines, each))
-  tells_all old new (Declined from ∷ more) part read goes lasts =
-      let on = lasts_on lasts.0 new more lasts.2 goes in
-      let was = went_on old lasts.0 (stays_so (Declined from) old lasts.0 lasts.1) on in
-      let next = read_on old lasts.0 (Declined from) part read was on lasts.1 in
-      tells_then (Declined from) old lasts.0 new (Declined from ∷ more) more
-      (happening_tells _ _ _ (moves_so old lasts.0 (Declined from) part read was on lasts.1))
-      (tells_all lasts.0 new more next.0 next.1 goes lasts.2) refl
-      (λ texts text each lines. (lasts.0, lasts.1, lines, each))
+  tells_all old new (h ∷ more) part read goes lasts =
+      let one = first_of Steps OpensAs DeclinesAs old new h more lasts in
+      let on = lasts_on one.0 new more one.2 goes in
+      let was = went_on old one.0 (stays_so h old one.0 one.1) on in
+      let next = read_on old one.0 h part read was on one.1 in
+      tells_then h old one.0 new (h ∷ more) more
+      (happening_tells _ _ _ (moves_so old one.0 h part read was on one.1))
+      (tells_all one.0 new more next.0 next.1 goes one.2) (bytes_first 9 h more).1
+      (λ texts text each lines. (one.0, one.1, lines, each))
 
   -- ---- the owner's bytes
 
@@ -198,6 +185,16 @@ module _ {S : Type 0} where
           as_made old mid stays after.deeds mid.desk new.desk after.does,
         );
       }
+
+  -- and what has come of a line stays
+  by_beside : (h : Happening) (old mid new : Console S) (part : List ℕ) (all more : List Happening) → IsBeside h →
+      new.outcome ≡ None → Happens old h mid → Lasts mid more new → HasRead old part →
+      came 0 (events_in all) ≡ came 0 (events_in more) → but_owners all ≡ h ∷ but_owners more →
+      (HasRead mid part → IsObeyed mid part more new) → IsObeyed old part all new
+  by_beside h old mid new part all more is goes happens lasts read none parts after =
+      let on = lasts_on mid new more lasts goes in
+      beside h old mid new part all more is on happens none parts
+      (after (kept_read old mid part (kept_so old mid h on happens is) read))
 
   -- bytes of the owner's, which are part of a line, or end one
   heard : (old mid new : Console S) (part bytes : List ℕ) (more : List Happening) (order : Option Order) →
@@ -266,45 +263,26 @@ module _ {S : Type 0} where
           (after (left_over order (part ++ bytes)) (heard_read old lasts.0 part bytes order on read feeds obeys))
   obeyed old new (Told (Ended zero) ∷ more) part read goes still lasts = absurd (omega (arith, still))
   obeyed old new (Told (Received (suc door) bytes) ∷ more) part read goes still lasts =
-      let on = lasts_on lasts.0 new more lasts.2 goes in
-      let aside : suc door ≢ 0 = λ is. omega (arith, is) in
-      let kept = kept_so old lasts.0 (Told (Received (suc door) bytes)) on lasts.1 aside in
-      beside (Told (Received (suc door) bytes)) old lasts.0 new part (Told (Received (suc door) bytes) ∷ more) more
-      aside on lasts.1
+      by_beside (Told (Received (suc door) bytes)) old lasts.0 new part _ more (λ is. omega (arith, is)) goes lasts.1
+      lasts.2 read
       (ap (λ (l : List ℕ). l ++ came 0 (events_in more)) (if_other 0 (suc door) bytes (λ is. omega (arith, is))))
       (ap (λ (b : Bool). cond b (but_owners more) (Told (Received (suc door) bytes) ∷ but_owners more))
-      (not_owner door))
-      (obeyed lasts.0 new more part (kept_read old lasts.0 part kept read) goes (omega (arith, still)) lasts.2)
+      (not_owner door)) (λ next. obeyed lasts.0 new more part next goes (omega (arith, still)) lasts.2)
   obeyed old new (Told (Ended (suc door)) ∷ more) part read goes still lasts =
-      let on = lasts_on lasts.0 new more lasts.2 goes in
-      let aside : suc door ≢ 0 = λ is. omega (arith, is) in
-      let kept = kept_so old lasts.0 (Told (Ended (suc door))) on lasts.1 aside in
-      beside (Told (Ended (suc door))) old lasts.0 new part (Told (Ended (suc door)) ∷ more) more
-      aside on lasts.1 refl refl
-      (obeyed lasts.0 new more part (kept_read old lasts.0 part kept read) goes (omega (arith, still)) lasts.2)
+      by_beside (Told (Ended (suc door))) old lasts.0 new part _ more (λ is. omega (arith, is)) goes lasts.1 lasts.2
+      read refl refl (λ next. obeyed lasts.0 new more part next goes (omega (arith, still)) lasts.2)
   obeyed old new (Told (Failed door) ∷ more) part read goes still lasts =
-      let on = lasts_on lasts.0 new more lasts.2 goes in
-      let kept = kept_so old lasts.0 (Told (Failed door)) on lasts.1 tt in
-      beside (Told (Failed door)) old lasts.0 new part (Told (Failed door) ∷ more) more tt on lasts.1 refl refl
-      (obeyed lasts.0 new more part (kept_read old lasts.0 part kept read) goes (omega (arith, still)) lasts.2)
+      by_beside (Told (Failed door)) old lasts.0 new part _ more tt goes lasts.1 lasts.2 read refl refl
+      (λ next. obeyed lasts.0 new more part next goes (omega (arith, still)) lasts.2)
   obeyed old new (Told (Wrote door bytes) ∷ more) part read goes still lasts =
-      let on = lasts_on lasts.0 new more lasts.2 goes in
-      let kept = kept_so old lasts.0 (Told (Wrote door bytes)) on lasts.1 tt in
-      beside (Told (Wrote door bytes)) old lasts.0 new part (Told (Wrote door bytes) ∷ more) more tt on lasts.1
-      refl refl
-      (obeyed lasts.0 new more part (kept_read old lasts.0 part kept read) goes (omega (arith, still)) lasts.2)
+      by_beside (Told (Wrote door bytes)) old lasts.0 new part _ more tt goes lasts.1 lasts.2 read refl refl
+      (λ next. obeyed lasts.0 new more part next goes (omega (arith, still)) lasts.2)
   obeyed old new (Told (Turned now) ∷ more) part read goes still lasts =
-      let on = lasts_on lasts.0 new more lasts.2 goes in
-      let kept = kept_so old lasts.0 (Told (Turned now)) on lasts.1 tt in
-      beside (Told (Turned now)) old lasts.0 new part (Told (Turned now) ∷ more) more tt on lasts.1 refl refl
-      (obeyed lasts.0 new more part (kept_read old lasts.0 part kept read) goes (omega (arith, still)) lasts.2)
+      by_beside (Told (Turned now)) old lasts.0 new part _ more tt goes lasts.1 lasts.2 read refl refl
+      (λ next. obeyed lasts.0 new more part next goes (omega (arith, still)) lasts.2)
   obeyed old new (Opened door from ∷ more) part read goes still lasts =
-      let on = lasts_on lasts.0 new more lasts.2 goes in
-      let kept = kept_so old lasts.0 (Opened door from) on lasts.1 tt in
-      beside (Opened door from) old lasts.0 new part (Opened door from ∷ more) more tt on lasts.1 refl refl
-      (obeyed lasts.0 new more part (kept_read old lasts.0 part kept read) goes (omega (arith, still)) lasts.2)
+      by_beside (Opened door from) old lasts.0 new part _ more tt goes lasts.1 lasts.2 read refl refl
+      (λ next. obeyed lasts.0 new more part next goes (omega (arith, still)) lasts.2)
   obeyed old new (Declined from ∷ more) part read goes still lasts =
-      let on = lasts_on lasts.0 new more lasts.2 goes in
-      let kept = kept_so old lasts.0 (Declined from) on lasts.1 tt in
-      beside (Declined from) old lasts.0 new part (Declined from ∷ more) more tt on lasts.1 refl refl
-      (obeyed lasts.0 new more part (kept_read old lasts.0 part kept read) goes (omega (arith, still)) lasts.2)
+      by_beside (Declined from) old lasts.0 new part _ more tt goes lasts.1 lasts.2 read refl refl
+      (λ next. obeyed lasts.0 new more part next goes (omega (arith, still)) lasts.2)

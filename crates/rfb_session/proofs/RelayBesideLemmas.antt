@@ -1,21 +1,23 @@
 -- What happens at a relay beside what its server and its viewers send.
 use Rattle.std.proofs.Common.{◌≡◌, ◌≢◌, ◌++◌, ◌∙◌, ℕ, zero, suc, List, []}
-use Rattle.std.proofs.Common.{Some, None, refl, sym, ap, subst, length, take, drop, append-nil}
+use Rattle.std.proofs.Common.{Some, refl, sym, ap, subst, arith, length, take, drop, append-nil}
 use Rattle.rfb_session.specs.declared.console.desk.Desk.{Desk}
 use Rattle.rfb_session.specs.declared.relay.Relay.{Relay}
+use Rattle.rfb_session.specs.declared.relay.gone.Gone.{Gone}
 use Rattle.rfb_session.specs.declared.relay.presence.Presence.{Presence}
-use Rattle.rfb_session.specs.doors.Events.{Ended, Failed, Wrote}
-use Rattle.rfb_session.specs.doors.Tenants.{Happening, Told}
-use Rattle.rfb_session.specs.console.Console.{Stays}
+use Rattle.rfb_session.specs.doors.Events.{Event}
+use Rattle.rfb_session.specs.doors.Tenants.{Happening}
+use Rattle.rfb_session.specs.console.Console.{KeepsButRooms, Stays}
 use Rattle.rfb_session.specs.console.History.{left_in}
 use Rattle.rfb_session.specs.relay.Doors.{KeepsAllButRooms, KeepsServer}
 use Rattle.rfb_session.specs.relay.History.{Sends, HasSent, HasGone}
 use Rattle.rfb_session.specs.relay.Sent.{Sent, all_bytes, IsInOrder}
 use Rattle.rfb_session.specs.relay.Presence.{is_gone}
-use Rattle.rfb_session.specs.relay.Relay.{StepsBeside}
-use Rattle.rfb_session.proofs.ConsoleMoveLemmas.{if_other}
-use Rattle.rfb_session.proofs.RelayKeepLemmas.{KeepsSeen, same_seen, ended_seen, failed_seen}
-use Rattle.rfb_session.proofs.RelayKeepLemmas.{wrote_seen}
+use Rattle.rfb_session.specs.relay.Relay.{AtDoor as DoesAt, DoesRelay, RelaySteps, StepsBeside, Then}
+use Rattle.rfb_session.specs.relay.Server.{LosesServer}
+use Rattle.rfb_session.proofs.ConsoleLemmas.{stays_then}
+use Rattle.rfb_session.proofs.ConsoleMoveLemmas.{AtDoor, AtOwner, AtSeat, AtLines, AtOther, at_door}
+use Rattle.rfb_session.proofs.RelayKeepLemmas.{KeepsSeen, same_seen}
 use Rattle.rfb_session.proofs.RelayPassLemmas.{Waits}
 use Rattle.rfb_session.proofs.RelayOrderLemmas.{Still, still_has, has_sent}
 
@@ -26,6 +28,19 @@ take_none (suc n) = refl
 pub drop_none : (n : ℕ) → drop {A = ℕ} n [] ≡ []
 drop_none zero = refl
 drop_none (suc n) = refl
+
+-- ---- the server's door, and the others
+
+-- what follows at the door of the server, and what follows at any other, follows at each
+pub of_door : {X : Type 0} {door : ℕ} {server other : Type 0} → DoesAt door server (λ k. other) other →
+    (door ≡ 0 → server → X) → (door ≢ 0 → other → X) → X
+of_door {X} {door} {server} {other} does at_server beside = by (at_door door)
+  where
+    by : AtDoor door → X
+    by (AtOwner is) = at_server is (does.at_server is)
+    by (AtSeat k within is) = beside (λ none. omega (arith, none, is)) (does.at_seat k within is)
+    by (AtLines is) = beside (λ none. omega (arith, none, is)) (does.at_other (omega (arith, is)))
+    by (AtOther far) = beside (λ none. omega (arith, none, far)) (does.at_other (omega (arith, far)))
 
 module _ {S : Type 0} where
   -- what it sends waits, behind what waited but for what left; or the server has gone away
@@ -42,6 +57,28 @@ module _ {S : Type 0} where
   quiet old new sent more h none sends w stays given =
       GoesOn more sends (rw none w.waits) (rw none refl)
       (has_sent old new (sent ++ more) w.viewer w.shown w.state w.prefix given stays.rules w.here w.stands w.order)
+
+  -- ---- a server that is lost at its door
+
+  -- and how much is taken at each door has changed
+  pub lost_steps : {old mid new : Relay S} {how : Gone} {door : ℕ} (event : Event) →
+      (DoesAt door (Then (λ lost. LosesServer old how lost) new) (λ k. StepsBeside old event new)
+      (StepsBeside old event new) → DoesRelay old event new) → door ≡ 0 → LosesServer old how mid →
+      Stays old.console mid.console → new.given ≡ old.given → KeepsServer mid new →
+      KeepsButRooms mid.console new.console → RelaySteps old event new
+  lost_steps {old} {mid} {new} event does is loses stays given server console = record {
+    does = does (record {
+      at_server = λ same. record {
+        mid = mid;
+        done = loses;
+        keeps = record { server = server; console = console };
+      };
+      at_seat = λ k within same. absurd (omega (arith, is, same));
+      at_other = λ far. absurd (omega (arith, is, far));
+    });
+    stays = stays_then old.console mid.console new.console stays console.stays;
+    given = given;
+  }
 
   -- ---- how much is taken at each door
 
@@ -91,25 +128,10 @@ module _ {S : Type 0} where
         (sym (append-nil sent)) has.order;
   }
 
-  module _ (old new : Relay S) (sent : List Sent) (has : HasSent old sent) (going : old.console.outcome ≡ None)
-      (goes : new.console.outcome ≡ None) where
-    pub ended_moves : (door : ℕ) → door ≢ 0 → StepsBeside old (Ended door) new → Stays old.console new.console →
-        new.given ≡ old.given → Moves old sent (Told (Ended door)) new
-    ended_moves door aside beside stays given =
-        quiet old new sent [] (Told (Ended door)) refl refl
-        (beside_waits old new sent has beside.server
-        (λ a there. ended_seen old.console a door new.console aside going goes there beside.steps)) stays given
-
-    pub failed_moves : (door : ℕ) → door ≢ 0 → StepsBeside old (Failed door) new → Stays old.console new.console →
-        new.given ≡ old.given → Moves old sent (Told (Failed door)) new
-    failed_moves door aside beside stays given =
-        quiet old new sent [] (Told (Failed door)) refl refl
-        (beside_waits old new sent has beside.server
-        (λ a there. failed_seen old.console a door new.console aside going goes there beside.steps)) stays given
-
-    pub wrote_moves : (door : ℕ) (bytes : List ℕ) → door ≢ 0 → StepsBeside old (Wrote door bytes) new →
-        Stays old.console new.console → new.given ≡ old.given → Moves old sent (Told (Wrote door bytes)) new
-    wrote_moves door bytes aside beside stays given =
-        quiet old new sent [] (Told (Wrote door bytes)) (if_other 0 door bytes (λ same. aside (sym same))) refl
-        (beside_waits old new sent has beside.server
-        (λ a there. wrote_seen old.console a door bytes new.console aside there beside.steps)) stays given
+  -- so nothing is sent by it, and nothing left by it
+  pub beside_moves : (old new : Relay S) (sent : List Sent) (h : Happening) → HasSent old sent →
+      left_in 0 h ≡ [] → Sends old h [] new → KeepsServer old new →
+      ((a : Desk) → old.console.desk ≡ Some a → KeepsSeen a new.console.desk) →
+      Stays old.console new.console → new.given ≡ old.given → Moves old sent h new
+  beside_moves old new sent h has none sends keeps desk stays given =
+      quiet old new sent [] h none sends (beside_waits old new sent has keeps desk) stays given

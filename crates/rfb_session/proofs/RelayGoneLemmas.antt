@@ -3,16 +3,20 @@ use Rattle.std.proofs.Common.{◌≡◌, ◌≢◌, ◌∙◌, ℕ, zero, suc, L
 use Rattle.std.proofs.Common.{refl, sym, ap, subst, arith, length, take, drop}
 use Rattle.rfb_session.specs.declared.relay.Relay.{Relay}
 use Rattle.rfb_session.specs.declared.relay.presence.Presence.{Presence}
+use Rattle.rfb_session.specs.declared.relay.gone.Gone.{Gone}
 use Rattle.rfb_session.specs.doors.Events.{Event, Received, Ended, Failed, Wrote, Turned, left}
 use Rattle.rfb_session.specs.doors.Tenants.{Happening, Told, Opened, Declined, IsKept, events_in}
 use Rattle.rfb_session.specs.console.Console.{Stays}
 use Rattle.rfb_session.specs.console.History.{left_in}
 use Rattle.rfb_session.specs.relay.History.{Happens, Lasts, HasGone}
 use Rattle.rfb_session.specs.relay.Presence.{is_gone}
-use Rattle.rfb_session.specs.relay.Relay.{RelaySteps, OpensFor, ForServer, ForViewer}
+use Rattle.rfb_session.specs.relay.Relay.{AtDoor as DoesAt, Then, StepsBeside, RelaySteps, OpensFor, ForServer}
+use Rattle.rfb_session.specs.relay.Relay.{ForViewer, OpensRelay, DeclinesRelay}
+use Rattle.rfb_session.specs.relay.Server.{LosesServer}
 use Rattle.rfb_session.proofs.ConsoleMoveLemmas.{AtDoor, AtOwner, AtSeat, AtLines, AtOther, at_door, if_other}
 use Rattle.rfb_session.proofs.ConsoleStepLemmas.{went_on}
-use Rattle.rfb_session.proofs.RelayBesideLemmas.{server_gone, take_none, drop_none}
+use Rattle.rfb_session.proofs.FirstHappeningLemmas.{IsKeptBy, first_of, kept_first, bytes_first, so_before}
+use Rattle.rfb_session.proofs.RelayBesideLemmas.{of_door, server_gone, take_none, drop_none}
 use Rattle.rfb_session.proofs.RelayHearLemmas.{hears_gone}
 use Rattle.rfb_session.proofs.RelayPassLemmas.{heard_gone}
 use Rattle.rfb_session.proofs.RelayTurnLemmas.{turned_gone}
@@ -37,37 +41,19 @@ module _ {S : Type 0} where
 
   pub lasts_on : (old new : Relay S) (happenings : List Happening) → Lasts old happenings new →
       new.console.outcome ≡ None → old.console.outcome ≡ None
-  lasts_on old new [] lasts goes = ap (λ (r : Relay S). r.console.outcome) (sym lasts) ∙ goes
-  lasts_on old new (Told event ∷ more) lasts goes =
-      on_before (Told event) old lasts.0 lasts.1 (lasts_on lasts.0 new more lasts.2 goes)
-  lasts_on old new (Opened door from ∷ more) lasts goes =
-      on_before (Opened door from) old lasts.0 lasts.1 (lasts_on lasts.0 new more lasts.2 goes)
-  lasts_on old new (Declined from ∷ more) lasts goes =
-      on_before (Declined from) old lasts.0 lasts.1 (lasts_on lasts.0 new more lasts.2 goes)
+  lasts_on old new happenings lasts goes =
+      so_before RelaySteps OpensRelay DeclinesRelay (λ r. r.console.outcome ≡ None)
+      (λ a h b happens on. on_before h a b happens on) old new happenings lasts goes
 
   -- ---- once it has gone
 
-  ended_gone : (old new : Relay S) (door : ℕ) → HasGone old → RelaySteps old (Ended door) new → HasGone new
-  ended_gone old new door gone steps = by (at_door door)
-    where
-      by : AtDoor door → HasGone new
-      by (AtOwner is) =
-          let one = steps.does.at_server is in
-          server_gone one.mid new one.keeps.server (left_gone old _ one.mid gone one.done)
-      by (AtSeat k within is) = server_gone old new (steps.does.at_seat k within is).server gone
-      by (AtLines is) = server_gone old new (steps.does.at_other (omega (arith, is))).server gone
-      by (AtOther far) = server_gone old new (steps.does.at_other (omega (arith, far))).server gone
-
-  failed_gone : (old new : Relay S) (door : ℕ) → HasGone old → RelaySteps old (Failed door) new → HasGone new
-  failed_gone old new door gone steps = by (at_door door)
-    where
-      by : AtDoor door → HasGone new
-      by (AtOwner is) =
-          let one = steps.does.at_server is in
-          server_gone one.mid new one.keeps.server (left_gone old _ one.mid gone one.done)
-      by (AtSeat k within is) = server_gone old new (steps.does.at_seat k within is).server gone
-      by (AtLines is) = server_gone old new (steps.does.at_other (omega (arith, is))).server gone
-      by (AtOther far) = server_gone old new (steps.does.at_other (omega (arith, far))).server gone
+  -- one that is lost once more is gone, and what happens beside it leaves it so
+  at_door_gone : (old new : Relay S) (door : ℕ) (how : Gone) (event : Event) → HasGone old →
+      DoesAt door (Then (λ mid. LosesServer old how mid) new) (λ k. StepsBeside old event new)
+      (StepsBeside old event new) → HasGone new
+  at_door_gone old new door how event gone does =
+      of_door does (λ is one. server_gone one.mid new one.keeps.server (left_gone old how one.mid gone one.done))
+      (λ aside beside. server_gone old new beside.server gone)
 
   received_gone : (old new : Relay S) (door : ℕ) (part : List ℕ) → old.console.outcome ≡ None →
       new.console.outcome ≡ None → HasGone old → RelaySteps old (Received door part) new → HasGone new
@@ -94,8 +80,10 @@ module _ {S : Type 0} where
       HasGone old → RelaySteps old event new → HasGone new × (left_in 0 (Told event) ≡ [])
   told_gone old new (Received door part) going goes gone steps =
       (received_gone old new door part going goes gone steps, refl)
-  told_gone old new (Ended door) going goes gone steps = (ended_gone old new door gone steps, refl)
-  told_gone old new (Failed door) going goes gone steps = (failed_gone old new door gone steps, refl)
+  told_gone old new (Ended door) going goes gone steps =
+      (at_door_gone old new door _ (Ended door) gone steps.does, refl)
+  told_gone old new (Failed door) going goes gone steps =
+      (at_door_gone old new door _ (Failed door) gone steps.does, refl)
   told_gone old new (Wrote zero bytes) going goes gone steps =
       let one = steps.does.at_server refl in (
         record {
@@ -105,14 +93,11 @@ module _ {S : Type 0} where
         },
         one.0 ∙ ap (λ (l : List ℕ). take (length bytes) l) gone.waits ∙ take_none (length bytes),
       )
-  told_gone old new (Wrote (suc door) bytes) going goes gone steps =
-      (by (at_door (suc door)), if_other 0 (suc door) bytes (λ same. omega (arith, same)))
-    where
-      by : AtDoor (suc door) → HasGone new
-      by (AtOwner is) = absurd (omega (arith, is))
-      by (AtSeat k within is) = server_gone old new (steps.does.at_seat k within is).server gone
-      by (AtLines is) = server_gone old new (steps.does.at_other (omega (arith, is))).server gone
-      by (AtOther far) = server_gone old new (steps.does.at_other (omega (arith, far))).server gone
+  told_gone old new (Wrote (suc door) bytes) going goes gone steps = (
+    of_door steps.does (λ is one. absurd (omega (arith, is)))
+        (λ aside beside. server_gone old new beside.server gone),
+    if_other 0 (suc door) bytes (λ same. omega (arith, same)),
+  )
   told_gone old new (Turned now) going goes gone steps =
       (turned_gone old now new steps.does goes gone, refl)
 
@@ -121,16 +106,23 @@ module _ {S : Type 0} where
   opened_gone old new door from aside gone (ForServer due is called) = absurd (aside (sym is))
   opened_gone old new door from aside gone (ForViewer none comes keeps) = server_gone old new keeps gone
 
+  happens_gone : (old new : Relay S) (h : Happening) → old.console.outcome ≡ None →
+      new.console.outcome ≡ None → IsKeptBy 0 h → HasGone old → Happens old h new →
+      HasGone new × (left_in 0 h ≡ [])
+  happens_gone old new (Told event) going goes kept gone happens = told_gone old new event going goes gone happens
+  happens_gone old new (Opened door from) going goes kept gone happens =
+      (opened_gone old new door from kept gone happens.opens, refl)
+  happens_gone old new (Declined from) going goes kept gone happens =
+      (server_gone old new happens.server gone, refl)
+
   pub stays_gone : (old new : Relay S) (happenings : List Happening) → HasGone old → IsKept 0 happenings →
       new.console.outcome ≡ None → Lasts old happenings new →
       HasGone new × (left 0 (events_in happenings) ≡ [])
   stays_gone old new [] gone kept goes lasts = (subst (λ (r : Relay S). HasGone r) (sym lasts) gone, refl)
-  stays_gone old new (Told event ∷ more) gone kept goes lasts =
-      let on = lasts_on lasts.0 new more lasts.2 goes in
-      let one = told_gone old lasts.0 event (on_before (Told event) old lasts.0 lasts.1 on) on gone lasts.1 in
-      let rest = stays_gone lasts.0 new more one.0 kept goes lasts.2 in
-      (rest.0, rw (one.1, rest.1) refl)
-  stays_gone old new (Opened door from ∷ more) gone kept goes lasts =
-      stays_gone lasts.0 new more (opened_gone old lasts.0 door from kept.0 gone lasts.1.opens) kept.1 goes lasts.2
-  stays_gone old new (Declined from ∷ more) gone kept goes lasts =
-      stays_gone lasts.0 new more (server_gone old lasts.0 lasts.1.server gone) kept goes lasts.2
+  stays_gone old new (h ∷ more) gone kept goes lasts =
+      let one = first_of RelaySteps OpensRelay DeclinesRelay old new h more lasts in
+      let keeps = kept_first 0 h more kept in
+      let on = lasts_on one.0 new more one.2 goes in
+      let next = happens_gone old one.0 h (on_before h old one.0 one.1 on) on keeps.0 gone one.1 in
+      let rest = stays_gone one.0 new more next.0 keeps.1 goes one.2 in
+      (rest.0, rw ((bytes_first 0 h more).1, next.1, rest.1) refl)

@@ -1,28 +1,35 @@
 -- What a relay sends its server for one thing that happens, whatever it is.
 use Rattle.std.proofs.Common.{◌≡◌, ◌≢◌, ◌<◌, ◌∙◌, ℕ, zero, suc, Bool, true, false, List, []}
-use Rattle.std.proofs.Common.{None, refl, sym, ap, subst, arith, length, drop, append-nil}
+use Rattle.std.proofs.Common.{Some, None, refl, sym, ap, subst, arith, length, drop, append-nil}
 use Rattle.rfb_viewer.specs.declared.viewer.Viewer.{Viewer}
 use Rattle.rfb_viewer.specs.Model.{StandsFor}
 use Rattle.rfb_viewer.specs.Viewer.{ViewerState}
 use Rattle.rfb_session.specs.declared.console.Console.{Console}
 use Rattle.rfb_session.specs.declared.relay.Relay.{Relay}
+use Rattle.rfb_session.specs.declared.relay.gone.Gone.{Gone}
 use Rattle.rfb_session.specs.doors.Events.{Event, Received, Ended, Failed, Wrote, Turned}
-use Rattle.rfb_session.specs.doors.Tenants.{Told, Opened, Declined}
+use Rattle.rfb_session.specs.doors.Tenants.{Happening, Told, Opened, Declined}
+use Rattle.rfb_session.specs.console.Console.{Stays, Steps}
+use Rattle.rfb_session.specs.console.History.{left_in}
+use Rattle.rfb_session.specs.declared.console.desk.Desk.{Desk}
 use Rattle.rfb_session.specs.relay.Doors.{KeepsAllButRooms}
-use Rattle.rfb_session.specs.relay.History.{Passes, Asks, is_muted, HasViewer, HasSent}
+use Rattle.rfb_session.specs.relay.History.{Happens, Sends, Passes, Asks, is_muted, HasViewer, HasSent}
 use Rattle.rfb_session.specs.relay.Sent.{Sent, passes_of, IsInOrder}
 use Rattle.rfb_session.specs.relay.Relay.{RelaySteps, OpensRelay, DeclinesRelay, HearsViewer, TurnsRelay}
-use Rattle.rfb_session.specs.relay.Relay.{ForServer, ForViewer, OpensFor}
+use Rattle.rfb_session.specs.relay.Relay.{ForServer, ForViewer, OpensFor, AtDoor as DoesAt, StepsBeside, Then}
+use Rattle.rfb_session.specs.relay.Server.{LosesServer}
 use Rattle.rfb_session.specs.relay.Setup.{viewing_by}
-use Rattle.rfb_session.proofs.ConsoleMoveLemmas.{AtDoor, AtOwner, AtSeat, AtLines, AtOther, at_door}
+use Rattle.rfb_session.proofs.ConsoleMoveLemmas.{AtDoor, AtOwner, AtSeat, AtLines, AtOther, at_door, if_other}
+use Rattle.rfb_session.proofs.FirstHappeningLemmas.{IsKeptBy}
 use Rattle.rfb_session.proofs.RelayComeLemmas.{AfterBytes, Stays as StaysThere, Leaves}
 use Rattle.rfb_session.proofs.RelayHearLemmas.{hears_so}
-use Rattle.rfb_session.proofs.RelayKeepLemmas.{same_seen, opens_seen, declines_seen}
+use Rattle.rfb_session.proofs.RelayKeepLemmas.{KeepsSeen, same_seen, opens_seen, declines_seen, ended_seen}
+use Rattle.rfb_session.proofs.RelayKeepLemmas.{failed_seen, wrote_seen}
 use Rattle.rfb_session.proofs.RelayPassLemmas.{Waits, reported, heard_coming, heard_shown}
 use Rattle.rfb_session.proofs.RelayTurnLemmas.{turned_coming, turned_shown}
 use Rattle.rfb_session.proofs.RelayOrderLemmas.{Still, still_has, has_sent, not_gone, loses_gone}
-use Rattle.rfb_session.proofs.RelayBesideLemmas.{Moves, GoesOn, GoesAway, quiet, rooms_wait, server_gone, beside_waits}
-use Rattle.rfb_session.proofs.RelayBesideLemmas.{ended_moves, failed_moves, wrote_moves}
+use Rattle.rfb_session.proofs.RelayBesideLemmas.{Moves, GoesOn, GoesAway, of_door, quiet, rooms_wait, server_gone}
+use Rattle.rfb_session.proofs.RelayBesideLemmas.{beside_moves}
 
 module _ {S : Type 0} where
   -- ---- bytes that came
@@ -74,13 +81,13 @@ module _ {S : Type 0} where
         unheard far =
             let keeps : KeepsAllButRooms old new =
             subst (λ (r : Relay S). KeepsAllButRooms r new) (steps.does.done.3.other far) steps.does.keeps in
-            quiet old new sent [] (Told (Received door part)) refl (record {
+            beside_moves old new sent (Told (Received door part)) has refl (record {
               at_server = λ same. absurd (omega (arith, far, same));
               at_seat = λ k within same. absurd (omega (arith, far, within, same));
               at_other = λ beyond. refl;
-            })
-            (beside_waits old new sent has keeps.server
-            (λ a there. same_seen a old.console.desk new.console.desk there keeps.console.desk)) steps.stays steps.given
+            }) keeps.server
+            (λ a there. same_seen a old.console.desk new.console.desk there keeps.console.desk) steps.stays
+            steps.given
 
         by : AtDoor door → Moves old sent (Told (Received door part)) new
         by (AtOwner is) =
@@ -106,41 +113,19 @@ module _ {S : Type 0} where
 
     -- ---- ends and failures, and bytes that left
 
-    ended_so : (door : ℕ) → RelaySteps old (Ended door) new → Moves old sent (Told (Ended door)) new
-    ended_so door steps = by (at_door door)
-      where
-        by : AtDoor door → Moves old sent (Told (Ended door)) new
-        by (AtOwner is) =
-            let one = steps.does.at_server is in
-            GoesAway (server_gone one.mid new one.keeps.server
-            (loses_gone old _ one.mid (not_gone old has.viewer has.shown has.here) one.done))
-        by (AtSeat k within is) =
-            ended_moves old new sent has going goes door (λ none. omega (arith, none, is))
-            (steps.does.at_seat k within is) steps.stays steps.given
-        by (AtLines is) =
-            ended_moves old new sent has going goes door (λ none. omega (arith, none, is))
-            (steps.does.at_other (omega (arith, is))) steps.stays steps.given
-        by (AtOther far) =
-            ended_moves old new sent has going goes door (λ none. omega (arith, none, far))
-            (steps.does.at_other (omega (arith, far))) steps.stays steps.given
-
-    failed_so : (door : ℕ) → RelaySteps old (Failed door) new → Moves old sent (Told (Failed door)) new
-    failed_so door steps = by (at_door door)
-      where
-        by : AtDoor door → Moves old sent (Told (Failed door)) new
-        by (AtOwner is) =
-            let one = steps.does.at_server is in
-            GoesAway (server_gone one.mid new one.keeps.server
-            (loses_gone old _ one.mid (not_gone old has.viewer has.shown has.here) one.done))
-        by (AtSeat k within is) =
-            failed_moves old new sent has going goes door (λ none. omega (arith, none, is))
-            (steps.does.at_seat k within is) steps.stays steps.given
-        by (AtLines is) =
-            failed_moves old new sent has going goes door (λ none. omega (arith, none, is))
-            (steps.does.at_other (omega (arith, is))) steps.stays steps.given
-        by (AtOther far) =
-            failed_moves old new sent has going goes door (λ none. omega (arith, none, far))
-            (steps.does.at_other (omega (arith, far))) steps.stays steps.given
+    -- a server that is lost at its door is gone, and beside it nothing is sent
+    lost_or_beside : (door : ℕ) (how : Gone) (event : Event) → left_in 0 (Told event) ≡ [] →
+        Sends old (Told event) [] new →
+        DoesAt door (Then (λ mid. LosesServer old how mid) new) (λ k. StepsBeside old event new)
+        (StepsBeside old event new) → ((a : Desk) → door ≢ 0 → old.console.desk ≡ Some a →
+        Steps old.console event new.console → KeepsSeen a new.console.desk) → Stays old.console new.console →
+        new.given ≡ old.given → Moves old sent (Told event) new
+    lost_or_beside door how event none sends does seen stays given =
+        of_door does
+        (λ is one. GoesAway (server_gone one.mid new one.keeps.server
+        (loses_gone old how one.mid (not_gone old has.viewer has.shown has.here) one.done)))
+        (λ aside beside. beside_moves old new sent (Told event) has none sends beside.server
+        (λ a there. seen a aside there beside.steps) stays given)
 
     wrote_so : (door : ℕ) (bytes : List ℕ) → RelaySteps old (Wrote door bytes) new →
         Moves old sent (Told (Wrote door bytes)) new
@@ -157,19 +142,12 @@ module _ {S : Type 0} where
         (subst (λ (l : List Sent). HasSent new l) (sym (append-nil sent))
         (has_sent old new sent has.viewer has.shown has.state has.prefix steps.given steps.stays.rules
         (still_has old new has.viewer has.shown still has.here) has.stands has.order))
-    wrote_so (suc door) bytes steps = by (at_door (suc door))
-      where
-        by : AtDoor (suc door) → Moves old sent (Told (Wrote (suc door) bytes)) new
-        by (AtOwner is) = absurd (omega (arith, is))
-        by (AtSeat k within is) =
-            wrote_moves old new sent has going goes (suc door) bytes (λ none. omega (arith, none))
-            (steps.does.at_seat k within is) steps.stays steps.given
-        by (AtLines is) =
-            wrote_moves old new sent has going goes (suc door) bytes (λ none. omega (arith, none))
-            (steps.does.at_other (omega (arith, is))) steps.stays steps.given
-        by (AtOther far) =
-            wrote_moves old new sent has going goes (suc door) bytes (λ none. omega (arith, none))
-            (steps.does.at_other (omega (arith, far))) steps.stays steps.given
+    wrote_so (suc door) bytes steps =
+        of_door steps.does (λ is one. absurd (omega (arith, is)))
+        (λ aside beside. beside_moves old new sent (Told (Wrote (suc door) bytes)) has
+        (if_other 0 (suc door) bytes (λ same. aside (sym same))) refl beside.server
+        (λ a there. wrote_seen old.console a (suc door) bytes new.console aside there beside.steps) steps.stays
+        steps.given)
 
     -- ---- a turn
 
@@ -190,27 +168,38 @@ module _ {S : Type 0} where
 
     -- ---- who comes
 
-    pub opened_so : (door : ℕ) (from : List ℕ) → 0 ≢ door → OpensRelay old door from new →
+    opened_so : (door : ℕ) (from : List ℕ) → 0 ≢ door → OpensRelay old door from new →
         Moves old sent (Opened door from) new
     opened_so door from aside opens = by opens.opens
       where
         by : OpensFor old door from new → Moves old sent (Opened door from) new
         by (ForServer due is called) = absurd (aside (sym is))
         by (ForViewer none comes keeps) =
-            quiet old new sent [] (Opened door from) refl refl
-            (beside_waits old new sent has keeps
-            (λ a there. opens_seen old.console a door from new.console there comes)) comes.stays opens.given
+            beside_moves old new sent (Opened door from) has refl refl keeps
+            (λ a there. opens_seen old.console a door from new.console there comes) comes.stays opens.given
 
-    pub declined_so : (from : List ℕ) → DeclinesRelay old from new → Moves old sent (Declined from) new
+    declined_so : (from : List ℕ) → DeclinesRelay old from new → Moves old sent (Declined from) new
     declined_so from declines =
-        quiet old new sent [] (Declined from) refl refl
-        (beside_waits old new sent has declines.server
-        (λ a there. declines_seen old.console a from new.console goes there declines.declines.declines))
+        beside_moves old new sent (Declined from) has refl refl declines.server
+        (λ a there. declines_seen old.console a from new.console goes there declines.declines.declines)
         declines.declines.stays declines.given
 
-    pub told_so : (event : Event) → RelaySteps old event new → Moves old sent (Told event) new
+    told_so : (event : Event) → RelaySteps old event new → Moves old sent (Told event) new
     told_so (Received door part) steps = received_moves door part steps
-    told_so (Ended door) steps = ended_so door steps
-    told_so (Failed door) steps = failed_so door steps
+    told_so (Ended door) steps =
+        lost_or_beside door _ (Ended door) refl refl steps.does
+        (λ a aside there one. ended_seen old.console a door new.console aside going goes there one) steps.stays
+        steps.given
+    told_so (Failed door) steps =
+        lost_or_beside door _ (Failed door) refl refl steps.does
+        (λ a aside there one. failed_seen old.console a door new.console aside going goes there one) steps.stays
+        steps.given
     told_so (Wrote door bytes) steps = wrote_so door bytes steps
     told_so (Turned now) steps = turned_so now steps
+
+    -- ---- whatever happens
+
+    pub moved_so : (h : Happening) → IsKeptBy 0 h → Happens old h new → Moves old sent h new
+    moved_so (Told event) kept happens = told_so event happens
+    moved_so (Opened door from) kept happens = opened_so door from kept happens
+    moved_so (Declined from) kept happens = declined_so from happens

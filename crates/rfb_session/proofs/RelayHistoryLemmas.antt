@@ -1,24 +1,28 @@
 -- What goes from a relay to its server, over all that happens.
-use Rattle.std.proofs.Common.{◌≡◌, ◌++◌, ◌∙◌, ℕ, true, false, List, [], ◌∷◌, None}
-use Rattle.std.proofs.Common.{refl, sym, ap, subst, arith, length, take, drop}
+use Rattle.std.proofs.Common.{◌≡◌, ◌++◌, ◌∙◌, ℕ, true, false, List, [], ◌∷◌, Some, None}
+use Rattle.std.proofs.Common.{sym, ap, subst, arith, length, take, drop}
 use Rattle.std.proofs.Common.{append-nil, append_assoc, take-append-drop}
 use Rattle.rfb_viewer.specs.declared.setup.ViewerSetup.{ViewerSetup}
+use Rattle.rfb_viewer.specs.declared.viewer.Viewer.{Viewer}
 use Rattle.rfb_viewer.specs.Model.{StandsFor}
 use Rattle.rfb_viewer.specs.Viewer.{first_viewer}
 use Rattle.rfb_session.specs.declared.relay.Relay.{Relay}
 use Rattle.rfb_session.specs.declared.relay.setup.Given.{Given}
 use Rattle.rfb_session.specs.declared.relay.setup.RelaySetup.{RelaySetup}
+use Rattle.rfb_session.specs.declared.relay.presence.Presence.TheVariants.{Coming}
 use Rattle.rfb_session.specs.doors.Events.{left}
-use Rattle.rfb_session.specs.doors.Tenants.{Happening, Told, Opened, Declined, IsKept, events_in}
+use Rattle.rfb_session.specs.doors.Tenants.{Happening, IsKept, events_in}
 use Rattle.rfb_session.specs.console.History.{left_in}
-use Rattle.rfb_session.specs.relay.History.{Lasts, HasSent, HasGone, SendsEach, SendsAll}
+use Rattle.rfb_session.specs.relay.History.{Happens, Lasts, HasSent, HasGone, SendsEach, SendsAll}
 use Rattle.rfb_session.specs.relay.Sent.{Sent, all_bytes, all_sent}
 use Rattle.rfb_session.specs.relay.Presence.{is_gone}
-use Rattle.rfb_session.specs.relay.Relay.{OpensRelay, OpensFor, ForServer, ForViewer, IsCalledAgain}
+use Rattle.rfb_session.specs.relay.Relay.{DeclinesRelay, OpensRelay, OpensFor, ForServer, ForViewer, IsCalledAgain}
+use Rattle.rfb_session.specs.relay.Relay.{RelaySteps}
 use Rattle.rfb_session.specs.relay.Server.{IsFreshRelay}
 use Rattle.rfb_session.specs.relay.Setup.{viewing_by}
+use Rattle.rfb_session.proofs.FirstHappeningLemmas.{IsKeptBy, first_of, kept_first, bytes_first}
 use Rattle.rfb_session.proofs.RelayBesideLemmas.{Moves, GoesOn, GoesAway}
-use Rattle.rfb_session.proofs.RelayHappenLemmas.{told_so, opened_so, declined_so}
+use Rattle.rfb_session.proofs.RelayHappenLemmas.{moved_so}
 use Rattle.rfb_session.proofs.RelayOrderLemmas.{not_gone}
 use Rattle.rfb_session.proofs.RelayGoneLemmas.{on_before, lasts_on, stays_gone}
 use Rattle.rfb_session.proofs.RelaySendLemmas.{bytes_join}
@@ -26,35 +30,34 @@ use Rattle.rfb_session.proofs.RelaySendLemmas.{bytes_join}
 module _ {S : Type 0} where
   -- ---- where it begins
 
+  -- a server that comes was sent nothing
+  none_sent : (relay : Relay S) (viewer : Viewer) → relay.presence ≡ Coming → relay.coming ≡ Some viewer →
+      StandsFor (viewing_by relay.given.viewer) viewer first_viewer [] → HasSent relay []
+  none_sent relay viewer presence coming stands = record {
+    shown = false;
+    viewer = viewer;
+    here = record { presence = presence; coming = coming };
+    state = first_viewer;
+    prefix = [];
+    stands = stands;
+    order = tt;
+  }
+
   pub fresh_sent : (setup : RelaySetup) (relay : Relay S) → IsFreshRelay setup relay →
       HasSent relay [] × (relay.to_server ≡ [])
   fresh_sent setup relay fresh = (
-    record {
-      shown = false;
-      viewer = fresh.coming;
-      here = record { presence = fresh.presence; coming = fresh.coming_is };
-      state = first_viewer;
-      prefix = [];
-      stands = subst (λ (v : ViewerSetup). StandsFor (viewing_by v) fresh.coming first_viewer []) (sym fresh.given)
-          fresh.stands;
-      order = tt;
-    },
+    none_sent relay fresh.coming fresh.presence fresh.coming_is
+        (subst (λ (v : ViewerSetup). StandsFor (viewing_by v) fresh.coming first_viewer []) (sym fresh.given)
+        fresh.stands),
     fresh.waits,
   )
 
   called_sent : (old new : Relay S) → new.given ≡ old.given → IsCalledAgain old new →
       HasSent new [] × (new.to_server ≡ [])
   called_sent old new given called = (
-    record {
-      shown = false;
-      viewer = called.coming;
-      here = record { presence = called.presence; coming = called.coming_is };
-      state = first_viewer;
-      prefix = [];
-      stands = subst (λ (g : Given). StandsFor (viewing_by g.viewer) called.coming first_viewer []) (sym given)
-          called.stands;
-      order = tt;
-    },
+    none_sent new called.coming called.presence called.coming_is
+        (subst (λ (g : Given). StandsFor (viewing_by g.viewer) called.coming first_viewer []) (sym given)
+        called.stands),
     called.waits,
   )
 
@@ -107,69 +110,32 @@ module _ {S : Type 0} where
     since = subst (λ (l : List Sent). HasSent new l) (sym (append-nil before))
         (subst (λ (r : Relay S). HasSent r before) (sym lasts) has);
   }
-  sends_all old new (Told event ∷ more) before has kept goes there lasts =
-      by (told_so old mid before has was on event lasts.1)
-      (λ sent since. sends_all lasts.0 new more (before ++ sent) since kept goes there lasts.2)
+  sends_all old new (h ∷ more) before has kept goes there lasts =
+      by (moved_so old mid before has was on h keeps.0 one.1)
+      (λ sent since. sends_all mid new more (before ++ sent) since keeps.1 goes there one.2)
     where
+      one : (mid : Relay S) × Happens old h mid × Lasts mid more new
+      one = first_of RelaySteps OpensRelay DeclinesRelay old new h more lasts
+
       mid : Relay S
-      mid = lasts.0
+      mid = one.0
+
+      keeps : IsKeptBy 0 h × IsKept 0 more
+      keeps = kept_first 0 h more kept
 
       on : mid.console.outcome ≡ None
-      on = lasts_on mid new more lasts.2 goes
+      on = lasts_on mid new more one.2 goes
 
       was : old.console.outcome ≡ None
-      was = on_before (Told event) old mid lasts.1 on
+      was = on_before h old mid one.1 on
 
-      by : Moves old before (Told event) mid →
+      by : Moves old before h mid →
           ((sent : List Sent) → HasSent mid (before ++ sent) → SendsAll mid (before ++ sent) more new) →
-          SendsAll old before (Told event ∷ more) new
+          SendsAll old before (h ∷ more) new
       by (GoesOn sent sends waits first since) rest =
-          sends_then (Told event) old mid new (Told event ∷ more) more before sent waits first
-          (rest sent since) refl
-          (λ later each. (mid, lasts.1, sends, waits, each))
-      by (GoesAway gone) rest = absurd (same_gone new (stays_gone mid new more gone kept goes lasts.2).0 there)
-  sends_all old new (Opened door from ∷ more) before has kept goes there lasts =
-      by (opened_so old mid before has was on door from kept.0 lasts.1)
-      (λ sent since. sends_all lasts.0 new more (before ++ sent) since kept.1 goes there lasts.2)
-    where
-      mid : Relay S
-      mid = lasts.0
-
-      on : mid.console.outcome ≡ None
-      on = lasts_on mid new more lasts.2 goes
-
-      was : old.console.outcome ≡ None
-      was = on_before (Opened door from) old mid lasts.1 on
-
-      by : Moves old before (Opened door from) mid →
-          ((sent : List Sent) → HasSent mid (before ++ sent) → SendsAll mid (before ++ sent) more new) →
-          SendsAll old before (Opened door from ∷ more) new
-      by (GoesOn sent sends waits first since) rest =
-          sends_then (Opened door from) old mid new (Opened door from ∷ more) more before sent waits first
-          (rest sent since) refl
-          (λ later each. (mid, lasts.1, sends, waits, each))
-      by (GoesAway gone) rest = absurd (same_gone new (stays_gone mid new more gone kept.1 goes lasts.2).0 there)
-  sends_all old new (Declined from ∷ more) before has kept goes there lasts =
-      by (declined_so old mid before has was on from lasts.1)
-      (λ sent since. sends_all lasts.0 new more (before ++ sent) since kept goes there lasts.2)
-    where
-      mid : Relay S
-      mid = lasts.0
-
-      on : mid.console.outcome ≡ None
-      on = lasts_on mid new more lasts.2 goes
-
-      was : old.console.outcome ≡ None
-      was = on_before (Declined from) old mid lasts.1 on
-
-      by : Moves old before (Declined from) mid →
-          ((sent : List Sent) → HasSent mid (before ++ sent) → SendsAll mid (before ++ sent) more new) →
-          SendsAll old before (Declined from ∷ more) new
-      by (GoesOn sent sends waits first since) rest =
-          sends_then (Declined from) old mid new (Declined from ∷ more) more before sent waits first
-          (rest sent since) refl
-          (λ later each. (mid, lasts.1, sends, waits, each))
-      by (GoesAway gone) rest = absurd (same_gone new (stays_gone mid new more gone kept goes lasts.2).0 there)
+          sends_then h old mid new (h ∷ more) more before sent waits first (rest sent since) (bytes_first 0 h more).1
+          (λ later each. (mid, one.1, sends, waits, each))
+      by (GoesAway gone) rest = absurd (same_gone new (stays_gone mid new more gone keeps.1 goes one.2).0 there)
 
   -- ---- a server that goes away
 
@@ -186,21 +152,10 @@ module _ {S : Type 0} where
   forgets old new [] before has kept goes gone lasts =
       absurd (let one = not_gone old has.viewer has.shown has.here in
       let two = ap (λ (r : Relay S). is_gone r.presence) (sym lasts) ∙ gone in cc)
-  forgets old new (Told event ∷ more) before has kept goes gone lasts =
-      let on = lasts_on lasts.0 new more lasts.2 goes in
-      let was = on_before (Told event) old lasts.0 lasts.1 on in
-      one_forgets old lasts.0 new before (Told event) more kept goes lasts.2
-      (λ sent since. forgets lasts.0 new more (before ++ sent) since kept goes gone lasts.2)
-      (told_so old lasts.0 before has was on event lasts.1)
-  forgets old new (Opened door from ∷ more) before has kept goes gone lasts =
-      let on = lasts_on lasts.0 new more lasts.2 goes in
-      let was = on_before (Opened door from) old lasts.0 lasts.1 on in
-      one_forgets old lasts.0 new before (Opened door from) more kept.1 goes lasts.2
-      (λ sent since. forgets lasts.0 new more (before ++ sent) since kept.1 goes gone lasts.2)
-      (opened_so old lasts.0 before has was on door from kept.0 lasts.1)
-  forgets old new (Declined from ∷ more) before has kept goes gone lasts =
-      let on = lasts_on lasts.0 new more lasts.2 goes in
-      let was = on_before (Declined from) old lasts.0 lasts.1 on in
-      one_forgets old lasts.0 new before (Declined from) more kept goes lasts.2
-      (λ sent since. forgets lasts.0 new more (before ++ sent) since kept goes gone lasts.2)
-      (declined_so old lasts.0 before has was on from lasts.1)
+  forgets old new (h ∷ more) before has kept goes gone lasts =
+      let one = first_of RelaySteps OpensRelay DeclinesRelay old new h more lasts in
+      let keeps = kept_first 0 h more kept in
+      let on = lasts_on one.0 new more one.2 goes in
+      one_forgets old one.0 new before h more keeps.1 goes one.2
+      (λ sent since. forgets one.0 new more (before ++ sent) since keeps.1 goes gone one.2)
+      (moved_so old one.0 before has (on_before h old one.0 one.1 on) on h keeps.0 one.1)

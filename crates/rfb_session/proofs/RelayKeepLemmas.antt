@@ -11,8 +11,9 @@ use Rattle.rfb_session.specs.Share.{viewer_of}
 use Rattle.rfb_session.specs.ShareSteps.{JoinsAs, Full, Joined, RefusesAs, NoneHeard, SeatEmptied, SeatEnded}
 use Rattle.rfb_session.specs.console.Viewers.{HearsAt, Took, Refused, Admits, MakesRoom}
 use Rattle.rfb_session.specs.console.Console.{OnDesk, NoDesk, Over, Done, RanOut, HearsBytes, TurnsDesk, Steps}
-use Rattle.rfb_session.specs.console.Console.{OpensAs, Declines, NotYet, IsFull, WantsMemory}
-use Rattle.rfb_session.proofs.ConsoleMoveLemmas.{AtDoor, AtOwner, AtSeat, AtLines, AtOther, at_door, none_some}
+use Rattle.rfb_session.specs.console.Console.{OpensAs, Declines, NotYet, IsFull, WantsMemory, ByDoor, DoesOnDesk}
+use Rattle.rfb_session.specs.console.Console.{KeepsDesk}
+use Rattle.rfb_session.proofs.ConsoleMoveLemmas.{by_door, none_some}
 
 -- there is a desk as before, of the picture of the same viewer
 pub record KeepsSeen (a : Desk) (new : Option Desk) : Type 0 where
@@ -112,40 +113,34 @@ module _ {S : Type 0} where
 
   -- ---- what ends, fails or leaves at a door that is not the server's
 
+  -- a viewer of a seat's goes, or nothing happens at the desk
+  goes_seen : {owner lines : Type 0} {does : ℕ → Desk → Desk → Type 0} (old : Console S) (a : Desk) (door : ℕ)
+      (new : Console S) → door ≢ 0 → old.outcome ≡ None → new.outcome ≡ None → old.desk ≡ Some a →
+      ByDoor door owner (λ k. DoesOnDesk (does k) old new) lines (KeepsDesk old new) →
+      (lines → KeepsDesk old new) →
+      ((k : ℕ) (b : Desk) → does k a b → viewer_of b.share ≡ viewer_of a.share) → KeepsSeen a new.desk
+  goes_seen old a door new aside going goes there does at_lines leaves =
+      by_door does (λ is at_owner. absurd (aside is))
+      (λ k one. done_seen _ a old.desk new.desk old.outcome new.outcome going goes there one.desk (leaves k))
+      (λ keeps. same_seen a old.desk new.desk there (at_lines keeps).desk)
+      (λ keeps. same_seen a old.desk new.desk there keeps.desk)
+
   pub ended_seen : (old : Console S) (a : Desk) (door : ℕ) (new : Console S) → door ≢ 0 → old.outcome ≡ None →
       new.outcome ≡ None → old.desk ≡ Some a → Steps old (Ended door) new → KeepsSeen a new.desk
-  ended_seen old a door new aside going goes there steps = by (at_door door)
-    where
-      by : AtDoor door → KeepsSeen a new.desk
-      by (AtOwner is) = absurd (aside is)
-      by (AtSeat k within is) =
-          done_seen _ a old.desk new.desk old.outcome new.outcome going goes there (steps.does.at_seat k within is).desk
-          (λ b done. done.1.share.keeps.viewer)
-      by (AtLines is) = same_seen a old.desk new.desk there (steps.does.at_lines is).desk
-      by (AtOther far) = same_seen a old.desk new.desk there (steps.does.at_other far).desk
+  ended_seen old a door new aside going goes there steps =
+      goes_seen old a door new aside going goes there steps.does (λ keeps. keeps) (λ k b d. d.1.share.keeps.viewer)
 
   pub failed_seen : (old : Console S) (a : Desk) (door : ℕ) (new : Console S) → door ≢ 0 → old.outcome ≡ None →
       new.outcome ≡ None → old.desk ≡ Some a → Steps old (Failed door) new → KeepsSeen a new.desk
-  failed_seen old a door new aside going goes there steps = by (at_door door)
-    where
-      by : AtDoor door → KeepsSeen a new.desk
-      by (AtOwner is) = absurd (aside is)
-      by (AtSeat k within is) =
-          done_seen _ a old.desk new.desk old.outcome new.outcome going goes there (steps.does.at_seat k within is).desk
-          (λ b done. done.1.share.keeps.viewer)
-      by (AtLines is) = same_seen a old.desk new.desk there (steps.does.at_lines is).0.desk
-      by (AtOther far) = same_seen a old.desk new.desk there (steps.does.at_other far).desk
+  failed_seen old a door new aside going goes there steps =
+      goes_seen old a door new aside going goes there steps.does (λ fails. fails.0) (λ k b d. d.1.share.keeps.viewer)
 
   pub wrote_seen : (old : Console S) (a : Desk) (door : ℕ) (bytes : List ℕ) (new : Console S) → door ≢ 0 →
       old.desk ≡ Some a → Steps old (Wrote door bytes) new → KeepsSeen a new.desk
-  wrote_seen old a door bytes new aside there steps = by (at_door door)
-    where
-      by : AtDoor door → KeepsSeen a new.desk
-      by (AtOwner is) = absurd (aside is)
-      by (AtSeat k within is) =
-          done_seen _ a old.desk new.desk None None refl refl there (steps.does.at_seat k within is).desk
-          (λ b done. done.share.keeps.viewer)
-      by (AtLines is) =
-          done_seen _ a old.desk new.desk None None refl refl there (steps.does.at_lines is).desk
-          (λ b done. ap (λ (s : Share). viewer_of s) done.share)
-      by (AtOther far) = same_seen a old.desk new.desk there (steps.does.at_other far).desk
+  wrote_seen old a door bytes new aside there steps =
+      by_door steps.does (λ is keeps. absurd (aside is))
+      (λ k writes. done_seen _ a old.desk new.desk None None refl refl there writes.desk
+      (λ b done. done.share.keeps.viewer))
+      (λ writes. done_seen _ a old.desk new.desk None None refl refl there writes.desk
+      (λ b done. ap (λ (s : Share). viewer_of s) done.share))
+      (λ keeps. same_seen a old.desk new.desk there keeps.desk)

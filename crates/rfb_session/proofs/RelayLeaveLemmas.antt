@@ -17,7 +17,7 @@ use Rattle.rfb_session.specs.relay.Server.{OpenedOther, NoPicture, NoRoomToShow,
 use Rattle.rfb_session.specs.relay.Server.{Meets, HearsComing, Met, FailedAt, HearsShown, NoneShown, NoViewer, Fed_on}
 use Rattle.rfb_session.specs.relay.Server.{FailedOn, NoRoomToTell, HearsServer, Ignored, Comes, Shows}
 use Rattle.rfb_session.proofs.ConsoleMoveLemmas.{AtDoor, AtOwner, AtSeat, AtLines, AtOther, at_door}
-use Rattle.rfb_session.proofs.RelayBesideLemmas.{server_gone}
+use Rattle.rfb_session.proofs.RelayBesideLemmas.{of_door, server_gone}
 use Rattle.rfb_session.proofs.RelayOrderLemmas.{loses_gone}
 use Rattle.rfb_session.proofs.RelayStepLemmas.{planned_gone}
 
@@ -122,42 +122,19 @@ module _ {S : Type 0} where
       is_gone new.presence ≡ true → new.console.outcome ≢ Some NoMemory → RelaySteps old event new → HasGone new
   told_leaves old new (Received door part) there gone room steps =
       received_leaves old new door part there gone room steps
-  told_leaves old new (Ended door) there gone room steps = by (at_door door)
-    where
-      by : AtDoor door → HasGone new
-      by (AtOwner is) =
-          let one = steps.does.at_server is in
-          server_gone one.mid new one.keeps.server (loses_gone old _ one.mid there one.done)
-      by (AtSeat k within is) =
-          still_there old.presence new.presence (steps.does.at_seat k within is).server.presence there gone
-      by (AtLines is) =
-          still_there old.presence new.presence (steps.does.at_other (omega (arith, is))).server.presence there gone
-      by (AtOther far) =
-          still_there old.presence new.presence (steps.does.at_other (omega (arith, far))).server.presence there gone
-  told_leaves old new (Failed door) there gone room steps = by (at_door door)
-    where
-      by : AtDoor door → HasGone new
-      by (AtOwner is) =
-          let one = steps.does.at_server is in
-          server_gone one.mid new one.keeps.server (loses_gone old _ one.mid there one.done)
-      by (AtSeat k within is) =
-          still_there old.presence new.presence (steps.does.at_seat k within is).server.presence there gone
-      by (AtLines is) =
-          still_there old.presence new.presence (steps.does.at_other (omega (arith, is))).server.presence there gone
-      by (AtOther far) =
-          still_there old.presence new.presence (steps.does.at_other (omega (arith, far))).server.presence there gone
+  told_leaves old new (Ended door) there gone room steps =
+      of_door steps.does
+      (λ is one. server_gone one.mid new one.keeps.server (loses_gone old _ one.mid there one.done))
+      (λ aside beside. still_there old.presence new.presence beside.server.presence there gone)
+  told_leaves old new (Failed door) there gone room steps =
+      of_door steps.does
+      (λ is one. server_gone one.mid new one.keeps.server (loses_gone old _ one.mid there one.done))
+      (λ aside beside. still_there old.presence new.presence beside.server.presence there gone)
   told_leaves old new (Wrote zero bytes) there gone room steps =
       still_there old.presence new.presence (steps.does.at_server refl).1.presence there gone
-  told_leaves old new (Wrote (suc door) bytes) there gone room steps = by (at_door (suc door))
-    where
-      by : AtDoor (suc door) → HasGone new
-      by (AtOwner is) = absurd (omega (arith, is))
-      by (AtSeat k within is) =
-          still_there old.presence new.presence (steps.does.at_seat k within is).server.presence there gone
-      by (AtLines is) =
-          still_there old.presence new.presence (steps.does.at_other (omega (arith, is))).server.presence there gone
-      by (AtOther far) =
-          still_there old.presence new.presence (steps.does.at_other (omega (arith, far))).server.presence there gone
+  told_leaves old new (Wrote (suc door) bytes) there gone room steps =
+      of_door steps.does (λ is one. absurd (omega (arith, is)))
+      (λ aside beside. still_there old.presence new.presence beside.server.presence there gone)
   told_leaves old new (Turned now) there gone room steps =
       absurd (let one = ap (λ (p : Presence). is_gone p) steps.does.presence
       ∙ planned_gone new.console.rules.retry new.console.outcome now old.presence ∙ there in let two = gone in cc)

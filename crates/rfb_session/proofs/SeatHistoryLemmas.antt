@@ -1,17 +1,17 @@
 -- The life of a seat at a console, from one happening to the next.
 use Rattle.std.proofs.Common.{◌≡◌, ◌≢◌, ◌⊎◌, ◌<◌, ◌+◌, ◌++◌, ◌∙◌, ◌||◌, ℕ, false, List, [], ◌∷◌, Option, Some, None}
-use Rattle.std.proofs.Common.{sym, ap, subst, arith, inl, inr, length, take, nat_eq, append-nil, append_assoc}
+use Rattle.std.proofs.Common.{sym, ap, subst, arith, inl, inr, length, take, nat_eq, append-nil}
 use Rattle.std.proofs.lemmas.Bool.Decides.{eqb_tells}
 use Rattle.rfb_server.specs.Server.{Serving}
 use Rattle.rfb_session.specs.declared.console.Console.{Console}
 use Rattle.rfb_session.specs.declared.console.desk.Desk.{Desk}
 use Rattle.rfb_session.specs.declared.share.Share.{Share}
 use Rattle.rfb_session.specs.doors.Events.{came, left}
-use Rattle.rfb_session.specs.doors.Tenants.{Happening, Told, Opened, Declined, IsKept, events_in}
+use Rattle.rfb_session.specs.doors.Tenants.{Happening, IsKept, events_in}
 use Rattle.rfb_session.specs.Rounds.{is_left}
 use Rattle.rfb_session.specs.Share.{serving_in, waits_at}
 use Rattle.rfb_session.specs.ShareSteps.{WritesAs}
-use Rattle.rfb_session.specs.console.Console.{OpensAs}
+use Rattle.rfb_session.specs.console.Console.{DeclinesAs, OpensAs, Steps}
 use Rattle.rfb_session.specs.console.Viewers.{HearsAt}
 use Rattle.rfb_session.specs.console.Turns.{is_done, is_late}
 use Rattle.rfb_session.specs.console.History.{Lasts, HasRead, left_in, SeatLives, IsEmptySeat}
@@ -20,16 +20,12 @@ use Rattle.rfb_session.proofs.ConsoleMoveLemmas.{Moves, None_yet, Begun, Moved, 
 use Rattle.rfb_session.proofs.ConsoleMoveLemmas.{Draws, Goes, Loses, Holds, Shows, Hears, Writes, WritesOut, Turns}
 use Rattle.rfb_session.proofs.ConsoleMoveLemmas.{Comes, Refuses, if_other}
 use Rattle.rfb_session.proofs.ConsoleStepLemmas.{moves_so, read_on, stays_so, went_on, lasts_on}
-use Rattle.rfb_session.proofs.SeatLifeLemmas.{GoesOn, stayed, same_share, go_on, left_by_one, served_on, turned_on}
+use Rattle.rfb_session.proofs.FirstHappeningLemmas.{IsKeptBy, first_of, kept_first, bytes_first}
+use Rattle.rfb_session.proofs.SeatLifeLemmas.{GoesOn, lives_then, stayed, same_share, go_on, left_by_one, served_on}
+use Rattle.rfb_session.proofs.SeatLifeLemmas.{turned_on}
 use Rattle.rfb_session.proofs.SeatLifeLemmas.{hears_here, hears_beside, comes_beside, refuses_all, drawn_on, written_on}
 
 -- ---- what happens
-
--- a door is not given away by it
-abbrev pub IsKeptBy : ℕ → Happening → Type 0
-IsKeptBy d (Told event) = Unit {0}
-IsKeptBy d (Opened door from) = d ≢ door
-IsKeptBy d (Declined from) = Unit {0}
 
 apart : (k n : ℕ) → k + 1 ≢ n + 1 → nat_eq k n ≡ false
 apart k n differ = elim (eqb_tells k n) [
@@ -135,13 +131,8 @@ module _ (serving : Serving) (k : ℕ) (within : k < 8) where
   both : (x y x' y' : List ℕ) (a b c : Option Desk) → DeskGoesOn serving k x y a b →
       DeskGoesOn serving k x' y' b c → DeskGoesOn serving k (x ++ x') (y ++ y') a c
   both x y x' y' a b c first second = record {
-    lives = λ heard taken was. elim (first.lives heard taken was) [
-      | inl mid ↦ elim (second.lives (heard ++ x) (taken ++ y) mid) [
-        | inl last ↦ inl (rw (sym (append_assoc heard x x'), sym (append_assoc taken y y')) last)
-        | inr none ↦ inr none
-      ]
-      | inr none ↦ inr (second.gone none)
-    ];
+    lives = lives_then (λ o heard taken. SeatLives serving o k heard taken) (λ o. IsEmptySeat o k) x y x' y' a b c
+        first.lives second.lives second.gone;
     gone = λ none. second.gone (first.gone none);
   }
 
@@ -155,30 +146,16 @@ module _ (serving : Serving) (k : ℕ) (within : k < 8) where
           inl (rw (lasts, append-nil heard, append-nil taken) lives);
       gone = λ none. subst (λ (c : Console S). IsEmptySeat c.desk k) (sym lasts) none;
     }
-    lives_on old new (Told event ∷ more) part read goes kept lasts =
-        let on = lasts_on lasts.0 new more lasts.2 goes in
-        let was = went_on old lasts.0 (stays_so (Told event) old lasts.0 lasts.1) on in
-        let next = read_on old lasts.0 (Told event) part read was on lasts.1 in
-        both _ _ _ _ old.desk lasts.0.desk new.desk
-        (happened_on (Told event) old.desk lasts.0.desk tt
-        (moves_so old lasts.0 (Told event) part read was on lasts.1))
-        (lives_on lasts.0 new more next.0 next.1 goes kept lasts.2)
-    lives_on old new (Opened door from ∷ more) part read goes kept lasts =
-        let on = lasts_on lasts.0 new more lasts.2 goes in
-        let was = went_on old lasts.0 (stays_so (Opened door from) old lasts.0 lasts.1) on in
-        let next = read_on old lasts.0 (Opened door from) part read was on lasts.1 in
-        both _ _ _ _ old.desk lasts.0.desk new.desk
-        (happened_on (Opened door from) old.desk lasts.0.desk kept.0
-        (moves_so old lasts.0 (Opened door from) part read was on lasts.1))
-        (lives_on lasts.0 new more next.0 next.1 goes kept.1 lasts.2)
-    lives_on old new (Declined from ∷ more) part read goes kept lasts =
-        let on = lasts_on lasts.0 new more lasts.2 goes in
-        let was = went_on old lasts.0 (stays_so (Declined from) old lasts.0 lasts.1) on in
-        let next = read_on old lasts.0 (Declined from) part read was on lasts.1 in
-        both _ _ _ _ old.desk lasts.0.desk new.desk
-        (happened_on (Declined from) old.desk lasts.0.desk tt
-        (moves_so old lasts.0 (Declined from) part read was on lasts.1))
-        (lives_on lasts.0 new more next.0 next.1 goes kept lasts.2)
+    lives_on old new (h ∷ more) part read goes kept lasts =
+        let one = first_of Steps OpensAs DeclinesAs old new h more lasts in
+        let keeps = kept_first (k + 1) h more kept in
+        let bytes = bytes_first (k + 1) h more in
+        let on = lasts_on one.0 new more one.2 goes in
+        let was = went_on old one.0 (stays_so h old one.0 one.1) on in
+        let next = read_on old one.0 h part read was on one.1 in
+        rw (bytes.0, bytes.1) (both _ _ _ _ old.desk one.0.desk new.desk
+        (happened_on h old.desk one.0.desk keeps.0 (moves_so old one.0 h part read was on one.1))
+        (lives_on one.0 new more next.0 next.1 goes keeps.1 one.2))
 
 -- ---- a newcomer
 

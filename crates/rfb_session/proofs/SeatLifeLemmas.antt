@@ -46,6 +46,21 @@ empty_stays R None None becomes none = refl
 empty_stays R None (Some b) becomes none = absurd becomes
 empty_stays R (Some a) b becomes none = cc
 
+-- what lives on by one thing, or is gone, and by another, lives on by both or is gone
+pub lives_then : {X : Type 0} (LivesBy : X → List ℕ → List ℕ → Type 0) (IsGone : X → Type 0)
+    (x y x' y' : List ℕ) (a b c : X) →
+    ((heard taken : List ℕ) → LivesBy a heard taken → LivesBy b (heard ++ x) (taken ++ y) ⊎ IsGone b) →
+    ((heard taken : List ℕ) → LivesBy b heard taken → LivesBy c (heard ++ x') (taken ++ y') ⊎ IsGone c) →
+    (IsGone b → IsGone c) → (heard taken : List ℕ) → LivesBy a heard taken →
+    LivesBy c (heard ++ (x ++ x')) (taken ++ (y ++ y')) ⊎ IsGone c
+lives_then LivesBy IsGone x y x' y' a b c first second gone heard taken was = elim (first heard taken was) [
+  | inl mid ↦ elim (second (heard ++ x) (taken ++ y) mid) [
+    | inl last ↦ inl (rw (sym (append_assoc heard x x'), sym (append_assoc taken y y')) last)
+    | inr none ↦ inr none
+  ]
+  | inr none ↦ inr (gone none)
+]
+
 module _ (serving : Serving) (k : ℕ) where
   let_go : (x y : List ℕ) (a b : Share) → seat_in b k ≡ None → GoesOn serving k x y a b
   let_go x y a b none = record { lives = λ heard taken was. inr none; gone = λ was. none }
@@ -72,13 +87,8 @@ module _ (serving : Serving) (k : ℕ) where
   pub go_on : (x y x' y' : List ℕ) (a b c : Share) → GoesOn serving k x y a b → GoesOn serving k x' y' b c →
       GoesOn serving k (x ++ x') (y ++ y') a c
   go_on x y x' y' a b c first second = record {
-    lives = λ heard taken was. elim (first.lives heard taken was) [
-      | inl mid ↦ elim (second.lives (heard ++ x) (taken ++ y) mid) [
-        | inl last ↦ inl (rw (sym (append_assoc heard x x'), sym (append_assoc taken y y')) last)
-        | inr none ↦ inr none
-      ]
-      | inr none ↦ inr (second.gone none)
-    ];
+    lives = lives_then (λ share heard taken. LivesAt serving share k heard taken) (λ share. seat_in share k ≡ None)
+        x y x' y' a b c first.lives second.lives second.gone;
     gone = λ none. second.gone (first.gone none);
   }
 
