@@ -29,8 +29,8 @@ at_end (Some x) b all = all
 
 -- ---- one door
 
-module _ {C D : Type 0} (steps : Stepping C) (unread written : D → Option (List ℕ)) (failed : D → ℕ)
-    (stands : D → Bool) (door : ℕ) (old new : C) (device device' : D) where
+module _ {C D : Type 0} {steps : Stepping C} {unread written : D → Option (List ℕ)} {failed : D → ℕ}
+    {stands : D → Bool} {door : ℕ} {old new : C} {device device' : D} where
   moves_by : (events : List Event) (bytes gone : List ℕ) (ended faults : ℕ) → Runs steps old events new →
       Tells door events bytes gone ended faults → Consumes (unread device) (unread device') bytes →
       Appends (written device) (written device') gone →
@@ -109,7 +109,7 @@ module _ {C D : Type 0} (steps : Stepping C) (unread written : D → Option (Lis
 module _ {C D : Type 0} (steps : Stepping C) (unread written : D → Option (List ℕ)) (failed : D → ℕ)
     (stands : D → Bool) (door : ℕ) (core : C) (device : D) where
   pub moves_not : Moves steps unread written failed stands door core core device device
-  moves_not = moves_none steps unread written failed stands door core core device device refl (record {
+  moves_not = moves_none refl (record {
     none_came = Keeps-refl (unread device);
     none_left = Keeps-refl (written device);
     count = omega arith;

@@ -52,8 +52,28 @@ some_of (suc m) n some = inl (omega arith)
 
 -- ---- turns
 
-module _ {C D : Type 0} (steps : Stepping C) (unread written : D → Option (List ℕ)) (failed : D → ℕ)
-    (stands : D → Bool) where
+-- bytes passed at one door: of what was written over, what is so of them there, and of none elsewhere, is so at each
+passed_at : {D : Type 0} (known : D → Option (List ℕ))
+    (R : Option (List ℕ) → Option (List ℕ) → List ℕ → Type 0) (bytes : ℕ → List ℕ) (doors : List D)
+    (door : ℕ) (any device' : D) → door < length doors →
+    R (known (get_or doors door any)) (known device') (bytes door) → ((d : ℕ) → d ≢ door → bytes d ≡ []) →
+    ((o : Option (List ℕ)) → R o o []) → (d : ℕ) →
+    R (known_at known doors d) (known_at known (set doors door device') d) (bytes d)
+passed_at {D} known R bytes doors door any device' within here none still d =
+    let was = slice_get-get_or doors door any within in
+    let is = slice_get-set_same doors door device' within in
+    elim (eqb_tells d door) [
+      | inl same ↦ subst (λ (n : ℕ).
+          R (known_at known doors n) (known_at known (set doors door device') n) (bytes n)) (sym same.1)
+          (rw (was, is) here)
+      | inr other ↦ subst (λ (o : Option D). R (known_at known doors d) (known_of known o) (bytes d))
+          (sym (slice_get-set_other doors door d device' other.1))
+          (subst (λ (l : List ℕ). R (known_at known doors d) (known_at known doors d) l) (sym (none d other.1))
+          (still (known_at known doors d)))
+    ]
+
+module _ {C D : Type 0} {steps : Stepping C} {unread written : D → Option (List ℕ)} {failed : D → ℕ}
+    {stands : D → Bool} where
   quiet_turns : (old new : C) (events : List Event) (doors : List D) → Runs steps old events new →
       ((d : ℕ) → IsQuiet d events) → Turns steps unread written failed stands old new doors doors
   quiet_turns old new events doors runs quiet = record {
@@ -71,34 +91,30 @@ module _ {C D : Type 0} (steps : Stepping C) (unread written : D → Option (Lis
   }
 
   -- nothing was told
-  pub turns_none : (core : C) (doors : List D) → Turns steps unread written failed stands core core doors doors
-  turns_none core doors = quiet_turns core core [] doors refl (λ d. quiet_none d)
+  pub turns_none : {core : C} {doors : List D} → Turns steps unread written failed stands core core doors doors
+  turns_none {core} {doors} = quiet_turns core core [] doors refl (λ d. quiet_none d)
 
   -- it was told the time
-  pub turns_turned : (old new : C) (doors : List D) (now : ℕ) → steps old (Turned now) new →
+  turns_turned : (old new : C) (doors : List D) (now : ℕ) → steps old (Turned now) new →
       Turns steps unread written failed stands old new doors doors
   turns_turned old new doors now step =
       quiet_turns old new (Turned now ∷ []) doors (new, step, refl)
       (λ d. record { none_came = refl; none_left = refl; no_end = refl; no_fault = refl })
 
   -- turns after turns
-  pub turns_then : (a b c : C) (xs ys zs : List D) → Turns steps unread written failed stands a b xs ys →
+  pub turns_then : {a b c : C} {xs ys zs : List D} → Turns steps unread written failed stands a b xs ys →
       Turns steps unread written failed stands b c ys zs → Turns steps unread written failed stands a c xs zs
-  turns_then a b c xs ys zs one two = record {
+  turns_then {a} {b} {c} {xs} {ys} {zs} one two = record {
     events = one.events ++ two.events;
     runs = runs_then steps a b c one.events two.events one.runs two.runs;
     reads = λ d.
-        let u = known_at unread xs d in
-        let w = known_at unread zs d in
-        subst (λ (l : List ℕ). Consumes u w l) (sym (came-append d one.events two.events))
-        (Consumes-trans u (known_at unread ys d) w (came d one.events) (came d two.events)
-        (one.reads d) (two.reads d));
+        rw (came-append d one.events two.events)
+        (Consumes-trans (known_at unread xs d) (known_at unread ys d) (known_at unread zs d) (came d one.events)
+        (came d two.events) (one.reads d) (two.reads d));
     writes = λ d.
-        let u = known_at written xs d in
-        let w = known_at written zs d in
-        subst (λ (l : List ℕ). Appends u w l) (sym (left-append d one.events two.events))
-        (Appends-trans u (known_at written ys d) w (left d one.events) (left d two.events)
-        (one.writes d) (two.writes d));
+        rw (left-append d one.events two.events)
+        (Appends-trans (known_at written xs d) (known_at written ys d) (known_at written zs d) (left d one.events)
+        (left d two.events) (one.writes d) (two.writes d));
     ended = λ d some. ended_by d (subst (λ (n : ℕ). 0 < n) (ends-append d one.events two.events) some);
     fails = λ d. omega (arith, one.fails d, two.fails d, faults-append d one.events two.events);
     stays = λ d. two.stays d ∙ one.stays d;
@@ -121,37 +137,24 @@ module _ {C D : Type 0} (steps : Stepping C) (unread written : D → Option (Lis
           ]
 
   -- a whole turn
-  pub turns_once : (due : C → Option ℕ) (next : Option ℕ) (old new : C) (doors doors' : List D) →
+  pub turns_once : {due : C → Option ℕ} {next : Option ℕ} {old new : C} {doors doors' : List D} →
       TurnsOnce steps due unread written failed stands next old new doors doors' →
       Turns steps unread written failed stands old new doors doors'
-  turns_once due next old new doors doors' once =
-      turns_then old once.heard new doors once.mid doors' once.hears
-      (turns_then once.heard once.turned new once.mid once.mid doors'
-      (turns_turned once.heard once.turned once.mid once.now once.turns) once.tells)
+  turns_once once =
+      turns_then once.hears
+      (turns_then (turns_turned once.heard once.turned once.mid once.now once.turns) once.tells)
 
   -- what was done at one of them
-  pub turns_at : (old new : C) (doors : List D) (door : ℕ) (any device' : D) → door < length doors →
+  pub turns_at : {old new : C} {doors : List D} (door : ℕ) (any : D) {device' : D} → door < length doors →
       Moves steps unread written failed stands door old new (get_or doors door any) device' →
       Turns steps unread written failed stands old new doors (set doors door device')
-  turns_at old new doors door any device' within moves = record {
+  turns_at {old} {new} {doors} door any {device'} within moves = record {
     events = moves.events;
     runs = moves.runs;
-    reads = λ d. elim (eqb_tells d door) [
-      | inl same ↦ subst (λ (n : ℕ). Consumes (known_at unread doors n)
-          (known_at unread (set doors door device') n) (came n moves.events)) (sym same.1) (rw (was, is) moves.reads)
-      | inr other ↦ subst (λ (o : Option D). Consumes (known_at unread doors d) (known_of unread o)
-          (came d moves.events)) (sym (slice_get-set_other doors door d device' other.1))
-          (subst (λ (l : List ℕ). Consumes (known_at unread doors d) (known_at unread doors d) l)
-          (sym (moves.others d other.1).none_came) (Consumes-nil (known_at unread doors d)))
-    ];
-    writes = λ d. elim (eqb_tells d door) [
-      | inl same ↦ subst (λ (n : ℕ). Appends (known_at written doors n)
-          (known_at written (set doors door device') n) (left n moves.events)) (sym same.1) (rw (was, is) moves.writes)
-      | inr other ↦ subst (λ (o : Option D). Appends (known_at written doors d) (known_of written o)
-          (left d moves.events)) (sym (slice_get-set_other doors door d device' other.1))
-          (subst (λ (l : List ℕ). Appends (known_at written doors d) (known_at written doors d) l)
-          (sym (moves.others d other.1).none_left) (Appends-nil (known_at written doors d)))
-    ];
+    reads = passed_at unread (λ a b l. Consumes a b l) (λ d. came d moves.events) doors door any device' within
+        moves.reads (λ d other. (moves.others d other).none_came) Consumes-nil;
+    writes = passed_at written (λ a b l. Appends a b l) (λ d. left d moves.events) doors door any device' within
+        moves.writes (λ d other. (moves.others d other).none_left) Appends-nil;
     ended = λ d. elim (eqb_tells d door) [
       | inl same ↦ subst (λ (n : ℕ). 0 < ends n moves.events → HasEnded (known_at unread doors n)
           (known_at unread (set doors door device') n)) (sym same.1) (rw (was, is) moves.ended)

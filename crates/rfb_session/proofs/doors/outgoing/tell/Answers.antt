@@ -3,14 +3,9 @@ use Rattle.rfb_session.proofs.doors.outgoing.tell.Goals as goal
 
 pub returns-in-Moved-clause-moves : goal.returns-in-Moved-clause-moves
 returns-in-Moved-clause-moves g c =
-    moves_out g.C.Core.steps g.D.Device.unread g.D.Device.written g.D.Device.failed g.D.Device.stands
-    c.args.door c.args.core.now c.written.new.self c.args.device.now c.write.new.self
-    c.in-Moved.left c.to_write-waiting.result.now (g.C.Core.waiting c.args.core.now c.args.door)
-    c.to_write-waiting.ensures c.written.ensures.steps c.in-Moved.ensures.takes
-    c.write.ensures.stays
+    moves_out c.in-Moved.left c.to_write-waiting.result.now (g.C.Core.waiting c.args.core.now c.args.door)
+    c.to_write-waiting.ensures c.written.ensures.steps c.in-Moved.ensures.takes c.write.ensures.stays
 
 pub returns-in-Failed-clause-moves : goal.returns-in-Failed-clause-moves
 returns-in-Failed-clause-moves g c =
-    moves_fault g.C.Core.steps g.D.Device.unread g.D.Device.written g.D.Device.failed g.D.Device.stands
-    c.args.door c.args.core.now c.failed.new.self c.args.device.now c.write.new.self
-    c.failed.ensures c.in-Failed.ensures.takes c.write.ensures.stays
+    moves_fault c.failed.ensures c.in-Failed.ensures.takes c.write.ensures.stays

@@ -3,28 +3,16 @@ use Rattle.rfb_session.proofs.DoorTurnLemmas.{turns_none, turns_then, turns_once
 use Rattle.rfb_session.proofs.doors.turns.turn.Goals as goal
 
 pub loop-door-init : goal.loop-door-init
-loop-door-init g c =
-    turns_none g.C.Core.steps g.D.Device.unread g.D.Device.written g.D.Device.failed g.D.Device.stands
-    c.args.core.now c.args.doors.now
+loop-door-init g c = turns_none
 
 pub loop-door-preserved : goal.loop-door-preserved
-loop-door-preserved g c =
-    turns_then g.C.Core.steps g.D.Device.unread g.D.Device.written g.D.Device.failed g.D.Device.stands
-    c.args.core.now c.loop-door.core c.hear_at.new.core
-    c.args.doors.now c.loop-door.doors c.hear_at.new.doors
-    c.loop-door.invariant c.hear_at.ensures
+loop-door-preserved g c = turns_then c.loop-door.invariant c.hear_at.ensures
 
 pub loop-door-2-init : goal.loop-door-2-init
-loop-door-2-init g c =
-    turns_none g.C.Core.steps g.D.Device.unread g.D.Device.written g.D.Device.failed g.D.Device.stands
-    c.turned-next.new.self c.loop-door.doors
+loop-door-2-init g c = turns_none
 
 pub loop-door-2-preserved : goal.loop-door-2-preserved
-loop-door-2-preserved g c =
-    turns_then g.C.Core.steps g.D.Device.unread g.D.Device.written g.D.Device.failed g.D.Device.stands
-    c.turned-next.new.self c.loop-door-2.core c.tell_at.new.core
-    c.loop-door.doors c.loop-door-2.doors c.tell_at.new.doors
-    c.loop-door-2.invariant c.tell_at.ensures
+loop-door-2-preserved g c = turns_then c.loop-door-2.invariant c.tell_at.ensures
 
 pub returns : goal.returns
 returns g c =
@@ -40,9 +28,4 @@ returns g c =
       next_is = c.turned-next.ensures.due;
       tells = c.loop-door-2.invariant;
     } in
-    record {
-      turns = turns_once g.C.Core.steps g.D.Device.unread g.D.Device.written g.D.Device.failed
-          g.D.Device.stands g.C.Core.due c.turned-next.result c.args.core.now c.loop-door-2.core
-          c.args.doors.now c.loop-door-2.doors once;
-      once = once;
-    }
+    record { turns = turns_once once; once = once }
