@@ -21,12 +21,12 @@ use Rattle.rfb_session.specs.declared.share.event.ShareFault.{ShareFault}
 use Rattle.rfb_session.specs.declared.share.seat.ShareSeat.{ShareSeat}
 use Rattle.rfb_session.specs.Share.{seat_in, screen_of}
 use Rattle.rfb_session.specs.ShareWork.{RestsIn}
-use Rattle.rfb_session.specs.ShareSteps.{HearsBy, RefusesAs, asks_alone}
+use Rattle.rfb_session.specs.ShareSteps.{HearsBy, KeepsScreen, RefusesAs, asks_alone}
 use Rattle.rfb_session.specs.owner.ShareLines.{leave_line}
 use Rattle.rfb_session.specs.console.SeatLines.{leave_lines, told_line}
 use Rattle.rfb_session.specs.console.Desk.{nobody, guest_at, lines_of, is_over, tells_in, KeepsRules}
 use Rattle.rfb_session.specs.console.Viewers.{Parts, TellsEvent, CountsTold}
-use Rattle.rfb_session.specs.console.Turns.{ComposesUpTo, ComposesOne, TriesOne}
+use Rattle.rfb_session.specs.console.Turns.{ComposesUpTo, ComposesOne, KeepsBeside, TriesOne}
 use Rattle.rfb_session.specs.console.Turns.{Serves, Rested, Tried, Wanted}
 use Rattle.rfb_session.specs.console.Viewers.{TellsOf, Fails, Stirs, HearsAt, Took, Refused, progress_after}
 use Rattle.rfb_session.specs.console.Viewers.{told_after}
@@ -55,6 +55,27 @@ pub or_second : (a b : Bool) → b ≡ true → (a || b) ≡ true
 or_second true b is = refl
 or_second false b is = is
 
+-- what is shown, and what is beside the seats, stays by one thing and by another
+pub both_stay : (a b c : Desk) → KeepsScreen a.share b.share → KeepsBeside a b → KeepsScreen b.share c.share →
+    KeepsBeside b c → KeepsScreen a.share c.share × KeepsBeside a c
+both_stay a b c shown before shows after = (
+  record {
+    screen = shows.screen ∙ shown.screen;
+    canvas = shows.canvas ∙ shown.canvas;
+    viewer = shows.viewer ∙ shown.viewer;
+    made = shows.made ∙ shown.made;
+  },
+  record {
+    guests = λ k. after.guests k ∙ before.guests k;
+    lines = after.lines ∙ before.lines;
+    rules = record {
+      rules = after.rules.rules ∙ before.rules.rules;
+      hold = after.rules.hold ∙ before.rules.hold;
+      first = after.rules.first ∙ before.rules.first;
+    };
+  },
+)
+
 pub composes_next : (n : ℕ) (old mid new : Desk) (tries wants more : Bool) (none given : ℕ) →
     ((k : ℕ) → has_bit none k ≡ false) →
     (tries ≡ false → RestsIn (screen_of old.share) (seat_in old.share n)) → ComposesUpTo n old wants mid →
@@ -74,21 +95,8 @@ composes_next n old mid new tries wants more none given clear rests before one =
   ];
   later = λ k from. one.seats k (differs k n (omega (arith, from))) (no_gift k)
       ∙ before.later k (omega (arith, from));
-  screen = record {
-    screen = one.screen.screen ∙ before.screen.screen;
-    canvas = one.screen.canvas ∙ before.screen.canvas;
-    viewer = one.screen.viewer ∙ before.screen.viewer;
-    made = one.screen.made ∙ before.screen.made;
-  };
-  beside = record {
-    guests = λ k. one.beside.guests k ∙ before.beside.guests k;
-    lines = one.beside.lines ∙ before.beside.lines;
-    rules = record {
-      rules = one.beside.rules.rules ∙ before.beside.rules.rules;
-      hold = one.beside.rules.hold ∙ before.beside.rules.hold;
-      first = one.beside.rules.first ∙ before.beside.rules.first;
-    };
-  };
+  screen = (both_stay old mid new before.screen before.beside one.screen one.beside).0;
+  beside = (both_stay old mid new before.screen before.beside one.screen one.beside).1;
 }
   where
     no_gift : (k : ℕ) → has_bit given k ≡ false

@@ -20,7 +20,7 @@ use Rattle.rfb_session.specs.ShareSlots.{ComposesIn}
 use Rattle.rfb_session.specs.console.Turns.{IsGivenSmall}
 use Rattle.rfb_session.specs.ShareTwins.{IsGiven}
 use Rattle.rfb_session.specs.declared.share.event.Composing.TheVariants.{Composed}
-use Rattle.rfb_session.proofs.DeskLemmas.{serves_one, serves_more, or_first, or_second}
+use Rattle.rfb_session.proofs.DeskLemmas.{both_stay, serves_one, serves_more, or_first, or_second}
 use Rattle.rfb_session.proofs.RoundLemmas.{after_below, before_below, before_after, before_one}
 
 -- where nothing changed no large update was composed
@@ -79,14 +79,17 @@ round_start old due = record {
   };
 }
 
--- one seat more
-module _ (step p due left others less given : ℕ) (old mid new : Desk) (wants more : Bool) (within : step < 8)
-    (is : p ≡ seat_after old.first step)
+-- one seat more, which is tried where it was left
+module _ {step p due left others given : ℕ} (less : ℕ) {old mid new : Desk} {wants more tries : Bool}
+    (within : step < 8) (is : p ≡ seat_after old.first step)
     (rests : (k : ℕ) → has_bit due k ≡ false → RestsIn (screen_of old.share) (seat_in old.share k))
     (before : RoundUpTo step old due left wants mid)
-    (one : ComposesOne mid p (has_bit left p) more others given new)
+    (tried : tries ≡ has_bit left p) (composed : ComposesOne mid p tries more others given new)
     (others_are : (k : ℕ) → k < 8 → has_bit others k ≡ (has_bit left k && not (nat_eq k p)))
     (less_are : (k : ℕ) → k < 8 → has_bit less k ≡ (has_bit others k && not (has_bit given k))) where
+  one : ComposesOne mid p (has_bit left p) more others given new
+  one = subst (λ (b : Bool). ComposesOne mid p b more others given new) tried composed
+
   here : p < 8
   here = subst (λ (n : ℕ). n < 8) (sym is) (after_below old.first step old.first_of_eight within)
 
@@ -289,24 +292,8 @@ module _ (step p due left others less given : ℕ) (old mid new : Desk) (wants m
     | inr given ↦ absurd (not_large _ _ given.1 is_large)
   ]
 
-  screens : KeepsScreen old.share new.share
-  screens = record {
-    screen = one.screen.screen ∙ before.screen.screen;
-    canvas = one.screen.canvas ∙ before.screen.canvas;
-    viewer = one.screen.viewer ∙ before.screen.viewer;
-    made = one.screen.made ∙ before.screen.made;
-  }
-
-  besides : KeepsBeside old new
-  besides = record {
-    guests = λ k. one.beside.guests k ∙ before.beside.guests k;
-    lines = one.beside.lines ∙ before.beside.lines;
-    rules = record {
-      rules = one.beside.rules.rules ∙ before.beside.rules.rules;
-      hold = one.beside.rules.hold ∙ before.beside.rules.hold;
-      first = one.beside.rules.first ∙ before.beside.rules.first;
-    };
-  }
+  still : KeepsScreen old.share new.share × KeepsBeside old new
+  still = both_stay old mid new before.screen before.beside one.screen one.beside
 
   pub round_next : (IsLarge (seat_in mid.share p) (seat_in new.share p) → ⊥) →
       RoundUpTo (step + 1) old due less (wants || more) new
@@ -327,8 +314,8 @@ module _ (step p due left others less given : ℕ) (old mid new : Desk) (wants m
       }
     ];
     later = later_so;
-    screen = screens;
-    beside = besides;
+    screen = still.0;
+    beside = still.1;
   }
 
   pub round_ends : IsLarge (seat_in mid.share p) (seat_in new.share p) →
@@ -350,8 +337,8 @@ module _ (step p due left others less given : ℕ) (old mid new : Desk) (wants m
         | inr near ↦ absurd (small k low (sooner k low (omega (arith, near.1)) other.1) large)
       ]
     ];
-    screen = screens;
-    beside = besides;
+    screen = still.0;
+    beside = still.1;
   }
 
 -- no update was a large one

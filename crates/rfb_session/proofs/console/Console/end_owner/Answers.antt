@@ -1,6 +1,7 @@
-use Rattle.std.proofs.Common.{Some, None, sym, ap, ◌∙◌}
+use Rattle.std.proofs.Common.{Some, None, sym, ap, subst, ◌∙◌}
 use Rattle.rfb_session.specs.declared.console.Console.{Console}
-use Rattle.rfb_session.specs.console.Console.{EndsNow}
+use Rattle.rfb_session.specs.console.Console.{EndsNow, Stays}
+use Rattle.rfb_session.proofs.ConsoleLemmas.{stays_then}
 use Rattle.rfb_session.proofs.console.Console.end_owner.Goals.{in-Some, in_default}
 use Rattle.rfb_session.proofs.console.Console.end_owner.Goals as goal
 
@@ -31,24 +32,15 @@ returns-clause-ends g c =
 
 pub returns-clause-stays : goal.returns-clause-stays
 returns-clause-stays g c =
-    let C = Console g.row.S.Denot in
-    let last = c.end_without_screen.ensures in
+    let new = c.end_without_screen.new.self in
+    let after = λ (s : Console g.row.S.Denot). Stays s new in
+    let last = c.end_without_screen.ensures.side.stays in
     elim c.match-end.branch [
       | in-Some w ↦
-          let side = w.follow_last.ensures.side in
-          let same = w.self-is in
-          record {
-            rules = last.side.stays.rules ∙ ap (λ (s : C). s.rules) same ∙ side.stays.rules;
-            name = last.side.stays.name ∙ ap (λ (s : C). s.name) same ∙ side.stays.name;
-            ended = λ was. last.side.stays.ended
-                (λ none. side.stays.ended was (sym (ap (λ (s : C). s.outcome) same) ∙ none));
-          }
+          let one = stays_then _ w.follow_last.new.self new w.follow_last.ensures.side.stays
+          (subst after w.self-is last) in
+          record { rules = one.rules; name = one.name; ended = one.ended }
       | in_default w ↦
-          let same = w.self-is in
-          record {
-            rules = last.side.stays.rules ∙ ap (λ (s : C). s.rules) same;
-            name = last.side.stays.name ∙ ap (λ (s : C). s.name) same;
-            ended = λ was. last.side.stays.ended
-                (λ none. was (sym (ap (λ (s : C). s.outcome) same) ∙ none));
-          }
+          let one = subst after w.self-is last in
+          record { rules = one.rules; name = one.name; ended = one.ended }
     ]
