@@ -204,25 +204,29 @@ fits_kept old new waiting later keeps moves roomy = ∥∥₁_map roomy goes_on
           fit = moves one.state.point one.fit;
         }
 
--- the same session, and nothing is kept
+-- the same session, where what is left fits after what is kept then
+fits_instead : (session : Session) (old new : Waiting) →
+    ((point : ClientAt) → AnswersFit old point → AnswersFit new point) →
+    ∥ HasRoomForAnswers session old ∥₁ → ∥ HasRoomForAnswers session new ∥₁
+fits_instead session old new fits roomy = ∥∥₁_map roomy (λ has going.
+    let one = has going in
+    record {
+      serving = one.serving;
+      screen = one.screen;
+      state = one.state;
+      prefix = one.prefix;
+      stands = one.stands;
+      name = one.name;
+      fit = fits one.state.point one.fit;
+    })
+
+-- as where nothing is kept
 pub fits_empty : (session : Session) (waiting : Waiting) (none : ArrayVec ℕ) → none.items ≡ [] →
     ∥ HasRoomForAnswers session waiting ∥₁ → ∥ HasRoomForAnswers session (Answers none) ∥₁
-fits_empty session waiting none is roomy = ∥∥₁_map roomy goes_on
-  where
-    goes_on : HasRoomForAnswers session waiting → HasRoomForAnswers session (Answers none)
-    goes_on has = λ still.
-        let one = has still in
-        let most = most_left one.state.point in
-        let size = ap (λ (xs : List ℕ). length xs) is in
-        record {
-          serving = one.serving;
-          screen = one.screen;
-          state = one.state;
-          prefix = one.prefix;
-          stands = one.stands;
-          name = one.name;
-          fit = omega (arith, most, size);
-        }
+fits_empty session waiting none is roomy =
+    fits_instead session waiting (Answers none)
+    (λ point fit. let most = most_left point in
+    let size = ap (λ (xs : List ℕ). length xs) is in omega (arith, most, size)) roomy
 
 -- ---- an update
 
@@ -275,14 +279,4 @@ cut_leaves (Shared a) new is point fit = subst (λ (w : Waiting). AnswersFit w p
 
 pub cut_fits : (session : Session) (old new : Waiting) → IsCut old new →
     ∥ HasRoomForAnswers session old ∥₁ → ∥ HasRoomForAnswers session new ∥₁
-cut_fits session old new is roomy = ∥∥₁_map roomy (λ has going.
-    let one = has going in
-    record {
-      serving = one.serving;
-      screen = one.screen;
-      state = one.state;
-      prefix = one.prefix;
-      stands = one.stands;
-      name = one.name;
-      fit = cut_leaves old new is one.state.point one.fit;
-    })
+cut_fits session old new is roomy = fits_instead session old new (cut_leaves old new is) roomy

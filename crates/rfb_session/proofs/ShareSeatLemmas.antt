@@ -24,6 +24,7 @@ use Rattle.rfb_session.specs.InFlight.{server_reply}
 use Rattle.rfb_session.specs.ShareRoom.{kept_in, answers_in, answers_left, AnswersFit, HasRoomForAnswers, memory_of}
 use Rattle.rfb_session.specs.ShareSeats.{Hears, Ends, waiting_in, is_update, holds_update}
 use Rattle.rfb_session.specs.ShareSlots.{EndsAtSeat, fault_of_late}
+use Rattle.rfb_session.proofs.ShareFitLemmas.{fits_after, none_after}
 
 -- a seat with another session
 abbrev seat_of : (seat : ShareSeat) (session : Session) →
@@ -117,7 +118,7 @@ heard_answer old new answers later bytes told was is written more going fed made
     }
 
 -- it was fed, where an update waits
-pub heard_after : (old new : ShareSeat) (bytes : List ℕ) (told : Option ServerTold) →
+heard_after : (old new : ShareSeat) (bytes : List ℕ) (told : Option ServerTold) →
     new.waiting ≡ old.waiting → new.written ≡ old.written → server_reply told ≡ [] →
     session_fault old.session ≡ None →
     ((serving : Serving) (screen : Grid Colour) → FedBy (server serving)
@@ -141,13 +142,13 @@ heard_after old new bytes told is written none going fed made hints =
     }
 
 -- where an update waits, no answer is left
-pub update_has_none : (point : ClientAt) (waiting : Waiting) → holds_update waiting ≡ true →
+update_has_none : (point : ClientAt) (waiting : Waiting) → holds_update waiting ≡ true →
     AnswersFit waiting point → answers_left point ≡ 0
 update_has_none point (Answers answers) some fit = absurd (is_not_both false refl some)
 update_has_none point (Update update) some fit = fit
 update_has_none point (Shared update) some fit = fit
 
-pub update_stays : (waiting : Waiting) (event : Option ServerTold) →
+update_stays : (waiting : Waiting) (event : Option ServerTold) →
     holds_update waiting ≡ true → (before after : ClientAt) → AnswersFit waiting before →
     length (server_reply event) + answers_left after ≤ answers_left before →
     AnswersFit waiting after
@@ -155,3 +156,27 @@ update_stays (Answers answers) event some before after fit fewer =
     absurd (is_not_both false refl some)
 update_stays (Update update) event some before after fit fewer = omega (arith, fit, fewer)
 update_stays (Shared update) event some before after fit fewer = omega (arith, fit, fewer)
+
+-- and so it was fed, where an update waits
+pub heard_update : (old new : ShareSeat) (bytes : List ℕ) (told : Option ServerTold) →
+    new.waiting ≡ old.waiting → new.written ≡ old.written → session_fault old.session ≡ None →
+    ((serving : Serving) (screen : Grid Colour) → FedBy (server serving)
+    (SessionStandsFor serving screen) old.session bytes told new.session) →
+    session_serving new.session ≡ session_serving old.session → hints_in new.session ≡ hints_in old.session →
+    holds_update old.waiting ≡ true → Hears bytes told old new
+heard_update old new bytes told is written going fed made hints some =
+    heard_after old new bytes told is written
+    (none_after old.session new.session old.waiting bytes told going fed
+    (λ point. update_has_none point old.waiting some) old.roomy) going fed made hints
+
+-- what is left of a session that was fed fits after an update that is kept
+pub update_fits : (old : ShareSeat) (new : Session) (bytes : List ℕ) (event : Option ServerTold) (same : Type 0)
+    {A : Type 0} (result : Result A LateFault) (a : A) →
+    ((fault : ServerFault) → session_fault old.session ≡ Some fault →
+    (result ≡ Err (OfSession fault)) × same) →
+    result ≡ Ok a →
+    ((serving : Serving) (screen : Grid Colour) → FedBy (server serving) (SessionStandsFor serving screen)
+    old.session bytes event new) → holds_update old.waiting ≡ true → ∥ HasRoomForAnswers new old.waiting ∥₁
+update_fits old new bytes event same result a failed is fed some =
+    fits_after old.session new old.waiting old.waiting bytes event (not_ended _ same result a failed is) fed
+    (update_stays old.waiting event some) old.roomy

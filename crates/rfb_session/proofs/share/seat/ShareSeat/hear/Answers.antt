@@ -6,21 +6,17 @@ use Rattle.rfb_session.specs.declared.share.waiting.Waiting.{Waiting}
 use Rattle.rfb_session.specs.declared.share.waiting.Waiting.TheVariants.{Answers}
 use Rattle.rfb_session.specs.ShareRoom.{kept_in, HasRoomForAnswers}
 use Rattle.rfb_session.specs.ShareSeats.{Hears, holds_update}
-use Rattle.rfb_session.proofs.ShareFitLemmas.{fits_refused, answer_fits, none_after, fits_after, answers_after}
-use Rattle.rfb_session.proofs.ShareSeatLemmas.{not_ended, refused_late, seat_kept, heard_answer, heard_after}
-use Rattle.rfb_session.proofs.ShareSeatLemmas.{update_has_none, update_stays}
+use Rattle.rfb_session.proofs.ShareFitLemmas.{fits_refused, answer_fits, fits_after, answers_after}
+use Rattle.rfb_session.proofs.ShareSeatLemmas.{not_ended, refused_late, seat_kept, heard_answer, heard_update}
+use Rattle.rfb_session.proofs.ShareSeatLemmas.{update_fits}
 use Rattle.rfb_session.proofs.share.seat.ShareSeat.hear.Goals as goal
 use Rattle.rfb_session.proofs.share.seat.ShareSeat.hear.Goals.{in-Answers, in-Update, in-Shared}
 
 pub invariant_of-self : goal.invariant_of-self
 invariant_of-self c =
     let s = c.args.self.now in
-    record {
-      within = s.within;
-      few = s.few;
-      roomy = fits_refused s.session c.feed.new.self s.waiting c.in_err-fed.field-0.0
-          c.in_err-fed.ensures.fails c.in_err-fed.ensures.refused s.roomy;
-    }
+    assumption (s, fits_refused s.session c.feed.new.self s.waiting c.in_err-fed.field-0.0 c.in_err-fed.ensures.fails
+    c.in_err-fed.ensures.refused s.roomy)
 
 pub returns-in_err-fed-clause-ended : goal.returns-in_err-fed-clause-ended
 returns-in_err-fed-clause-ended c =
@@ -78,30 +74,14 @@ invariant_of-self-in-Answers c =
 pub invariant_of-self-in-Update : goal.invariant_of-self-in-Update
 invariant_of-self-in-Update c =
     let s = c.args.self.now in
-    let going = not_ended _ _ c.feed.result c.in_ok-fed.fed
-    c.feed.ensures.failed c.in_ok-fed.was in
-    record {
-      within = s.within;
-      few = s.few;
-      roomy = fits_after s.session c.feed.new.self s.waiting s.waiting
-          (take c.in_ok-fed.fed.used c.args.bytes.now) (seen c.in_ok-fed.fed.event) going
-          c.in_ok-fed.ensures.takes.fed (update_stays s.waiting (seen c.in_ok-fed.fed.event)
-          (ap (λ (w : Waiting). holds_update w) c.in-Update.is)) s.roomy;
-    }
+    assumption (s, update_fits s c.feed.new.self _ _ _ c.feed.result c.in_ok-fed.fed c.feed.ensures.failed
+    c.in_ok-fed.was c.in_ok-fed.ensures.takes.fed (ap (λ (w : Waiting). holds_update w) c.in-Update.is))
 
 pub invariant_of-self-in-Shared : goal.invariant_of-self-in-Shared
 invariant_of-self-in-Shared c =
     let s = c.args.self.now in
-    let going = not_ended _ _ c.feed.result c.in_ok-fed.fed
-    c.feed.ensures.failed c.in_ok-fed.was in
-    record {
-      within = s.within;
-      few = s.few;
-      roomy = fits_after s.session c.feed.new.self s.waiting s.waiting
-          (take c.in_ok-fed.fed.used c.args.bytes.now) (seen c.in_ok-fed.fed.event) going
-          c.in_ok-fed.ensures.takes.fed (update_stays s.waiting (seen c.in_ok-fed.fed.event)
-          (ap (λ (w : Waiting). holds_update w) c.in-Shared.is)) s.roomy;
-    }
+    assumption (s, update_fits s c.feed.new.self _ _ _ c.feed.result c.in_ok-fed.fed c.feed.ensures.failed
+    c.in_ok-fed.was c.in_ok-fed.ensures.takes.fed (ap (λ (w : Waiting). holds_update w) c.in-Shared.is))
 
 pub returns-clause-heard : goal.returns-clause-heard
 returns-clause-heard c =
@@ -118,14 +98,10 @@ returns-clause-heard c =
           c.feed.ensures.made c.feed.ensures.hints)
       | in-Update w ↦
           subst (λ (seat : ShareSeat). Hears bytes told s seat) (sym w.self-is)
-          (heard_after s _ bytes told refl refl (none_after s.session c.feed.new.self s.waiting
-          bytes told going c.in_ok-fed.ensures.takes.fed (λ point. update_has_none point s.waiting
-          (ap (λ (v : Waiting). holds_update v) w.in-Update.is)) s.roomy) going
-          c.in_ok-fed.ensures.takes.fed c.feed.ensures.made c.feed.ensures.hints)
+          (heard_update s _ bytes told refl refl going c.in_ok-fed.ensures.takes.fed c.feed.ensures.made
+          c.feed.ensures.hints (ap (λ (v : Waiting). holds_update v) w.in-Update.is))
       | in-Shared w ↦
           subst (λ (seat : ShareSeat). Hears bytes told s seat) (sym w.self-is)
-          (heard_after s _ bytes told refl refl (none_after s.session c.feed.new.self s.waiting
-          bytes told going c.in_ok-fed.ensures.takes.fed (λ point. update_has_none point s.waiting
-          (ap (λ (v : Waiting). holds_update v) w.in-Shared.is)) s.roomy) going
-          c.in_ok-fed.ensures.takes.fed c.feed.ensures.made c.feed.ensures.hints)
+          (heard_update s _ bytes told refl refl going c.in_ok-fed.ensures.takes.fed c.feed.ensures.made
+          c.feed.ensures.hints (ap (λ (v : Waiting). holds_update v) w.in-Shared.is))
     ]
