@@ -125,6 +125,10 @@ module _ {S : Type 0} where
     };
   }
 
+  -- what is kept of one is kept of one that is the same
+  pub rooms_kept : {old was new : Console S} → old ≡ was → KeepsButRooms old new → KeepsButRooms was new
+  rooms_kept {old} {was} {new} same keeps = subst (λ (s : Console S). KeepsButRooms s new) same keeps
+
   pub stays_then : (old mid new : Console S) → Stays old mid → Stays mid new → Stays old new
   stays_then old mid new first second = record {
     rules = second.rules ∙ first.rules;

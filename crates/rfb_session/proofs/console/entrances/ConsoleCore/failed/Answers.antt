@@ -1,9 +1,7 @@
-use Rattle.std.proofs.Common.{◌≡◌, Some, None, subst, ◌∙◌}
-use Rattle.rfb_session.specs.declared.console.Console.{Console}
+use Rattle.std.proofs.Common.{◌≡◌, Some, None, ◌∙◌}
 use Rattle.rfb_session.specs.declared.console.Outcome.{Outcome}
-use Rattle.rfb_session.specs.console.Console.{KeepsButRooms}
 use Rattle.rfb_session.proofs.ConsoleLemmas.{by_owner, by_seat, by_lines, by_notes, by_none, does_then, kept_by}
-use Rattle.rfb_session.proofs.ConsoleLemmas.{stays_then}
+use Rattle.rfb_session.proofs.ConsoleLemmas.{rooms_kept, stays_then}
 use Rattle.rfb_session.proofs.console.entrances.ConsoleCore.failed.Goals.{then-door-eq-OWNER}
 use Rattle.rfb_session.proofs.console.entrances.ConsoleCore.failed.Goals.{else-door-eq-OWNER+then-door-eq-LINES}
 use Rattle.rfb_session.proofs.console.entrances.ConsoleCore.failed.Goals.{
@@ -24,10 +22,9 @@ pub returns : goal.returns
 returns g c =
     let old = c.args.self.now in
     let new = c.close_room.new.self in
-    let after = λ (s : Console g.row.S.Denot). KeepsButRooms s new in
     elim c.if-door-eq-OWNER.branch [
       | then-door-eq-OWNER w ↦
-          let keeps = subst after w.self-is c.close_room.ensures.keeps in
+          let keeps = rooms_kept w.self-is c.close_room.ensures.keeps in
           record {
             does = by_owner c.args.door _ _ _ _ w.if-door-eq-OWNER.true (record {
               desk = keeps.desk ∙ w.lose_owner.ensures.loses.desk;
@@ -38,7 +35,7 @@ returns g c =
             stays = stays_then old w.lose_owner.new.self new w.lose_owner.ensures.stays keeps.stays;
           }
       | else-door-eq-OWNER+then-door-eq-LINES w ↦
-          let keeps = subst after w.self-is c.close_room.ensures.keeps in
+          let keeps = rooms_kept w.self-is c.close_room.ensures.keeps in
           record {
             does = by_lines c.args.door _ _ _ _ w.if-door-eq-LINES.true (
               record {
@@ -55,7 +52,7 @@ returns g c =
             };
           }
       | else-door-eq-OWNER+else-door-eq-LINES+then-door-eq-NOTES w ↦
-          let keeps = subst after w.self-is c.close_room.ensures.keeps in
+          let keeps = rooms_kept w.self-is c.close_room.ensures.keeps in
           let loses = w.lose_notes.ensures in
           record {
             does = by_notes c.args.door _ _ _ _ w.if-door-eq-NOTES.true (record {
@@ -69,7 +66,7 @@ returns g c =
             stays = stays_then old w.lose_notes.new.self new loses.side.stays keeps.stays;
           }
       | else-door-eq-OWNER+else-door-eq-LINES+else-door-eq-NOTES+in-Some w ↦
-          let keeps = subst after w.self-is c.close_room.ensures.keeps in
+          let keeps = rooms_kept w.self-is c.close_room.ensures.keeps in
           record {
             does = by_seat c.args.door _ _ _ _ w.in-Some.seat w.in-Some.ensures.some.1 w.in-Some.ensures.some.0
                 (does_then _ old w.lose_seat.new.self new w.lose_seat.ensures.loses keeps.desk keeps.outcome
@@ -78,7 +75,7 @@ returns g c =
             stays = stays_then old w.lose_seat.new.self new w.lose_seat.ensures.side.stays keeps.stays;
           }
       | else-door-eq-OWNER+else-door-eq-LINES+else-door-eq-NOTES+in_default w ↦
-          let keeps = subst after w.self-is c.close_room.ensures.keeps in
+          let keeps = rooms_kept w.self-is c.close_room.ensures.keeps in
           record {
             does = by_none c.args.door _ _ _ _ (w.seat_at.ensures.none w.in_default.is)
                 (λ is. absurd (w.if-door-eq-OWNER.false is)) (λ is. absurd (w.if-door-eq-LINES.false is))
