@@ -136,25 +136,20 @@ module _ {S : Type 0} where
       part ≡ take used bytes → HasViewer old viewer shown → StandsFor (viewing_by old.given.viewer) viewer s prefix →
       IsInOrder old.console.rules.view_only shown s.point s.outstanding sent → HearsServer old bytes used new →
       AfterBytes old sent part new
-  hears_so old new sent part bytes used viewer false s prefix going goes part_is here stood order
+  hears_so old new sent part bytes used viewer shown s prefix going goes part_is here stood order
       (Ignored (inl over) used_is same) = absurd (over going)
-  hears_so old new sent part bytes used viewer false s prefix going goes part_is here stood order
+  hears_so old new sent part bytes used viewer shown s prefix going goes part_is here stood order
       (Ignored (inr gone) used_is same) =
-      absurd (let one = not_gone old viewer false here in let two = gone in cc)
+      absurd (let one = not_gone old viewer shown here in let two = gone in cc)
   hears_so old new sent part bytes used viewer false s prefix going goes part_is here stood order
       (Comes was is mid taken hears) =
       let same : was ≡ viewer = one_viewer old.coming was viewer is here.coming in
       comes_so old mid new sent part bytes goes taken viewer s prefix here stood order used part_is
       (subst (λ (v : Viewer). HearsComing mid v bytes used new) same hears)
-  hears_so old new sent part bytes used viewer false s prefix going goes part_is here stood order
-      (Shows none mid taken hears) = absurd (none_some old.coming viewer none here.coming)
-  hears_so old new sent part bytes used viewer true s prefix going goes part_is here stood order
-      (Ignored (inl over) used_is same) = absurd (over going)
-  hears_so old new sent part bytes used viewer true s prefix going goes part_is here stood order
-      (Ignored (inr gone) used_is same) =
-      absurd (let one = not_gone old viewer true here in let two = gone in cc)
   hears_so old new sent part bytes used viewer true s prefix going goes part_is here stood order
       (Comes was is mid taken hears) = absurd (none_some old.coming was here.coming is)
+  hears_so old new sent part bytes used viewer false s prefix going goes part_is here stood order
+      (Shows none mid taken hears) = absurd (none_some old.coming viewer none here.coming)
   hears_so old new sent part bytes used viewer true s prefix going goes part_is here stood order
       (Shows none mid taken hears) =
       shows_so old mid new sent part bytes goes taken viewer s prefix here stood order used part_is hears

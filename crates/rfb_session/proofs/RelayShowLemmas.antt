@@ -1,17 +1,31 @@
 -- What a relay does once the first update of a server that was called is whole.
-use Rattle.std.proofs.Common.{◌≡◌, ◌∙◌, ◌⊎◌, Some, sym, inl, inr}
+use Rattle.std.proofs.Common.{◌≡◌, ◌≢◌, ◌∙◌, ℕ, List, Some, None, sym, ap, subst, inl, inr}
+use Rattle.rfb_hello.specs.declared.version.Version.TheVariants.{V38}
+use Rattle.rfb_server.specs.Model.{serving_with}
 use Rattle.rfb_viewer.specs.declared.viewer.Viewer.{Viewer}
 use Rattle.rfb_session.specs.declared.console.Outcome.TheVariants.{NoMemory}
 use Rattle.rfb_session.specs.declared.console.desk.Desk.{Desk}
 use Rattle.rfb_session.specs.declared.relay.Relay.{Relay}
 use Rattle.rfb_session.specs.declared.share.Share.{Share}
-use Rattle.rfb_session.specs.relay.Desk.{BeginsAnew, ShowsAgain, TellsServer, up_of}
-use Rattle.rfb_session.specs.console.Console.{KeepsSide}
+use Rattle.rfb_session.specs.Share.{IsEmptyShare, screen_of, serving_in, viewer_of}
+use Rattle.rfb_session.specs.relay.Desk.{IsShareOf, TellsServer, up_of}
 use Rattle.rfb_session.specs.declared.console.Console.{Console}
 use Rattle.rfb_session.specs.relay.Doors.{KeepsBeside, KeepsHere, KeepsServer}
 use Rattle.rfb_session.specs.relay.Server.{NoPicture, NoRoomForLines, NoRoomToShow, Opened, OpenedAgain, OpenedAnew}
 use Rattle.rfb_session.specs.relay.Server.{OpenedOther, Opens, OpensAnew, TellsUp}
-use Rattle.rfb_session.proofs.RelayStepLemmas.{side_then}
+use Rattle.rfb_session.proofs.RelayStepLemmas.{side_same, side_then}
+
+-- a share that is made with a name is one of the viewer's by what that name is
+pub share_named : (viewer : Viewer) (name named : List ℕ) (text_limit : ℕ) (share : Share) →
+    viewer_of share ≡ Some viewer → IsEmptyShare share →
+    serving_in share ≡ serving_with V38 (screen_of share).width (screen_of share).height name text_limit →
+    name ≡ named → IsShareOf viewer named text_limit share
+share_named viewer name named text_limit share is empty made same = record {
+  viewer_is = is;
+  empty = empty;
+  made = made ∙ ap (λ (n : List ℕ).
+      serving_with V38 (screen_of share).width (screen_of share).height n text_limit) same;
+}
 
 module _ {S : Type 0} where
   beside_then : (old mid new : Relay S) → KeepsBeside old mid → KeepsBeside mid new → KeepsBeside old new
@@ -22,31 +36,29 @@ module _ {S : Type 0} where
     passed = second.passed ∙ first.passed;
   }
 
-  -- its picture takes the place of the one that was shown
-  pub again_so : (old mid : Relay S) (a m : Desk) (now : Viewer) (new : Relay S) → old.console.desk ≡ Some a →
-      ShowsAgain a now m → mid.console.desk ≡ Some m → mid.console.outcome ≡ old.console.outcome →
-      KeepsBeside old mid → TellsUp mid new → Opens old now new
-  again_so old mid a m now new is shows there outcome beside ups = by (ups.told m there)
-    where
-      by : ((b : Desk) × (new.console.desk ≡ Some b) × TellsServer m (up_of m.share mid.server_name.items) b
-          × (new.console.outcome ≡ mid.console.outcome)) ⊎ (new.console.outcome ≡ Some NoMemory) →
-          Opens old now new
-      by (inl one) = OpenedAgain a m one.0 is shows (rw (sym beside.name) one.2) one.1 (one.3 ∙ outcome)
-          ups.presence (beside_then old mid new beside ups.keeps)
-      by (inr ran) = NoRoomToShow ran
+  -- what follows of a desk that was told that its server is there, and of no memory for that, follows
+  pub ups_so : {X : Type 0} (old mid : Relay S) (m : Desk) (new : Relay S) → mid.console.desk ≡ Some m →
+      mid.console.outcome ≡ old.console.outcome → KeepsBeside old mid → TellsUp mid new →
+      ((b : Desk) → new.console.desk ≡ Some b → TellsServer m (up_of m.share old.server_name.items) b →
+      new.console.outcome ≡ old.console.outcome → KeepsBeside old new → X) →
+      (new.console.outcome ≡ Some NoMemory → X) → X
+  ups_so old mid m new there outcome beside ups told ran = elim (ups.told m there) [
+    | inl one ↦ told one.0 one.1 (rw (sym beside.name) one.2) (one.3 ∙ outcome)
+        (beside_then old mid new beside ups.keeps)
+    | inr none ↦ ran none
+  ]
 
-  -- a share of another size does
-  pub anew_so : (old mid : Relay S) (a m : Desk) (share : Share) (new : Relay S) → old.console.desk ≡ Some a →
-      BeginsAnew a share m → mid.console.desk ≡ Some m → mid.console.outcome ≡ old.console.outcome →
-      KeepsBeside old mid → TellsUp mid new → OpensAnew old share new
-  anew_so old mid a m share new is begins there outcome beside ups = by (ups.told m there)
-    where
-      by : ((b : Desk) × (new.console.desk ≡ Some b) × TellsServer m (up_of m.share mid.server_name.items) b
-          × (new.console.outcome ≡ mid.console.outcome)) ⊎ (new.console.outcome ≡ Some NoMemory) →
-          OpensAnew old share new
-      by (inl one) = OpenedAnew a m one.0 is begins (rw (sym beside.name) one.2) one.1 (one.3 ∙ outcome)
-          ups.presence (beside_then old mid new beside ups.keeps)
-      by (inr ran) = NoRoomForLines ran
+  -- nothing of it has changed
+  pub still_here : (old mid : Relay S) → mid.console ≡ old.console → KeepsServer old mid → KeepsHere old mid
+  still_here old mid same server = record {
+    desk = ap (λ (c : Console S). c.desk) same;
+    outcome = ap (λ (c : Console S). c.outcome) same;
+    side = side_same old.console mid.console (ap (λ (c : Console S). c.reader) same)
+        (ap (λ (c : Console S). c.has_input_ended) same) (ap (λ (c : Console S). c.rooms) same)
+        (ap (λ (c : Console S). c.rules) same) (ap (λ (c : Console S). c.name) same)
+        (λ was. subst (λ (c : Console S). c.outcome ≢ None) (sym same) was);
+    server = server;
+  }
 
   here_then : (old mid new : Relay S) → KeepsHere old mid → KeepsHere mid new → KeepsHere old new
   here_then old mid new first second = record {

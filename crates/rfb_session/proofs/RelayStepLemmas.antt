@@ -6,6 +6,8 @@ use Rattle.std.proofs.Common.{◌||◌}
 use Rattle.std.proofs.Common.{length, arith}
 use Rattle.rfb_hello.specs.declared.fed.Fed.{Fed}
 use Rattle.rfb_wire.specs.stream.FaultPlace.{counted_on}
+use Rattle.rfb_picture.specs.declared.rect.Rect.{Rect}
+use Rattle.rfb_viewer.specs.declared.call.Call.TheVariants.{Request}
 use Rattle.rfb_viewer.specs.declared.event.ViewerEvent.{ViewerEvent}
 use Rattle.rfb_viewer.specs.declared.fault.AppendFault.{AppendFault}
 use Rattle.rfb_session.specs.declared.console.Console.{Console}
@@ -18,13 +20,15 @@ use Rattle.rfb_session.specs.console.Console.{KeepsSide, OpensRooms}
 use Rattle.rfb_session.specs.declared.console.plan.Rules.{Rules}
 use Rattle.rfb_session.specs.declared.share.event.SeatEvent.{SeatEvent}
 use Rattle.rfb_session.specs.console.Console.{HearsBytes}
-use Rattle.rfb_session.specs.relay.Desk.{AsksFrom, FeedsDesk, LosesDesk, TellsSome, told_of_server}
+use Rattle.rfb_session.specs.relay.Desk.{AsksFrom, CallsDesk, FeedsDesk, LosesDesk, SomeWait, TellsSome}
+use Rattle.rfb_session.specs.relay.Desk.{told_of_server, whole_of}
+use Rattle.rfb_session.specs.ShareWaiters.{SomeAsked}
 use Rattle.rfb_session.specs.relay.Calls.{Asks, ended_by, Passes, passed}
 use Rattle.rfb_session.specs.console.Time.{IsBy}
 use Rattle.rfb_session.specs.relay.Presence.{is_gone, is_shown, call_time, planned, WakesToCall}
 use Rattle.rfb_session.specs.declared.relay.presence.Presence.{Presence}
 use Rattle.rfb_session.specs.declared.relay.presence.Presence.TheVariants.{Coming, Shown, Gone as Lost}
-use Rattle.rfb_session.specs.relay.Doors.{CountsPassed, KeepsAllButRooms}
+use Rattle.rfb_session.specs.relay.Doors.{CountsPassed, KeepsAllButRooms, TakesViewer}
 use Rattle.rfb_session.specs.relay.Doors.{KeepsServer, OpensDoors, SparesUpTo, passed_at, room_of_server}
 use Rattle.rfb_session.specs.relay.Doors.{space_at_door}
 use Rattle.rfb_session.specs.relay.Server.{EndsFor, Fed_on, HearsShown, Heeds, IsToldGone}
@@ -82,6 +86,13 @@ pub asks_ended : (shown : Bool) → true ≡ shown → (o : Option Outcome) (a :
 asks_ended shown there o a d e asked old new none is asks ends =
     subst (λ (s : Bool). Asks s o a (Some e) old new (Some NoMemory)) there
     (ended o a d e asked old new none is asks ends)
+
+-- somebody waits, and a request for the whole of the screen is made
+pub asks_some : {a b : Desk} {rect : Rect} {asked : Result (Unit {0}) AppendFault} {before after : List ℕ} →
+    SomeAsked a.share × (rect ≡ whole_of a.share) → CallsDesk a (Request true rect) before asked after b →
+    AsksFrom a asked before after b
+asks_some {a} {b} {rect} {asked} {before} {after} wanted calls =
+    SomeWait wanted.0 (subst (λ (r : Rect). CallsDesk a (Request true r) before asked after b) wanted.1 calls)
 
 -- ---- a server that goes
 
@@ -158,6 +169,23 @@ module _ {S : Type 0} where
     rooms = rooms ∙ side.rooms;
     stays = record { rules = rules ∙ side.stays.rules; name = name ∙ side.stays.name; ended = ended };
   }
+
+  -- the owner, the rooms, the rules and the name are as they were, and an end stays
+  pub side_same : (old new : Console S) → new.reader ≡ old.reader →
+      new.has_input_ended ≡ old.has_input_ended → new.rooms ≡ old.rooms → new.rules ≡ old.rules →
+      new.name ≡ old.name → (old.outcome ≢ None → new.outcome ≢ None) → KeepsSide old new
+  side_same old new reader input rooms rules name ended = record {
+    owner = record { reader = reader; input = input };
+    rooms = rooms;
+    stays = record { rules = rules; name = name; ended = ended };
+  }
+
+  -- the server's viewer was taken, and all else is as it was
+  pub viewer_taken : {old new : Relay S} → new.coming ≡ None → new.console ≡ old.console →
+      new.to_server ≡ old.to_server → new.presence ≡ old.presence → new.server_name ≡ old.server_name →
+      TakesViewer old new
+  viewer_taken taken console waits presence name =
+      record { taken = taken; console = console; waits = waits; presence = presence; name = name }
 
   pub side_then : (old mid new : Console S) → KeepsSide old mid → KeepsSide mid new → KeepsSide old new
   side_then old mid new first second = record {

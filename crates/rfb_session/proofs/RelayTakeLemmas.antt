@@ -1,13 +1,13 @@
 -- How far the viewer of a relay's server is after bytes that it took, and what it reported of them.
-use Rattle.std.proofs.Common.{◌≡◌, ◌==◌, ℕ, zero, suc, Bool, true, false, List, [], ◌∷◌, Option, Some, None}
-use Rattle.std.proofs.Common.{refl, sym, ap, subst, ◌∙◌, if◌then◌else◌}
+use Rattle.std.proofs.Common.{◌≡◌, ◌==◌, ℕ, zero, Bool, true, false, List, [], ◌∷◌}
+use Rattle.std.proofs.Common.{Option, Some, None, refl, sym, ap, subst, ◌∙◌, if◌then◌else◌}
 use Rattle.rfb_wire.specs.ServerMessage.{FramebufferUpdate, SetColorMapEntries, Bell as BellMessage, ServerCutText}
 use Rattle.rfb_wire.specs.stream.End.{Takes, EndsWith, acts}
 use Rattle.rfb_wire.specs.stream.Sequel.{First, Second, past_in}
 use Rattle.rfb_codec.specs.UpdateStream.{UpdatePoint, UpdateItem, Message, Rectangle, update_stream}
 use Rattle.rfb_hello.specs.ServerHandshake.{ServerPoint, AwaitsVersion, AwaitsSecurity, AwaitsResult, AwaitsInit}
-use Rattle.rfb_hello.specs.ServerHandshake.{AwaitsName, Begun, ProtocolVersion, SecurityNone, SecurityTypes}
-use Rattle.rfb_hello.specs.ServerHandshake.{SecurityResult, ServerInit, Name}
+use Rattle.rfb_hello.specs.ServerHandshake.{AwaitsName, Begun, SecurityNone}
+use Rattle.rfb_hello.specs.ServerHandshake.{ServerInit, Name}
 use Rattle.rfb_viewer.specs.ServerBytes.{ServerAt, FromServer, server_two}
 use Rattle.rfb_viewer.specs.Told.{ViewerTold, Reply, Ready, UpdateDone, Bell, CutText, ColourMapSkipped, done_told}
 use Rattle.rfb_viewer.specs.Told.{is_last, item_told}
@@ -46,43 +46,13 @@ pub data Shakes (at : ServerAt) (event : Option ViewerTold) : Type 0 where
 one_step : (viewing : Viewing) (point : ServerPoint) (item : FromServer) →
     Shakes (past_in (server_two viewing.form viewing.hello) (First point) item) (told_at viewing (First point) item)
 one_step viewing point (Second item) = GoesOn point refl tt
-one_step viewing AwaitsVersion (First (ProtocolVersion v)) = GoesOn _ refl tt
-one_step viewing AwaitsVersion (First SecurityNone) = GoesOn _ refl tt
-one_step viewing AwaitsVersion (First (SecurityTypes types)) = GoesOn _ refl tt
-one_step viewing AwaitsVersion (First SecurityResult) = GoesOn _ refl tt
-one_step viewing AwaitsVersion (First (ServerInit width height k)) = GoesOn _ refl tt
-one_step viewing AwaitsVersion (First (Name text)) = GoesOn _ refl tt
-one_step viewing (AwaitsSecurity version) (First (ProtocolVersion v)) = GoesOn _ refl tt
-one_step viewing (AwaitsSecurity version) (First SecurityNone) = GoesOn _ refl tt
-one_step viewing (AwaitsSecurity version) (First (SecurityTypes types)) = GoesOn _ refl tt
-one_step viewing (AwaitsSecurity version) (First SecurityResult) = GoesOn _ refl tt
-one_step viewing (AwaitsSecurity version) (First (ServerInit width height k)) = GoesOn _ refl tt
-one_step viewing (AwaitsSecurity version) (First (Name text)) = GoesOn _ refl tt
-one_step viewing (AwaitsResult version) (First (ProtocolVersion v)) = GoesOn _ refl tt
-one_step viewing (AwaitsResult version) (First SecurityNone) = GoesOn _ refl tt
-one_step viewing (AwaitsResult version) (First (SecurityTypes types)) = GoesOn _ refl tt
-one_step viewing (AwaitsResult version) (First SecurityResult) = GoesOn _ refl tt
-one_step viewing (AwaitsResult version) (First (ServerInit width height k)) = GoesOn _ refl tt
-one_step viewing (AwaitsResult version) (First (Name text)) = GoesOn _ refl tt
-one_step viewing (AwaitsInit version) (First (ProtocolVersion v)) = GoesOn _ refl tt
-one_step viewing (AwaitsInit version) (First SecurityNone) = GoesOn _ refl tt
-one_step viewing (AwaitsInit version) (First (SecurityTypes types)) = GoesOn _ refl tt
-one_step viewing (AwaitsInit version) (First SecurityResult) = GoesOn _ refl tt
 one_step viewing (AwaitsInit version) (First (ServerInit width height zero)) = Ends _ _ _ _ refl refl
-one_step viewing (AwaitsInit version) (First (ServerInit width height (suc k))) = GoesOn _ refl tt
-one_step viewing (AwaitsInit version) (First (Name text)) = GoesOn _ refl tt
-one_step viewing (AwaitsName version w h n) (First (ProtocolVersion v)) = GoesOn _ refl tt
-one_step viewing (AwaitsName version w h n) (First SecurityNone) = GoesOn _ refl tt
-one_step viewing (AwaitsName version w h n) (First (SecurityTypes types)) = GoesOn _ refl tt
-one_step viewing (AwaitsName version w h n) (First SecurityResult) = GoesOn _ refl tt
-one_step viewing (AwaitsName version w h n) (First (ServerInit width height k)) = GoesOn _ refl tt
 one_step viewing (AwaitsName version w h n) (First (Name text)) = Ends _ _ _ _ refl refl
-one_step viewing (Begun version w h) (First (ProtocolVersion v)) = GoesOn _ refl tt
+one_step viewing AwaitsVersion (First SecurityNone) = GoesOn _ refl tt
+one_step viewing (AwaitsSecurity version) (First SecurityNone) = GoesOn _ refl tt
+one_step viewing (AwaitsResult version) (First SecurityNone) = GoesOn _ refl tt
 one_step viewing (Begun version w h) (First SecurityNone) = GoesOn _ refl tt
-one_step viewing (Begun version w h) (First (SecurityTypes types)) = GoesOn _ refl tt
-one_step viewing (Begun version w h) (First SecurityResult) = GoesOn _ refl tt
-one_step viewing (Begun version w h) (First (ServerInit width height k)) = GoesOn _ refl tt
-one_step viewing (Begun version w h) (First (Name text)) = GoesOn _ refl tt
+one_step viewing point (First item) = GoesOn _ refl tt
 
 no_end : (told : ViewerTold) (o : Option ViewerTold) → o ≡ None → o ≡ Some told → ⊥
 no_end told o none some = cc

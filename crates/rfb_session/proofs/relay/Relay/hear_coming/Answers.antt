@@ -1,4 +1,4 @@
-use Rattle.std.proofs.Common.{refl}
+use Rattle.std.proofs.Common.{Ok, refl}
 use Rattle.rfb_session.specs.relay.Server.{FailedAt, Met}
 use Rattle.rfb_session.proofs.MirrorLemmas.{feed_stands, takes, fails_at}
 use Rattle.rfb_session.proofs.relay.Relay.hear_coming.Goals as goal
@@ -12,16 +12,9 @@ meet-requires g c = record {
 pub returns-in-Ok-clause-hears : goal.returns-in-Ok-clause-hears
 returns-in-Ok-clause-hears g c =
     let e = c.in-Ok.ensures in
-    Met c.feed.new.self c.in-Ok.field-0 (record {
-      used = e.used;
-      all = e.all;
-      some = e.some;
-      fed_by = e.fed;
-      damage = e.damage;
-      moved = e.moved;
-      made = e.made;
-      counted = e.taken;
-    }) refl c.meet.ensures.meets
+    Met c.feed.new.self c.in-Ok.field-0
+    (takes c.args.viewer c.feed.new.self c.args.bytes.now (Ok c.in-Ok.field-0) e.used e.all e.some e.fed e.damage
+    e.moved e.taken e.made) refl c.meet.ensures.meets
 
 pub returns-in-Err-clause-hears : goal.returns-in-Err-clause-hears
 returns-in-Err-clause-hears g c =

@@ -1,7 +1,7 @@
 use Rattle.std.proofs.Common.{◌∙◌, refl, sym, subst, inl}
 use Rattle.rfb_session.specs.declared.console.desk.Desk.{Desk}
 use Rattle.rfb_session.specs.relay.Desk.{TellsSome, told_of_server}
-use Rattle.rfb_session.proofs.RelayStepLemmas.{same_value}
+use Rattle.rfb_session.proofs.RelayStepLemmas.{same_value, side_same}
 use Rattle.rfb_session.proofs.relay.Relay.heed.Goals as goal
 
 pub returns-in-Ok-clause-heeds : goal.returns-in-Ok-clause-heeds
@@ -14,9 +14,5 @@ returns-in-Ok-clause-heeds g c = record {
     refl,
   );
   server = record { coming = refl; waits = refl; presence = refl; name = refl; passed = refl };
-  side = record {
-    owner = record { reader = refl; input = refl };
-    rooms = refl;
-    stays = record { rules = refl; name = refl; ended = λ was. was };
-  };
+  side = side_same _ _ refl refl refl refl refl (λ was. was);
 }

@@ -1,5 +1,5 @@
-use Rattle.std.proofs.Common.{◌∙◌, Bool, sym, ap, subst}
-use Rattle.rfb_session.specs.console.Console.{KeepsSide}
+use Rattle.std.proofs.Common.{◌∙◌, Bool, sym, subst}
+use Rattle.rfb_session.specs.console.Console.{KeepsButNotes}
 use Rattle.rfb_session.specs.declared.console.Console.{Console}
 use Rattle.rfb_session.specs.declared.console.plan.Rules.{Rules}
 use Rattle.rfb_session.specs.relay.Server.{EndsFor, GoneNow, IsToldGone}
@@ -11,11 +11,9 @@ end_unless_called-requires g c = none_of c.note.new.self.outcome (sym c.if-is_so
 
 pub returns-then-is_some-clause-loses : goal.returns-then-is_some-clause-loses
 returns-then-is_some-clause-loses g c =
-    let kept = c.note.ensures in
     let forgets = c.forget_server.ensures.forgets in
-    let outcome = kept.outcome ∙ ap (λ (k : Console g.row.S.Denot). k.outcome) forgets.console in
-    let desk = kept.desk ∙ ap (λ (k : Console g.row.S.Denot). k.desk) forgets.console in
-    let side = subst (λ (k : Console g.row.S.Denot). KeepsSide k c.note.new.self) forgets.console kept.side in
+    let kept = subst (λ (k : Console g.row.S.Denot). KeepsButNotes k c.note.new.self) forgets.console
+    c.note.ensures in
     let over = sym c.if-is_some.ensures in
     GoneNow (sym c.if-is_gone.ensures) (record {
       presence = forgets.presence;
@@ -23,18 +21,16 @@ returns-then-is_some-clause-loses g c =
       waits = forgets.waits;
       passed = forgets.passed;
       name = forgets.name;
-      ends = over_ends c.args.self.now.console.rules.retry _ c.note.new.self.outcome c.args.gone outcome over;
-      desk = over_told _ _ c.note.new.self.outcome c.args.gone _ _ _ outcome over desk;
-      side = side;
+      ends = over_ends c.args.self.now.console.rules.retry _ c.note.new.self.outcome c.args.gone kept.outcome over;
+      desk = over_told _ _ c.note.new.self.outcome c.args.gone _ _ _ kept.outcome over kept.desk;
+      side = kept.side;
     })
 
 pub returns-clause-loses : goal.returns-clause-loses
 returns-clause-loses g c =
-    let kept = c.note.ensures in
     let forgets = c.forget_server.ensures.forgets in
-    let outcome = kept.outcome ∙ ap (λ (k : Console g.row.S.Denot). k.outcome) forgets.console in
-    let desk = kept.desk ∙ ap (λ (k : Console g.row.S.Denot). k.desk) forgets.console in
-    let side = subst (λ (k : Console g.row.S.Denot). KeepsSide k c.note.new.self) forgets.console kept.side in
+    let kept = subst (λ (k : Console g.row.S.Denot). KeepsButNotes k c.note.new.self) forgets.console
+    c.note.ensures in
     let going = sym c.if-is_some.ensures in
     let ends = c.end_unless_called.ensures.ends in
     let tells = c.tell_gone.ensures.tells in
@@ -45,12 +41,13 @@ returns-clause-loses g c =
       passed = λ k within. rw (tells.server.passed ∙ ends.server.passed) (forgets.passed k within);
       name = tells.server.name ∙ ends.server.name ∙ forgets.name;
       ends = subst (λ (r : Rules). EndsFor r.retry c.args.self.now.console.outcome c.args.gone
-          c.tell_gone.new.self.console.outcome) side.stays.rules (ends_then _ _ c.note.new.self.outcome c.args.gone
-          c.end_unless_called.new.self.console.outcome _ outcome going ends.ends tells.goes_on);
+          c.tell_gone.new.self.console.outcome) kept.side.stays.rules
+          (ends_then _ _ c.note.new.self.outcome c.args.gone c.end_unless_called.new.self.console.outcome _
+          kept.outcome going ends.ends tells.goes_on);
       desk = subst (λ (b : Bool). IsToldGone b c.args.self.now.console.outcome c.args.gone c.args.self.now.console.desk
           c.tell_gone.new.self.console.desk c.tell_gone.new.self.console.outcome) c.is_shown-was_shown.ensures
           (told_then _ _ c.note.new.self.outcome c.args.gone _ c.end_unless_called.new.self.console.desk _ _
-          outcome going (ends.desk ∙ desk) tells.told);
-      side = side_then _ c.note.new.self _ side
+          kept.outcome going (ends.desk ∙ kept.desk) tells.told);
+      side = side_then _ c.note.new.self _ kept.side
           (side_then _ c.end_unless_called.new.self.console _ ends.side tells.side);
     })

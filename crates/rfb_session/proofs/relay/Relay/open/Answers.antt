@@ -2,8 +2,9 @@ use Rattle.std.proofs.Common.{◌∙◌, Some, refl, sym, ap, subst}
 use Rattle.rfb_viewer.specs.declared.viewer.Viewer.{Viewer}
 use Rattle.rfb_session.specs.Mirrors.{StandsOrFailed}
 use Rattle.rfb_session.specs.declared.console.desk.Desk.{Desk}
-use Rattle.rfb_session.specs.relay.Server.{Opens}
-use Rattle.rfb_session.proofs.RelayShowLemmas.{again_so, opens_kept}
+use Rattle.rfb_session.specs.relay.Server.{NoRoomToShow, OpenedAgain, Opens}
+use Rattle.rfb_session.proofs.RelayShowLemmas.{opens_kept, ups_so}
+use Rattle.rfb_session.proofs.RelayStepLemmas.{side_same}
 use Rattle.rfb_session.proofs.relay.Relay.open.Goals as goal
 
 pub open_anew-requires-clause-stands : goal.open_anew-requires-clause-stands
@@ -12,24 +13,21 @@ open_anew-requires-clause-stands g c =
 
 pub returns-in-None-clause-opens : goal.returns-in-None-clause-opens
 returns-in-None-clause-opens g c =
-    opens_kept c.args.self.now _ c.args.viewer c.open_first.new.self
-    (record {
+    opens_kept c.args.self.now _ c.args.viewer c.open_first.new.self (record {
       desk = refl;
       outcome = refl;
-      side = record {
-        owner = record { reader = refl; input = refl };
-        rooms = refl;
-        stays = record { rules = refl; name = refl; ended = λ was. was };
-      };
+      side = side_same _ _ refl refl refl refl refl (λ was. was);
       server = record { coming = refl; waits = refl; presence = refl; name = refl; passed = refl };
-    }) refl
-    c.open_first.ensures.opens
+    }) refl c.open_first.ensures.opens
 
 pub returns-in-Ok-clause-opens : goal.returns-in-Ok-clause-opens
 returns-in-Ok-clause-opens g c =
-    again_so c.args.self.now _ c.in-Some.desk c.show_again.new.self c.args.viewer c.tell_up.new.self c.in-Some.is
-    c.in-Ok.ensures.shown refl refl (record { coming = refl; waits = refl; name = refl; passed = refl })
-    c.tell_up.ensures.tells
+    let ups = c.tell_up.ensures.tells in
+    ups_so c.args.self.now _ c.show_again.new.self c.tell_up.new.self refl refl
+    (record { coming = refl; waits = refl; name = refl; passed = refl }) ups
+    (λ b at tells goes kept.
+    OpenedAgain c.in-Some.desk c.show_again.new.self b c.in-Some.is c.in-Ok.ensures.shown tells at goes ups.presence
+    kept) (λ ran. NoRoomToShow ran)
 
 pub returns-in-Err-clause-opens : goal.returns-in-Err-clause-opens
 returns-in-Err-clause-opens g c =
@@ -38,10 +36,6 @@ returns-in-Err-clause-opens g c =
     (opens_kept c.args.self.now _ c.in-Err.viewer c.open_anew.new.self (record {
       desk = ap (λ (d : Desk). Some d) refused.1 ∙ sym c.in-Some.is;
       outcome = refl;
-      side = record {
-        owner = record { reader = refl; input = refl };
-        rooms = refl;
-        stays = record { rules = refl; name = refl; ended = λ was. was };
-      };
+      side = side_same _ _ refl refl refl refl refl (λ was. was);
       server = record { coming = refl; waits = refl; presence = refl; name = refl; passed = refl };
     }) refl c.open_anew.ensures.opens)

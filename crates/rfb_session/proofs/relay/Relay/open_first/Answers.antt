@@ -1,25 +1,15 @@
 use Rattle.std.proofs.Common.{◌∙◌, List, ℕ, refl, sym, ap, subst}
-use Rattle.rfb_hello.specs.declared.version.Version.TheVariants.{V38}
-use Rattle.rfb_server.specs.Model.{serving_with}
 use Rattle.rfb_session.specs.declared.share.Share.{Share}
-use Rattle.rfb_session.specs.Share.{screen_of}
 use Rattle.rfb_session.specs.relay.Desk.{IsOver, IsShareOf}
 use Rattle.rfb_session.specs.relay.Server.{NoPicture, Opened}
 use Rattle.rfb_session.specs.relay.Setup.{name_by}
+use Rattle.rfb_session.proofs.RelayShowLemmas.{share_named, still_here}
 use Rattle.rfb_session.proofs.relay.Relay.open_first.Goals as goal
 
 pub returns-in-Err-clause-opens : goal.returns-in-Err-clause-opens
 returns-in-Err-clause-opens g c =
-    NoPicture _ _ (record {
-      desk = refl;
-      outcome = refl;
-      side = record {
-        owner = record { reader = refl; input = refl };
-        rooms = refl;
-        stays = record { rules = refl; name = refl; ended = λ was. was };
-      };
-      server = record { coming = refl; waits = refl; presence = refl; name = refl; passed = refl };
-    })
+    NoPicture _ _
+    (still_here _ _ refl record { coming = refl; waits = refl; presence = refl; name = refl; passed = refl })
     c.lose_server.ensures.loses
 
 pub returns-in-Ok-over-clause-opens : goal.returns-in-Ok-over-clause-opens
@@ -30,16 +20,11 @@ returns-in-Ok-over-clause-opens g c =
     let rules = c.args.self.now.console.rules in
     let told = c.as_slice-told.ensures.value in
     let given = c.args.self.now.given in
+    let name = name_by given c.args.self.now.server_name.items in
     Opened desk c.requires.none c.seat_in.ensures
-    (subst (λ (s : Share). IsShareOf c.args.viewer (name_by given c.args.self.now.server_name.items)
-    rules.text_limit s)
-    (sym over.share_is) (record {
-      viewer_is = share.viewer;
-      empty = share.empty;
-      made = share.made ∙ ap (λ (n : List ℕ). serving_with V38 (screen_of c.in-Ok.share).width
-          (screen_of c.in-Ok.share).height n rules.text_limit)
-          (c.name-name.ensures.value ∙ ap (λ (l : List ℕ). name_by given l) told);
-    }))
+    (subst (λ (s : Share). IsShareOf c.args.viewer name rules.text_limit s) (sym over.share_is)
+    (share_named c.args.viewer _ name rules.text_limit c.in-Ok.share share.viewer share.empty share.made
+    (c.name-name.ensures.value ∙ ap (λ (l : List ℕ). name_by given l) told)))
     (subst (λ (s : Share). IsOver s rules c.args.self.now.server_name.items desk) (sym over.share_is)
     (subst (λ (l : List ℕ). IsOver c.in-Ok.share rules l desk) told over)) refl
     (record { coming = refl; waits = refl; name = refl; passed = refl })

@@ -1,5 +1,5 @@
 use Rattle.std.proofs.Common.{refl, sym}
-use Rattle.rfb_session.proofs.RelayStepLemmas.{plan_so, wakes_so}
+use Rattle.rfb_session.proofs.RelayStepLemmas.{plan_so, side_same, wakes_so}
 use Rattle.rfb_session.proofs.relay.Relay.plan_call.Goals as goal
 
 pub returns-clause-plans : goal.returns-clause-plans
@@ -12,10 +12,6 @@ returns-clause-plans g c = record {
     desk = refl;
     outcome = refl;
     notes = refl;
-    side = record {
-      owner = record { reader = refl; input = refl };
-      rooms = refl;
-      stays = record { rules = refl; name = refl; ended = λ was. was };
-    };
+    side = side_same _ _ refl refl refl refl refl (λ was. was);
   };
 }

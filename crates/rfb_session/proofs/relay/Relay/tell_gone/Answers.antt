@@ -1,5 +1,5 @@
 use Rattle.std.proofs.Common.{refl, inl, inr}
-use Rattle.rfb_session.proofs.RelayStepLemmas.{gone_told, shown_told, some_is_not}
+use Rattle.rfb_session.proofs.RelayStepLemmas.{gone_told, shown_told, side_same, some_is_not}
 use Rattle.rfb_session.proofs.relay.Relay.tell_gone.Goals as goal
 
 pub returns-in-Ok-clause-tells : goal.returns-in-Ok-clause-tells
@@ -9,11 +9,7 @@ returns-in-Ok-clause-tells g c = record {
       (inl c.in-Ok.ensures.told));
   goes_on = inl refl;
   server = record { coming = refl; waits = refl; presence = refl; name = refl; passed = refl };
-  side = record {
-    owner = record { reader = refl; input = refl };
-    rooms = refl;
-    stays = record { rules = refl; name = refl; ended = λ was. was };
-  };
+  side = side_same _ _ refl refl refl refl refl (λ was. was);
 }
 
 pub returns-in-Err-clause-tells : goal.returns-in-Err-clause-tells
@@ -22,9 +18,5 @@ returns-in-Err-clause-tells g c = record {
       (gone_told c.args.gone _ c.in-Some.desk c.lose_server.new.self _ c.in-Some.is c.in-Err.ensures.share (inr refl));
   goes_on = inr refl;
   server = record { coming = refl; waits = refl; presence = refl; name = refl; passed = refl };
-  side = record {
-    owner = record { reader = refl; input = refl };
-    rooms = refl;
-    stays = record { rules = refl; name = refl; ended = λ was. some_is_not _ };
-  };
+  side = side_same _ _ refl refl refl refl refl (λ was. some_is_not _);
 }

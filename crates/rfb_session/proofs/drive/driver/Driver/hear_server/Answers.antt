@@ -1,21 +1,14 @@
-use Rattle.std.proofs.Common.{refl}
+use Rattle.std.proofs.Common.{Ok, refl}
 use Rattle.rfb_session.specs.drive.driver.Driver.{FailedAt, Met}
-use Rattle.rfb_session.proofs.MirrorLemmas.{fails_at}
+use Rattle.rfb_session.proofs.MirrorLemmas.{takes, fails_at}
 use Rattle.rfb_session.proofs.drive.driver.Driver.hear_server.Goals as goal
 
 pub returns-in-Ok-clause-hears : goal.returns-in-Ok-clause-hears
 returns-in-Ok-clause-hears g c =
     let e = c.in-Ok.ensures in
-    Met c.feed.new.self c.in-Ok.field-0 (record {
-      used = e.used;
-      all = e.all;
-      some = e.some;
-      fed_by = e.fed;
-      damage = e.damage;
-      moved = e.moved;
-      made = e.made;
-      counted = e.taken;
-    }) refl c.meet.ensures
+    Met c.feed.new.self c.in-Ok.field-0
+    (takes c.args.self.now.viewer c.feed.new.self c.args.bytes.now (Ok c.in-Ok.field-0) e.used e.all e.some e.fed
+    e.damage e.moved e.taken e.made) refl c.meet.ensures
 
 pub returns-in-Err-clause-hears : goal.returns-in-Err-clause-hears
 returns-in-Err-clause-hears g c =
