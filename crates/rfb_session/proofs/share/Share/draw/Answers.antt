@@ -11,13 +11,12 @@ use Rattle.rfb_session.proofs.share.Share.draw.Goals as goal
 
 pub notify_all-requires : goal.notify_all-requires
 notify_all-requires c =
-    let s = c.args.self.now in
-    let one = stroke c.args.drawing.now in (
+    let s = c.args.self.now in (
       omega arith,
       rw c.in_ok-notice.ensures.value
           (all_about (λ seat. seat.session) c.in-Drawn.picture s.seats _
           (subst (λ (x : Screen). AllFollow (λ seat. seat.session) (shown_on x) s.seats) c.in-Drawn.is s.follow)
-          (area_held one c.in-Drawn.picture c.in_ok-notice.ensures.inside)),
+          (area_held (stroke c.args.drawing.now) c.in-Drawn.picture c.in_ok-notice.ensures.inside)),
     )
 
 pub draw_on-requires : goal.draw_on-requires
