@@ -36,6 +36,11 @@ module _ {S : Type 0} where
     passed = second.passed ∙ first.passed;
   }
 
+  -- the same, but for whether its server is there
+  beside_same : {old new : Relay S} → KeepsServer old new → KeepsBeside old new
+  beside_same keeps =
+      record { coming = keeps.coming; waits = keeps.waits; name = keeps.name; passed = keeps.passed }
+
   -- what follows of a desk that was told that its server is there, and of no memory for that, follows
   pub ups_so : {X : Type 0} (old mid : Relay S) (m : Desk) (new : Relay S) → mid.console.desk ≡ Some m →
       mid.console.outcome ≡ old.console.outcome → KeepsBeside old mid → TellsUp mid new →
@@ -75,12 +80,7 @@ module _ {S : Type 0} where
   }
 
   beside_here : (old mid new : Relay S) → KeepsHere old mid → KeepsBeside mid new → KeepsBeside old new
-  beside_here old mid new here beside = beside_then old mid new (record {
-    coming = here.server.coming;
-    waits = here.server.waits;
-    name = here.server.name;
-    passed = here.server.passed;
-  }) beside
+  beside_here old mid new here beside = beside_then old mid new (beside_same here.server) beside
 
   -- the same from where nothing had changed yet
   pub anew_kept : (old mid : Relay S) (share : Share) (new : Relay S) → KeepsHere old mid →

@@ -180,6 +180,13 @@ module _ {S : Type 0} where
     stays = record { rules = rules; name = name; ended = ended };
   }
 
+  -- what is known of the server is as it was
+  pub server_same : {old new : Relay S} → new.coming ≡ old.coming → new.to_server ≡ old.to_server →
+      new.presence ≡ old.presence → new.server_name ≡ old.server_name → new.passed ≡ old.passed →
+      KeepsServer old new
+  server_same coming waits presence name passed =
+      record { coming = coming; waits = waits; presence = presence; name = name; passed = passed }
+
   -- the server's viewer was taken, and all else is as it was
   pub viewer_taken : {old new : Relay S} → new.coming ≡ None → new.console ≡ old.console →
       new.to_server ≡ old.to_server → new.presence ≡ old.presence → new.server_name ≡ old.server_name →

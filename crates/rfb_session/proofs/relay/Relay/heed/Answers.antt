@@ -1,7 +1,7 @@
 use Rattle.std.proofs.Common.{◌∙◌, refl, sym, subst, inl}
 use Rattle.rfb_session.specs.declared.console.desk.Desk.{Desk}
 use Rattle.rfb_session.specs.relay.Desk.{TellsSome, told_of_server}
-use Rattle.rfb_session.proofs.RelayStepLemmas.{same_value, side_same}
+use Rattle.rfb_session.proofs.RelayStepLemmas.{same_value, server_same, side_same}
 use Rattle.rfb_session.proofs.relay.Relay.heed.Goals as goal
 
 pub returns-in-Ok-clause-heeds : goal.returns-in-Ok-clause-heeds
@@ -13,6 +13,6 @@ returns-in-Ok-clause-heeds g c = record {
         (sym (same_value c.in-Some.desk a (sym c.in-Some.is ∙ is))) c.in-Ok.ensures,
     refl,
   );
-  server = record { coming = refl; waits = refl; presence = refl; name = refl; passed = refl };
+  server = server_same refl refl refl refl refl;
   side = side_same _ _ refl refl refl refl refl (λ was. was);
 }

@@ -4,7 +4,7 @@ use Rattle.rfb_session.specs.Mirrors.{StandsOrFailed}
 use Rattle.rfb_session.specs.declared.console.desk.Desk.{Desk}
 use Rattle.rfb_session.specs.relay.Server.{NoRoomToShow, OpenedAgain, Opens}
 use Rattle.rfb_session.proofs.RelayShowLemmas.{opens_kept, ups_so}
-use Rattle.rfb_session.proofs.RelayStepLemmas.{side_same}
+use Rattle.rfb_session.proofs.RelayStepLemmas.{server_same, side_same}
 use Rattle.rfb_session.proofs.relay.Relay.open.Goals as goal
 
 pub open_anew-requires-clause-stands : goal.open_anew-requires-clause-stands
@@ -17,7 +17,7 @@ returns-in-None-clause-opens g c =
       desk = refl;
       outcome = refl;
       side = side_same _ _ refl refl refl refl refl (λ was. was);
-      server = record { coming = refl; waits = refl; presence = refl; name = refl; passed = refl };
+      server = server_same refl refl refl refl refl;
     }) refl c.open_first.ensures.opens
 
 pub returns-in-Ok-clause-opens : goal.returns-in-Ok-clause-opens
@@ -37,5 +37,5 @@ returns-in-Err-clause-opens g c =
       desk = ap (λ (d : Desk). Some d) refused.1 ∙ sym c.in-Some.is;
       outcome = refl;
       side = side_same _ _ refl refl refl refl refl (λ was. was);
-      server = record { coming = refl; waits = refl; presence = refl; name = refl; passed = refl };
+      server = server_same refl refl refl refl refl;
     }) refl c.open_anew.ensures.opens)

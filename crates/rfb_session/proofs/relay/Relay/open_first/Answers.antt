@@ -4,13 +4,12 @@ use Rattle.rfb_session.specs.relay.Desk.{IsOver, IsShareOf}
 use Rattle.rfb_session.specs.relay.Server.{NoPicture, Opened}
 use Rattle.rfb_session.specs.relay.Setup.{name_by}
 use Rattle.rfb_session.proofs.RelayShowLemmas.{share_named, still_here}
+use Rattle.rfb_session.proofs.RelayStepLemmas.{server_same}
 use Rattle.rfb_session.proofs.relay.Relay.open_first.Goals as goal
 
 pub returns-in-Err-clause-opens : goal.returns-in-Err-clause-opens
 returns-in-Err-clause-opens g c =
-    NoPicture _ _
-    (still_here _ _ refl record { coming = refl; waits = refl; presence = refl; name = refl; passed = refl })
-    c.lose_server.ensures.loses
+    NoPicture _ _ (still_here _ _ refl (server_same refl refl refl refl refl)) c.lose_server.ensures.loses
 
 pub returns-in-Ok-over-clause-opens : goal.returns-in-Ok-over-clause-opens
 returns-in-Ok-over-clause-opens g c =
