@@ -52,7 +52,7 @@ some_of (suc m) n some = inl (omega arith)
 
 -- ---- turns
 
--- bytes passed at one door: of what was written over, what is so of them there, and of none elsewhere, is so at each
+-- what is so of the bytes that passed at one door, and of no bytes, is so at each door
 passed_at : {D : Type 0} (known : D → Option (List ℕ))
     (R : Option (List ℕ) → Option (List ℕ) → List ℕ → Type 0) (bytes : ℕ → List ℕ) (doors : List D)
     (door : ℕ) (any device' : D) → door < length doors →

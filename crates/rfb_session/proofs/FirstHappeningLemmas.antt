@@ -34,7 +34,7 @@ module _ {C : Type 0} (steps : Stepping C) (opens : Opening C) (declines : Decli
   first_of old new (Opened door from) more goes = goes
   first_of old new (Declined from) more goes = goes
 
-  -- what was so before each that leaves it so was so before all of them
+  -- what was so before each thing, if it is so after it, was so before all of them, if it is so after them
   pub so_before : (P : C → Type 0) →
       ((old : C) (h : Happening) (new : C) → HappensBy old h new → P new → P old) →
       (old new : C) (happenings : List Happening) → Goes steps opens declines old happenings new → P new → P old

@@ -124,7 +124,7 @@ if_viewer o P viewer is so = subst (λ (x : Option Viewer). IfSome x P) (sym is)
 
 -- ---- a viewer that was fed
 
--- the share is told of what came to a viewer that was fed, where the picture keeps its size
+-- the seats are told of what came to a viewer that was fed, where its picture keeps its size
 relays_fed : (old new : Share) (was now : Mirror) (fed : Viewer) → old.screen ≡ Seen was →
     new.screen ≡ Seen now → serving_in new ≡ serving_with old.offer (screen_of new).width (screen_of new).height
     old.name.items old.text_limit → IsAsked fed now.viewer → IsAlike (seen_by fed) (seen_by was.viewer) →

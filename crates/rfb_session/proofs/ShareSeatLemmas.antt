@@ -169,7 +169,7 @@ heard_update old new bytes told is written going fed made hints some =
     (none_after old.session new.session old.waiting bytes told going fed
     (λ point. update_has_none point old.waiting some) old.roomy) going fed made hints
 
--- what is left of a session that was fed fits after an update that is kept
+-- what is left of the answers of a session that was fed fits, where an update waits
 pub update_fits : (old : ShareSeat) (new : Session) (bytes : List ℕ) (event : Option ServerTold) (same : Type 0)
     {A : Type 0} (result : Result A LateFault) (a : A) →
     ((fault : ServerFault) → session_fault old.session ≡ Some fault →

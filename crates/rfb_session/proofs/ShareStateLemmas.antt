@@ -30,7 +30,7 @@ pub record IsSound (screen : Screen) (seats : List (Option ShareSeat)) (stirred 
   pub rest : OthersRest (shown_on screen) seats stirred
 
 module _ (s : Share) where
-  -- it is told which screen it has
+  -- its screen is the one that is named
   pub sound_seen : (screen : Screen) → s.screen ≡ screen → IsSound screen s.seats s.stirred
   sound_seen screen is =
       subst (λ (x : Screen). IsSound x s.seats s.stirred) is
@@ -59,7 +59,7 @@ module _ (s : Share) where
         (sym (at_slot s.seats place d within) ∙ is)
 
     module _ (slot : Option ShareSeat) where
-      -- another sits at a place, whose session follows the screen; the set is one in which the others rest
+      -- another sits at a place: its session follows the screen, and who is not in the set rests
       pub sound_put : (stirred : ℕ) → ForSome slot (λ seat. Follows (shown_on s.screen) seat.session) →
           OthersRest (shown_on s.screen) (set s.seats place slot) stirred →
           IsSound s.screen (set s.seats place slot) stirred

@@ -1,6 +1,7 @@
 use Rattle.std.proofs.Common.{◌≡◌, ◌≤◌, ◌∙◌, Option, Some, refl, rules, sym, ap, subst, ℕ}
 use Rattle.rfb_pixel.specs.declared.colour.Colour.{Colour}
 use Rattle.rfb_picture.specs.Grid.{Grid}
+use Rattle.rfb_codec.specs.Effect.{IsAlike}
 use Rattle.rfb_viewer.specs.Damage.{damage_of, IsSameOutside}
 use Rattle.rfb_viewer.specs.Moved.{moved_of}
 use Rattle.rfb_session.specs.declared.share.screen.Screen.{Screen}
@@ -56,9 +57,18 @@ invariant_of-self-2 c =
 
 pub returns : goal.returns
 returns c =
+    let s = c.args.self.now in
+    let m = c.in-Seen.mirror in
     let f = c.feed-fed in
+    let e = c.feed-fed.ensures in
     let r = c.relay-is_told in
-    let both = fed_so c.args.self.now _ c.in-Seen.mirror r.new.mirror c.args.bytes.now f.new.self.viewer f.result
-    c.in-Seen.is refl refl r.ensures.asked (record { columns = f.ensures.columns; rows = f.ensures.rows })
-    r.ensures.told f.ensures.takes f.ensures.fails in
-    record { none = search rules; kept = search rules; fed = both.0; refused = both.1 }
+    let alike : IsAlike (seen_by f.new.self.viewer) (seen_by m.viewer) =
+    record { columns = e.columns; rows = e.rows } in
+    record {
+      none = search rules;
+      kept = search rules;
+      fed = (fed_so s _ m r.new.mirror c.args.bytes.now f.new.self.viewer f.result c.in-Seen.is refl refl
+          r.ensures.asked alike r.ensures.told e.takes e.fails).0;
+      refused = (fed_so s _ m r.new.mirror c.args.bytes.now f.new.self.viewer f.result c.in-Seen.is refl refl
+          r.ensures.asked alike r.ensures.told e.takes e.fails).1;
+    }
