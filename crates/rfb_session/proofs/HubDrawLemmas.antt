@@ -1,6 +1,7 @@
 -- Drawings on the screen of a hub, and hints.
-use Rattle.std.proofs.Common.{◌≡◌, ◌<◌, nat_eq, ℕ, false, List, length, set, All, Option, Some, None, inl, inr}
-use Rattle.std.proofs.Common.{refl, sym, ap, ◌∙◌, subst}
+use Rattle.std.proofs.Common.{◌≡◌, ◌<◌, ◌≤◌, nat_eq, ℕ, false, List, length, set, All, Option, Some, None, inl, inr}
+use Rattle.std.proofs.Common.{refl, sym, ap, ◌∙◌, subst, arith}
+use Rattle.std.proofs.lemmas.List.{length-set}
 use Rattle.std.specs.Option.{ForSome}
 use Rattle.rfb_pixel.specs.declared.colour.Colour.{Colour}
 use Rattle.rfb_picture.specs.declared.rect.Rect.{Rect}
@@ -55,6 +56,26 @@ pub emptied_follow : (screen : Grid Colour) (old new : List (Option HubSeat)) (o
     ((k : ℕ) → nat_eq k own ≡ false → seat_at k new ≡ None) → EachFollows screen new
 emptied_follow screen old new own follow same emptied =
     all_emptied (λ seat. seat.link.session) screen old new own follow same emptied
+
+-- what a hub keeps of its parts, with these slots
+abbrev pub KeepsHub : Hub → List (Option HubSeat) → Type 0
+KeepsHub hub slots = record {
+  eight : length slots ≡ 8;
+  columns : hub.screen.width ≤ 4096;
+  rows : hub.screen.height ≤ 4096;
+  follow : EachFollows hub.screen slots
+}
+
+-- it keeps it where one slot is set
+pub one_set : (hub : Hub) (i : ℕ) (x : Option HubSeat) → i < 8 →
+    ((seat : HubSeat) → x ≡ Some seat → Follows hub.screen seat.link.session) →
+    KeepsHub hub (set hub.slots i x)
+one_set hub i x low one = record {
+  eight = length-set hub.slots i x ∙ hub.eight;
+  columns = hub.columns;
+  rows = hub.rows;
+  follow = set_follow hub.screen hub.slots i x (omega (arith, low, hub.eight)) hub.follow one;
+}
 
 -- ---- what it is made with
 

@@ -1,11 +1,10 @@
 use Rattle.std.proofs.Common.{◌≡◌, ◌<◌, length, List, ℕ, sym, refl, ◌∙◌, subst, arith}
-use Rattle.std.proofs.lemmas.List.{length-set}
 use Rattle.rfb_server.specs.declared.session.Session.{Session}
 use Rattle.rfb_server.specs.KnownScreen.{Follows}
 use Rattle.rfb_session.specs.declared.hub.event.HubEvent.TheVariants.{Foreign}
 use Rattle.rfb_session.specs.HubSeats.{TakesForeign}
 use Rattle.rfb_session.specs.HubSteps.{Fed}
-use Rattle.rfb_session.proofs.HubDrawLemmas.{set_follow}
+use Rattle.rfb_session.proofs.HubDrawLemmas.{one_set}
 use Rattle.rfb_session.proofs.HubSlotLemmas.{taken_in}
 use Rattle.rfb_session.proofs.SlotLemmas.{at_slot, each_seat, on_seat, seat_set_same, seat_set_other}
 use Rattle.rfb_session.proofs.HubStepLemmas.{foreign_steps}
@@ -15,18 +14,14 @@ pub invariant_of-self : goal.invariant_of-self
 invariant_of-self c =
     let s = c.args.self.now in
     let within : c.args.slot < length s.slots = omega (arith, c.if-place-ge-SLOTS.false, s.eight) in
-    record {
-      eight = length-set s.slots c.args.slot c.take_foreign.new.slot ∙ s.eight;
-      columns = s.columns;
-      rows = s.rows;
-      follow = set_follow s.screen s.slots c.args.slot c.take_foreign.new.slot within s.follow
-          (λ seat is.
-          let one = on_seat (λ a b. b.link.session ≡ a.link.session) _ c.take_foreign.new.slot seat
-          c.take_foreign.ensures.session is in
-          subst (λ (x : Session). Follows s.screen x) (sym one.2)
-          (each_seat (λ y. Follows s.screen y.link.session) s.slots s.follow c.args.slot one.0
-          (sym (at_slot s.slots c.args.slot _ within) ∙ one.1)));
-    }
+    one_set s c.args.slot c.take_foreign.new.slot c.if-place-ge-SLOTS.false
+    (λ seat is.
+    let one = on_seat (λ a b. b.link.session ≡ a.link.session) _ c.take_foreign.new.slot seat
+    c.take_foreign.ensures.session is in
+    subst (λ (x : Session). Follows s.screen x) (sym one.2)
+    (each_seat (λ y. Follows s.screen y.link.session) s.slots s.follow c.args.slot one.0
+    (sym (at_slot s.slots c.args.slot _ within) ∙ one.1)))
+
 
 pub returns-clause-steps : goal.returns-clause-steps
 returns-clause-steps c =

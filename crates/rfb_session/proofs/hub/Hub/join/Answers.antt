@@ -1,7 +1,6 @@
 use Rattle.std.proofs.Common.{◌<◌, length, sym, refl, ◌∙◌, arith}
-use Rattle.std.proofs.lemmas.List.{length-set}
 use Rattle.rfb_session.specs.HubSteps.{Taken, Joined}
-use Rattle.rfb_session.proofs.HubDrawLemmas.{set_follow}
+use Rattle.rfb_session.proofs.HubDrawLemmas.{one_set}
 use Rattle.rfb_session.proofs.HubSlotLemmas.{same_follows}
 use Rattle.rfb_session.proofs.SlotLemmas.{not_taken, taken_by, seat_set_same, seat_set_other}
 use Rattle.rfb_session.proofs.HubStepLemmas.{join_steps}
@@ -18,16 +17,10 @@ returns-then-taken-clause-steps c =
 
 pub invariant_of-self : goal.invariant_of-self
 invariant_of-self c =
-    let s = c.args.self.now in
-    let within : c.args.slot < length s.slots = omega (arith, c.if-wanted-ge-SLOTS.false, s.eight) in
-    record {
-      eight = length-set s.slots c.args.slot c.seat_in.new.slot ∙ s.eight;
-      columns = s.columns;
-      rows = s.rows;
-      follow = set_follow s.screen s.slots c.args.slot c.seat_in.new.slot within s.follow
-          (λ seat is. same_follows s.screen c.seat_in.new.slot _ seat c.seat_in.ensures is
-          c.in_ok-seat.ensures.follows);
-    }
+    one_set c.args.self.now c.args.slot c.seat_in.new.slot c.if-wanted-ge-SLOTS.false
+    (λ seat is. same_follows c.args.self.now.screen c.seat_in.new.slot _ seat c.seat_in.ensures is
+    c.in_ok-seat.ensures.follows)
+
 
 pub returns-clause-steps : goal.returns-clause-steps
 returns-clause-steps c =

@@ -1,8 +1,7 @@
 use Rattle.std.proofs.Common.{◌<◌, length, sym, refl, ap, ◌∙◌, arith}
-use Rattle.std.proofs.lemmas.List.{length-set}
 use Rattle.rfb_session.specs.Slots.{is_taken}
 use Rattle.rfb_session.specs.HubSteps.{Left}
-use Rattle.rfb_session.proofs.HubDrawLemmas.{set_follow}
+use Rattle.rfb_session.proofs.HubDrawLemmas.{one_set}
 use Rattle.rfb_session.proofs.HubSlotLemmas.{none_follows}
 use Rattle.rfb_session.proofs.SlotLemmas.{at_slot, taken_by, seat_set_same, seat_set_other}
 use Rattle.rfb_session.proofs.HubStepLemmas.{leave_steps}
@@ -10,15 +9,9 @@ use Rattle.rfb_session.proofs.hub.Hub.leave.Goals as goal
 
 pub invariant_of-self : goal.invariant_of-self
 invariant_of-self c =
-    let s = c.args.self.now in
-    let within : c.args.slot < length s.slots = omega (arith, c.if-place-ge-SLOTS.false, s.eight) in
-    record {
-      eight = length-set s.slots c.args.slot c.empty.new.slot ∙ s.eight;
-      columns = s.columns;
-      rows = s.rows;
-      follow = set_follow s.screen s.slots c.args.slot c.empty.new.slot within s.follow
-          (λ seat is. none_follows s.screen c.empty.new.slot seat c.empty.ensures.empty is);
-    }
+    one_set c.args.self.now c.args.slot c.empty.new.slot c.if-place-ge-SLOTS.false
+    (λ seat is. none_follows c.args.self.now.screen c.empty.new.slot seat c.empty.ensures.empty is)
+
 
 pub returns : goal.returns
 returns c =

@@ -1,9 +1,8 @@
 use Rattle.std.proofs.Common.{◌<◌, ℕ, length, set, Some, sym, refl, ap, ◌∙◌, arith}
-use Rattle.std.proofs.lemmas.List.{length-set}
 use Rattle.rfb_server.specs.KnownScreen.{Follows}
 use Rattle.rfb_picture.specs.Places.{has_bit}
 use Rattle.rfb_session.specs.declared.hub.seat.HubSeat.{HubSeat}
-use Rattle.rfb_session.proofs.HubDrawLemmas.{set_follow, emptied_follow}
+use Rattle.rfb_session.proofs.HubDrawLemmas.{one_set, emptied_follow}
 use Rattle.rfb_session.proofs.HubSameLemmas.{hub_back}
 use Rattle.rfb_session.proofs.HubSlotLemmas.{does_in}
 use Rattle.rfb_session.proofs.SlotLemmas.{stays_clear, at_slot, each_seat, ends_sole, ends_none, stays_emptied}
@@ -20,43 +19,27 @@ happen_in-requires-clause-follows c =
 
 pub invariant_of-self : goal.invariant_of-self
 invariant_of-self c =
-    let s = c.args.self.now in
-    let within : c.args.slot < length s.slots = omega (arith, c.if-place-ge-SLOTS.false, s.eight) in
-    record {
-      eight = length-set s.slots c.args.slot c.happen_in.new.slot ∙ s.eight;
-      columns = s.columns;
-      rows = s.rows;
-      follow = set_follow s.screen s.slots c.args.slot c.happen_in.new.slot within s.follow
-          c.happen_in.ensures.follows;
-    }
+    one_set c.args.self.now c.args.slot c.happen_in.new.slot c.if-place-ge-SLOTS.false c.happen_in.ensures.follows
+
 
 pub invariant_of-self-in-None : goal.invariant_of-self-in-None
 invariant_of-self-in-None c =
-    let s = c.args.self.now in
-    let within : c.args.slot < length s.slots = omega (arith, c.if-place-ge-SLOTS.false, s.eight) in
-    record {
-      eight = length-set s.slots c.args.slot c.happen_in.new.slot ∙ s.eight;
-      columns = s.columns;
-      rows = s.rows;
-      follow = set_follow s.screen s.slots c.args.slot c.happen_in.new.slot within s.follow
-          c.happen_in.ensures.follows;
-    }
+    one_set c.args.self.now c.args.slot c.happen_in.new.slot c.if-place-ge-SLOTS.false c.happen_in.ensures.follows
+
 
 pub invariant_of-self-then-delivery : goal.invariant_of-self-then-delivery
 invariant_of-self-then-delivery c =
     let s = c.args.self.now in
-    let within : c.args.slot < length s.slots = omega (arith, c.if-place-ge-SLOTS.false, s.eight) in
+    let was = one_set s c.args.slot c.happen_in.new.slot c.if-place-ge-SLOTS.false c.happen_in.ensures.follows in
     record {
-      eight = c.empty_others-ended.ensures.size
-          ∙ (length-set s.slots c.args.slot c.happen_in.new.slot ∙ s.eight);
+      eight = c.empty_others-ended.ensures.size ∙ was.eight;
       columns = s.columns;
       rows = s.rows;
       follow = emptied_follow s.screen (set s.slots c.args.slot c.happen_in.new.slot)
-          c.empty_others-ended.new.slots c.args.slot
-          (set_follow s.screen s.slots c.args.slot c.happen_in.new.slot within s.follow
-          c.happen_in.ensures.follows) c.empty_others-ended.ensures.own
+          c.empty_others-ended.new.slots c.args.slot was.follow c.empty_others-ended.ensures.own
           c.empty_others-ended.ensures.others;
     }
+
 
 pub returns-then-delivery-clause-steps : goal.returns-then-delivery-clause-steps
 returns-then-delivery-clause-steps c =
@@ -81,15 +64,8 @@ returns-then-delivery-clause-steps c =
 
 pub invariant_of-self-else-delivery : goal.invariant_of-self-else-delivery
 invariant_of-self-else-delivery c =
-    let s = c.args.self.now in
-    let within : c.args.slot < length s.slots = omega (arith, c.if-place-ge-SLOTS.false, s.eight) in
-    record {
-      eight = length-set s.slots c.args.slot c.happen_in.new.slot ∙ s.eight;
-      columns = s.columns;
-      rows = s.rows;
-      follow = set_follow s.screen s.slots c.args.slot c.happen_in.new.slot within s.follow
-          c.happen_in.ensures.follows;
-    }
+    one_set c.args.self.now c.args.slot c.happen_in.new.slot c.if-place-ge-SLOTS.false c.happen_in.ensures.follows
+
 
 pub returns-else-delivery-clause-steps : goal.returns-else-delivery-clause-steps
 returns-else-delivery-clause-steps c =
