@@ -45,21 +45,6 @@ reached_stroke e old new s r step = record {
 -- ---- a world
 
 -- what its link does over its screen, a world does
-pub link_does : (old new : World) (event : Event) (told : Told) →
-    LinkDoes old.link event told new.link → new.screen ≡ old.screen → new.closed ≡ old.closed →
-    Does old event told new
-link_does old new event told does screens closed = λ e n made reached stands.
-    let one = does e n made reached stands.link_is in (
-      one.0,
-      one.1,
-      one.2,
-      record {
-        goes_on = closed ∙ stands.goes_on;
-        screen_is = one.3 ∙ (stands.screen_is ∙ sym screens);
-        link_is = subst (λ (g : Grid Colour). LinkStandsFor e g new.link one.0.link) (sym one.3) one.4;
-      },
-    )
-
 pub link_does_over : (old new : World) (event : Event) (told : Told) →
     LinkDoesOver old.screen old.link event told new.link → new.screen ≡ old.screen →
     new.closed ≡ old.closed → Does old event told new
@@ -74,6 +59,12 @@ link_does_over old new event told does screens closed = λ e n made reached stan
         link_is = subst (λ (g : Grid Colour). LinkStandsFor e g new.link one.0.link) (sym one.3) one.4;
       },
     )
+
+-- and what it does over every screen
+pub link_does : (old new : World) (event : Event) (told : Told) →
+    LinkDoes old.link event told new.link → new.screen ≡ old.screen → new.closed ≡ old.closed →
+    Does old event told new
+link_does old new event told does = link_does_over old new event told (λ e n made reached over. does e n made reached)
 
 pub fresh_world : (e : Ends) (screen : Grid Colour) (w : World) → w.closed ≡ false →
     screen ≡ w.screen → LinkStandsFor e screen w.link (first_link e) →
