@@ -19,6 +19,16 @@ use Rattle.rfb_session.proofs.FlightLemmas.{viewer_moved, server_moved, viewer_g
 
 module _ {S V : Type 0} (serves_as : Serving → S → ServerState → List ℕ → Type 0)
     (shows_as : Viewing → V → ViewerState → List ℕ → Type 0) where
+  -- what is in flight between two ends that stand for a state
+  abbrev in_flight : {e : Ends} {screen : Grid Colour} {s : S} {v : V} {to_server to_viewer : List ℕ} {l : LinkState} →
+      Carries serves_as shows_as e screen s v to_server to_viewer l → Flight
+  in_flight {e} {screen} {s} {v} {to_server} {to_viewer} c = record {
+    viewer_has = c.viewer_has;
+    viewer_gets = to_viewer;
+    server_has = c.server_has;
+    server_gets = to_server;
+  }
+
   -- the viewer was fed what came first of what is in flight to it
   pub viewer_fed : (e : Ends) (screen : Grid Colour) (s : S) (old new : V)
       (to_server bytes later : List ℕ) (event : Option ViewerTold) (l : LinkState) →
@@ -29,15 +39,8 @@ module _ {S V : Type 0} (serves_as : Serving → S → ServerState → List ℕ 
       × Carries serves_as shows_as e screen s new (to_server ++ viewer_reply event) later m
   viewer_fed e screen s old new to_server bytes later event l made h c fed =
       let one = fed l.viewer c.viewer_has c.viewer_is in
-      let f : Flight =
-      record {
-        viewer_has = c.viewer_has;
-        viewer_gets = bytes ++ later;
-        server_has = c.server_has;
-        server_gets = to_server;
-      } in
       let moved =
-      viewer_moved e screen l f bytes later one.1 event one.0 made h c.flies refl one.3 in (
+      viewer_moved e screen l (in_flight c) bytes later one.1 event one.0 made h c.flies refl one.3 in (
         moved.new,
         moved.moves,
         holds_to_viewer e screen l moved.new
@@ -64,14 +67,7 @@ module _ {S V : Type 0} (serves_as : Serving → S → ServerState → List ℕ 
       Carries serves_as shows_as e screen s old to_server (bytes ++ later) l →
       RefusedBy (viewer e.viewing) (shows_as e.viewing) old bytes fault → ⊥
   viewer_keeps e screen s old to_server bytes later fault l c refused =
-      let f : Flight =
-      record {
-        viewer_has = c.viewer_has;
-        viewer_gets = bytes ++ later;
-        server_has = c.server_has;
-        server_gets = to_server;
-      } in
-      viewer_good e l f bytes later fault c.flies refl (refused l.viewer c.viewer_has c.viewer_is)
+      viewer_good e l (in_flight c) bytes later fault c.flies refl (refused l.viewer c.viewer_has c.viewer_is)
 
   -- the server was fed what came first of what is in flight to it
   pub server_fed : (e : Ends) (screen : Grid Colour) (old new : S) (v : V)
@@ -83,15 +79,8 @@ module _ {S V : Type 0} (serves_as : Serving → S → ServerState → List ℕ 
       × Carries serves_as shows_as e screen new v later (to_viewer ++ server_reply event) m
   server_fed e screen old new v bytes later to_viewer event l made h c fed =
       let one = fed (server_of screen l.session) c.server_has c.server_is in
-      let f : Flight =
-      record {
-        viewer_has = c.viewer_has;
-        viewer_gets = to_viewer;
-        server_has = c.server_has;
-        server_gets = bytes ++ later;
-      } in
       let moved =
-      server_moved e screen l f bytes later one.1 event one.0 made h c.flies refl one.3 in (
+      server_moved e screen l (in_flight c) bytes later one.1 event one.0 made h c.flies refl one.3 in (
         moved.new,
         moved.moves,
         holds_to_server e screen l moved.new
@@ -118,12 +107,5 @@ module _ {S V : Type 0} (serves_as : Serving → S → ServerState → List ℕ 
       Carries serves_as shows_as e screen old v (bytes ++ later) to_viewer l →
       RefusedBy (server e.serving) (serves_as e.serving) old bytes fault → ⊥
   server_keeps e screen old v bytes later to_viewer fault l c refused =
-      let f : Flight =
-      record {
-        viewer_has = c.viewer_has;
-        viewer_gets = to_viewer;
-        server_has = c.server_has;
-        server_gets = bytes ++ later;
-      } in
-      server_good e screen l f bytes later fault c.flies refl
+      server_good e screen l (in_flight c) bytes later fault c.flies refl
       (refused (server_of screen l.session) c.server_has c.server_is)
