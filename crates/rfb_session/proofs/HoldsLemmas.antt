@@ -4,6 +4,7 @@ use Rattle.std.proofs.Common.{append-nil, append_assoc}
 use Rattle.rfb_pixel.specs.declared.colour.Colour.{Colour}
 use Rattle.rfb_pixel.specs.Format.{PixelFormat}
 use Rattle.rfb_picture.specs.Grid.{Grid, at_or}
+use Rattle.rfb_picture.proofs.GridLaws.{width-uniform, height-uniform}
 use Rattle.rfb_wire.specs.stream.Sequel.{First, Second}
 use Rattle.rfb_wire.specs.stream.End.{acts}
 use Rattle.rfb_wire.specs.ClientMessage.{SetPixelFormat, SetEncodings, FramebufferUpdateRequest, KeyEvent, PointerEvent}
@@ -21,7 +22,6 @@ use Rattle.rfb_session.proofs.PhaseLemmas.{Core, core, Phase, Greeting, Versione
 use Rattle.rfb_session.proofs.PhaseLemmas.{Chosen, Sharing, Begun, Named, Idling, Asking, Held, Sent}
 use Rattle.rfb_session.proofs.ShowingLemmas.{shown, phase_shown}
 use Rattle.rfb_session.proofs.ServedLemmas.{served, phase_served, no_answer}
-use Rattle.rfb_session.proofs.SizeLemmas.{width-uniform, height-uniform}
 
 -- what the viewer shows once all that is in flight has reached it
 abbrev pub due : Ends → Core → Option (Grid Colour)

@@ -24,7 +24,6 @@ pub mod EventCallLemmas
 pub mod HappeningLemmas
 pub mod ComposedLemmas
 pub mod CalledLemmas
-pub mod SizeLemmas
 pub mod RunLemmas
 pub mod RunLaws
 pub mod SlotLemmas

@@ -2,6 +2,7 @@
 use Rattle.std.proofs.Common.{◌≡◌, ℕ, [], map, None, inl, inr, refl, sym, ap, ◌∙◌, subst}
 use Rattle.rfb_pixel.specs.declared.colour.Colour.{Colour}
 use Rattle.rfb_picture.specs.Grid.{Grid, changed}
+use Rattle.rfb_picture.proofs.GridLaws.{width-changed, height-changed, width-uniform, height-uniform}
 use Rattle.rfb_wire.specs.ClientMessage.{SetEncodings as EncodingsMessage, KeyEvent, PointerEvent, ClientCutText}
 use Rattle.rfb_wire.specs.Encoding.{number_of}
 use Rattle.rfb_wire.specs.stream.Sequel.{First, Second}
@@ -26,7 +27,6 @@ use Rattle.rfb_session.proofs.PhaseLemmas.{Chosen, Sharing, Begun, Named, Idling
 use Rattle.rfb_session.proofs.HoldsLemmas.{Holds, holds_to_viewer, holds_to_server}
 use Rattle.rfb_session.proofs.DueLemmas.{holds_composed}
 use Rattle.rfb_session.proofs.CallLemmas.{holds_mere, holds_request, holds_format}
-use Rattle.rfb_session.proofs.SizeLemmas.{width-changed, height-changed, width-uniform, height-uniform}
 
 -- each step of a link
 pub link_holds : (e : Ends) (screen : Grid Colour) (old new : LinkState) (event : LinkEvent) →

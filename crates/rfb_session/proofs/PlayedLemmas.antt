@@ -3,6 +3,7 @@ use Rattle.std.proofs.Common.{ℕ, ◌*◌, ◌≤◌, List, [], arith}
 use Rattle.std.proofs.lemmas.Nat.{mul-le}
 use Rattle.rfb_pixel.proofs.FormatLaws.{rgb888-is_format}
 use Rattle.rfb_picture.specs.Grid.{uniform}
+use Rattle.rfb_picture.proofs.GridLaws.{width-uniform, height-uniform}
 use Rattle.rfb_server.specs.declared.server.Server.{Server}
 use Rattle.rfb_server.specs.Server.{black, first_server}
 use Rattle.rfb_server.specs.Model.{StandsFor as ServerStandsFor}
@@ -16,7 +17,6 @@ use Rattle.rfb_session.specs.InFlight.{AreMade}
 use Rattle.rfb_session.specs.World.{StandsFor, AreFresh, Reaches, NeitherFailed, first_network}
 use Rattle.rfb_session.specs.Played.{ends_for, Played}
 use Rattle.rfb_session.proofs.NetworkLemmas.{first_reached}
-use Rattle.rfb_session.proofs.SizeLemmas.{width-uniform, height-uniform}
 
 made_for : (width height : ℕ) → 1 ≤ width → width ≤ 4096 → 1 ≤ height → height ≤ 4096 →
     AreMade (ends_for width height)

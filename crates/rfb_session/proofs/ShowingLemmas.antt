@@ -3,6 +3,7 @@ use Rattle.std.proofs.Common.{◌≡◌, ℕ, suc, Bool, true, false, List, [], 
 use Rattle.std.proofs.Common.{if◌then◌else◌, refl, sym, ap, ◌∙◌, subst, append-nil}
 use Rattle.rfb_pixel.specs.declared.colour.Colour.{Colour}
 use Rattle.rfb_picture.specs.Grid.{Grid, uniform}
+use Rattle.rfb_picture.proofs.GridLaws.{width-uniform, height-uniform, whole-uniform}
 use Rattle.rfb_wire.specs.stream.Sequel.{First, Second, past_in}
 use Rattle.rfb_codec.specs.UpdateStream.{UpdatePoint, UpdateItem, update_stream}
 use Rattle.rfb_codec.specs.Effect.{effect}
@@ -25,7 +26,6 @@ use Rattle.rfb_session.proofs.QueueLemmas.{width_kept, height_kept, last_leaves_
 use Rattle.rfb_session.proofs.PhaseLemmas.{Core, HasPicture, Stands, Meets, Sends, Phase, Greeting, Versioned, Typed}
 use Rattle.rfb_session.proofs.PhaseLemmas.{Choosing37, Choosing38, Chosen, Sharing, Begun, Named, Idling, Asking, Held}
 use Rattle.rfb_session.proofs.PhaseLemmas.{Sent, first_is, none_first}
-use Rattle.rfb_session.proofs.SizeLemmas.{width-uniform, height-uniform, whole-uniform}
 
 abbrev pub shown : Ends → Core → FromServer → List FromServer → Core
 shown e c item rest = record c {

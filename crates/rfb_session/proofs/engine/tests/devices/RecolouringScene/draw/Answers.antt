@@ -1,11 +1,11 @@
 use Rattle.std.proofs.Common.{◌≡◌, sym, refl, subst, OnOk, OnErr, Result, Ok, Err}
 use Rattle.rfb_pixel.specs.declared.colour.Colour.{Colour}
 use Rattle.rfb_picture.specs.Grid.{Grid}
+use Rattle.rfb_picture.proofs.GridLaws.{width-changed, height-changed}
 use Rattle.rfb_codec.specs.Effect.{IsAlike}
 use Rattle.rfb_server.specs.declared.server.Server.{Server}
 use Rattle.rfb_server.specs.declared.fault.Outside.{Outside}
 use Rattle.rfb_server.specs.Model.{Draws, screen_of}
-use Rattle.rfb_session.proofs.SizeLemmas.{width-changed, height-changed}
 use Rattle.rfb_session.proofs.engine.tests.devices.RecolouringScene.draw.Goals as goal
 
 -- a drawing that was refused, or has this screen, leaves the size
