@@ -1,6 +1,6 @@
 -- The words after the first of a line, by how many there are.
 use Rattle.std.proofs.Common.{◌≡◌, ◌∙◌, ◌+◌, ◌≤◌, ◌<◌, ℕ, zero, suc, List, [], ◌∷◌, ◌++◌, Option, None, Some}
-use Rattle.std.proofs.Common.{MatchOption}
+use Rattle.std.proofs.Common.{MatchOption, ◌⊎◌, inl, inr}
 use Rattle.std.proofs.lemmas.List.{length-map, length-reverse, take_all, take_more}
 use Rattle.std.proofs.lemmas.Bool.{lt-ltb}
 use Rattle.std.specs.Prelude.{OnOk, nat_lt, not, reverse}
@@ -17,7 +17,7 @@ use Rattle.rfb_session.specs.drive.Arguments.{ArePresses, GoInTurn, IsAt, IsAfte
 use Rattle.rfb_session.specs.drive.Arguments.{IsPlace, IsPress, IsWithin}
 use Rattle.rfb_session.specs.drive.Keys.{IsCombination, down, pressing, up}
 use Rattle.rfb_session.specs.language.Words.{texts}
-use Rattle.rfb_session.proofs.ArgumentLaws.{word}
+use Rattle.rfb_session.proofs.ArgumentLaws.{five_words, three_words, two_words, word}
 use Rattle.rfb_session.proofs.WordLaws.{texts_length}
 
 pub place_words : (words : List (Bor (List ℕ))) (d : Bor (List ℕ)) (r : Option Place) → length words ≡ 2 →
@@ -38,19 +38,14 @@ no_place x y none (Some place) is = none place is
 pub no_press_two : (words : List (Bor (List ℕ))) (d : Bor (List ℕ)) → length words ≡ 2 →
     ((place : Place) → ¬ (IsAt (word words 0 d) (word words 1 d) place)) → (press : Press) →
     ¬ (IsPress (texts words) press)
-no_press_two [] d len none press is = absurd (omega arith)
-no_press_two (a ∷ []) d len none press is = absurd (omega arith)
-no_press_two (a ∷ b ∷ []) d len none press is = no_place _ _ none press.at is.1
-no_press_two (a ∷ b ∷ c ∷ rest) d len none press is = absurd (omega arith)
+no_press_two words d len none press is =
+    no_place _ _ none press.at (subst (λ (l : List (List ℕ)). IsPress l press) (two_words words d len) is).1
 
 pub no_press_three : (words : List (Bor (List ℕ))) (d : Bor (List ℕ)) → length words ≡ 3 →
     ((place : Place) → ¬ (IsAt (word words 1 d) (word words 2 d) place)) → (press : Press) →
     ¬ (IsPress (texts words) press)
-no_press_three [] d len none press is = absurd (omega arith)
-no_press_three (a ∷ []) d len none press is = absurd (omega arith)
-no_press_three (a ∷ b ∷ []) d len none press is = absurd (omega arith)
-no_press_three (a ∷ b ∷ c ∷ []) d len none press is = no_place _ _ none press.at is.1
-no_press_three (a ∷ b ∷ c ∷ e ∷ rest) d len none press is = absurd (omega arith)
+no_press_three words d len none press is =
+    no_place _ _ none press.at (subst (λ (l : List (List ℕ)). IsPress l press) (three_words words d len) is).1
 
 -- ---- keys, a word after another
 
@@ -152,36 +147,20 @@ pub after_at : (at x y : List ℕ) (r : Option Place) → at ≡ codes "at" →
 after_at at x y None is read = λ place said. read place said.1
 after_at at x y (Some place) is read = (is, read)
 
-pub no_likeness_three : (words : List (Bor (List ℕ))) (d : Bor (List ℕ)) → length words ≡ 3 →
+-- words are no likeness where the first three tell no place, be they three or five
+pub no_likeness : (words : List (Bor (List ℕ))) (d : Bor (List ℕ)) → ((length words ≡ 3) ⊎ (length words ≡ 5)) →
     ((place : Place) → ¬ (IsAfterAt (word words 0 d) (word words 1 d) (word words 2 d) place)) → (likeness : Likeness) →
     ¬ (IsLikeness (texts words) likeness)
-no_likeness_three [] d len none likeness is = absurd (omega arith)
-no_likeness_three (a ∷ []) d len none likeness is = absurd (omega arith)
-no_likeness_three (a ∷ b ∷ []) d len none likeness is = absurd (omega arith)
-no_likeness_three (a ∷ b ∷ c ∷ []) d len none likeness is = none likeness.at is.0
-no_likeness_three (a ∷ b ∷ c ∷ e ∷ rest) d len none likeness is = absurd (omega arith)
-
-pub no_likeness_five : (words : List (Bor (List ℕ))) (d : Bor (List ℕ)) → length words ≡ 5 →
-    ((place : Place) → ¬ (IsAfterAt (word words 0 d) (word words 1 d) (word words 2 d) place)) → (likeness : Likeness) →
-    ¬ (IsLikeness (texts words) likeness)
-no_likeness_five [] d len none likeness is = absurd (omega arith)
-no_likeness_five (a ∷ []) d len none likeness is = absurd (omega arith)
-no_likeness_five (a ∷ b ∷ []) d len none likeness is = absurd (omega arith)
-no_likeness_five (a ∷ b ∷ c ∷ []) d len none likeness is = absurd (omega arith)
-no_likeness_five (a ∷ b ∷ c ∷ e ∷ []) d len none likeness is = absurd (omega arith)
-no_likeness_five (a ∷ b ∷ c ∷ e ∷ f ∷ []) d len none likeness is = none likeness.at is.0
-no_likeness_five (a ∷ b ∷ c ∷ e ∷ f ∷ g ∷ rest) d len none likeness is = absurd (omega arith)
+no_likeness words d (inl three) none likeness is =
+    none likeness.at (subst (λ (l : List (List ℕ)). IsLikeness l likeness) (three_words words d three) is).0
+no_likeness words d (inr five) none likeness is =
+    none likeness.at (subst (λ (l : List (List ℕ)). IsLikeness l likeness) (five_words words d five) is).0
 
 pub none_within_five : (words : List (Bor (List ℕ))) (d : Bor (List ℕ)) → length words ≡ 5 →
     ((within : ℕ) → ¬ (IsWithin (word words 3 d) (word words 4 d) within)) → (likeness : Likeness) →
     ¬ (IsLikeness (texts words) likeness)
-none_within_five [] d len none likeness is = absurd (omega arith)
-none_within_five (a ∷ []) d len none likeness is = absurd (omega arith)
-none_within_five (a ∷ b ∷ []) d len none likeness is = absurd (omega arith)
-none_within_five (a ∷ b ∷ c ∷ []) d len none likeness is = absurd (omega arith)
-none_within_five (a ∷ b ∷ c ∷ e ∷ []) d len none likeness is = absurd (omega arith)
-none_within_five (a ∷ b ∷ c ∷ e ∷ f ∷ []) d len none likeness is = none likeness.within is.1
-none_within_five (a ∷ b ∷ c ∷ e ∷ f ∷ g ∷ rest) d len none likeness is = absurd (omega arith)
+none_within_five words d len none likeness is =
+    none likeness.within (subst (λ (l : List (List ℕ)). IsLikeness l likeness) (five_words words d len) is).1
 
 pub unnot : (b : Bool) → false ≡ not b → b ≡ true
 unnot true e = refl

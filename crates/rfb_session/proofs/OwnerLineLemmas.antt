@@ -1,6 +1,6 @@
 -- Words of a line of the owner's: how many there are, numbers with a sign, and rectangles.
 use Rattle.std.proofs.Common.{◌↔◌, ◌==◌, Bool, Option, Some, None, IfSome, IsSome, MatchOption, zero}
-use Rattle.std.proofs.Common.{suc, inl, inr, T, pos, neg_ℤ, to_z, of_z, w16, ◌≡◌, ◌≢◌, ◌<◌, ◌≤◌, ◌+◌}
+use Rattle.std.proofs.Common.{suc, inl, inr, T, pos, neg_ℤ, to_z, of_z, w16, ◌≡◌, ◌≢◌, ◌<◌, ◌≤◌}
 use Rattle.std.proofs.Common.{◌∙◌, ap, sym, refl, subst, false, length, ℕ, ℤ, List, [], ◌∷◌, Bor}
 use Rattle.std.proofs.Common.{arith, codes}
 use Rattle.std.proofs.Math.Facts.{sfits_lit, to_z-of_z}
@@ -11,21 +11,17 @@ use Rattle.rfb_session.specs.declared.owner.order.OwnerLine.TheVariants.{Screen,
 use Rattle.rfb_session.specs.declared.owner.order.OwnerLine.TheVariants.{Scroll, Pixels, End, Hold, Show, Quit}
 use Rattle.rfb_session.specs.language.Words.{AreNumbers, AreRect, texts}
 use Rattle.rfb_session.specs.owner.Lines.{ArePlaces, AreScroll, IsShift, SaysNoOwner, SaysOwner}
-use Rattle.rfb_session.proofs.ArgumentLaws.{six_words, word}
+use Rattle.rfb_session.proofs.ArgumentLaws.{are_six, none_six, word}
 use Rattle.rfb_session.proofs.OwnerKeywordLemmas.{no_owner_words}
 use Rattle.rfb_session.proofs.WordLaws.{nothing, texts_length}
 
 -- ---- no line has nine words
 
-begins_length : (n : ℕ) (key : List ℕ) (words rest : List (List ℕ)) → words ≡ key ∷ rest → length rest ≤ n →
-    length words ≤ n + 1
-begins_length n key words rest e few = let s = ap (λ (l : List (List ℕ)). length l) e in omega (arith, s, few)
-
 pub too_many_owner_words : (words : List (List ℕ)) → 8 < length words → SaysNoOwner words
 too_many_owner_words words many = go
   where
     over : (key : List ℕ) (rest : List (List ℕ)) → words ≡ key ∷ rest → length rest ≤ 6 → ⊥
-    over key rest e few = let s = begins_length 6 key words rest e few in omega (arith, s, many)
+    over key rest e few = let s = ap (λ (l : List (List ℕ)). length l) e in omega (arith, s, few, many)
 
     go : (line : OwnerLine) → ¬ (SaysOwner words line)
     go (Screen size) said = over (codes "screen") said.0 said.1
@@ -68,29 +64,16 @@ scroll_is words rect dx dy said =
 pub is_scroll : (words : List (Bor (List ℕ))) (d : Bor (List ℕ)) → length words ≡ 6 → (rect : Rect) (dx dy : ℤ) →
     AreRect (word words 0 d) (word words 1 d) (word words 2 d) (word words 3 d) rect → IsShift (word words 4 d) dx →
     IsShift (word words 5 d) dy → AreScroll (texts words) rect (to_z w16 (of_z w16 dx)) (to_z w16 (of_z w16 dy))
-is_scroll words d len rect dx dy are columns rows = (
-  word words 0 d,
-  word words 1 d,
-  word words 2 d,
-  word words 3 d,
-  word words 4 d,
-  word words 5 d,
-  six_words words d len,
-  are,
-  shift_is _ dx columns,
-  shift_is _ dy rows,
-)
+is_scroll words d len rect dx dy are columns rows =
+    are_six (λ u. IsShift u (to_z w16 (of_z w16 dx))) (λ v. IsShift v (to_z w16 (of_z w16 dy))) words d len rect are
+    (shift_is _ dx columns) (shift_is _ dy rows)
 
 pub no_scroll : (words : List (Bor (List ℕ))) (d : Bor (List ℕ)) → length words ≡ 6 →
     ((rect : Rect) (dx dy : ℤ) → AreRect (word words 0 d) (word words 1 d) (word words 2 d) (word words 3 d) rect →
     IsShift (word words 4 d) dx → IsShift (word words 5 d) dy → ⊥) → (rect : Rect) (dx dy : ℤ) →
     ¬ (AreScroll (texts words) rect dx dy)
-no_scroll words d len none rect dx dy said =
-    let f = sym (six_words words d len) ∙ said.6 in
-    let e0 : word words 0 d ≡ said.0 = cc in let e1 : word words 1 d ≡ said.1 = cc in
-    let e2 : word words 2 d ≡ said.2 = cc in let e3 : word words 3 d ≡ said.3 = cc in
-    let e4 : word words 4 d ≡ said.4 = cc in let e5 : word words 5 d ≡ said.5 = cc in
-    none rect dx dy (rw (e0, e1, e2, e3) said.7) (rw e4 said.8) (rw e5 said.9)
+no_scroll words d len none rect dx dy =
+    none_six (λ u. IsShift u dx) (λ v. IsShift v dy) words d len rect (none rect dx dy)
 
 pub not_scroll : (words : List (Bor (List ℕ))) → length words ≢ 6 → (rect : Rect) (dx dy : ℤ) →
     ¬ (AreScroll (texts words) rect dx dy)

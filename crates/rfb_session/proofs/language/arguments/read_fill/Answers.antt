@@ -1,11 +1,11 @@
 use Rattle.std.proofs.Common.{arith, refl}
-use Rattle.rfb_session.proofs.ArgumentLaws.{is_fill, no_fill, not_fill}
+use Rattle.rfb_session.proofs.ArgumentLaws.{is_fill, no_fill, no_rect, not_fill}
 use Rattle.rfb_session.proofs.language.arguments.read_fill.Goals as goal
 
 pub returns-in_err-read_rect : goal.returns-in_err-read_rect
 returns-in_err-read_rect c =
     rw c.from_residual.ensures (no_fill c.args.words.now _ (omega arith)
-    (λ rect colour are is. let bad = c.in_err-read_rect.ensures.found.1 are.numbers in cc))
+    (λ rect colour are is. no_rect c.in_err-read_rect.ensures.found are))
 
 pub returns-in_err-read_colour : goal.returns-in_err-read_colour
 returns-in_err-read_colour c =

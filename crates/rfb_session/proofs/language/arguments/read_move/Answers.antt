@@ -1,11 +1,11 @@
 use Rattle.std.proofs.Common.{arith}
-use Rattle.rfb_session.proofs.ArgumentLaws.{is_move, no_move, not_move}
+use Rattle.rfb_session.proofs.ArgumentLaws.{is_move, no_move, no_rect, not_move}
 use Rattle.rfb_session.proofs.language.arguments.read_move.Goals as goal
 
 pub returns-in_err-read_rect : goal.returns-in_err-read_rect
 returns-in_err-read_rect c =
     rw c.from_residual.ensures (no_move c.args.words.now _ (omega arith)
-    (λ rect are column row. let bad = c.in_err-read_rect.ensures.found.1 are.numbers in cc))
+    (λ rect are column row. no_rect c.in_err-read_rect.ensures.found are))
 
 pub returns-in_err-read_number : goal.returns-in_err-read_number
 returns-in_err-read_number c =

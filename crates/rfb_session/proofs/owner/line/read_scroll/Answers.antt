@@ -1,4 +1,5 @@
 use Rattle.std.proofs.Common.{arith}
+use Rattle.rfb_session.proofs.ArgumentLaws.{no_rect}
 use Rattle.rfb_session.proofs.OwnerLineLemmas.{is_scroll, no_scroll, not_scroll}
 use Rattle.rfb_session.proofs.owner.line.read_scroll.Goals as goal
 
@@ -20,7 +21,7 @@ returns c =
 pub returns-in_err-read_rect : goal.returns-in_err-read_rect
 returns-in_err-read_rect c =
     rw c.from_residual.ensures (no_scroll c.args.words.now _ (omega arith)
-    (λ rect dx dy are columns rows. let bad = c.in_err-read_rect.ensures.found.1 are.numbers in cc))
+    (λ rect dx dy are columns rows. no_rect c.in_err-read_rect.ensures.found are))
 
 pub returns-in_default : goal.returns-in_default
 returns-in_default c = not_scroll c.args.words.now (λ e. omega (arith, e))
