@@ -13,102 +13,77 @@ use Rattle.rfb_session.specs.declared.language.drawing.DrawingLine.TheVariants a
 use Rattle.rfb_session.proofs.DrawingLineLemmas.{DrawNothing}
 use Rattle.rfb_session.proofs.WordLaws.{heads, nothing, other_word, same_word, tails, words_are}
 
--- two keywords that differ
-apart : (a b : List ℕ) (x y : List (List ℕ)) → bytes_eq a b ≡ false → a ∷ x ≡ b ∷ y → ⊥
-apart a b x y other e = other_word a b other (heads a b x y e)
-
 -- ---- the lines of a keyword
+
+-- the keyword that begins a line
+abbrev keyword_of : OwnerLine → List ℕ
+keyword_of (Screen size) = codes "screen"
+keyword_of (Fill rect colour) = codes "fill"
+keyword_of (Copy rect sx sy) = codes "copy"
+keyword_of (Hint rect sx sy) = codes "hint"
+keyword_of (Scroll rect dx dy) = codes "scroll"
+keyword_of (Pixels rect) = codes "pixels"
+keyword_of (End seat) = codes "end"
+keyword_of Hold = codes "hold"
+keyword_of Show = codes "show"
+keyword_of Quit = codes "quit"
+
+begins : (words : List (List ℕ)) (line : OwnerLine) → SaysOwner words line →
+    (rest : List (List ℕ)) × (words ≡ keyword_of line ∷ rest)
+begins words (Screen size) said = (said.0, said.1)
+begins words (Fill rect colour) said = (said.0, said.1)
+begins words (Copy rect sx sy) said = (said.0, said.1)
+begins words (Hint rect sx sy) said = (said.0, said.1)
+begins words (Scroll rect dx dy) said = (said.0, said.1)
+begins words (Pixels rect) said = (said.0, said.1)
+begins words (End seat) said = (said.0, said.1)
+begins words Hold said = ([], said)
+begins words Show said = ([], said)
+begins words Quit said = ([], said)
+
+-- a line of another keyword
+elsewhere : (key : List ℕ) (rest : List (List ℕ)) (line : OwnerLine) →
+    bytes_eq key (keyword_of line) ≡ false → SaysOwner (key ∷ rest) line → ⊥
+elsewhere key rest line other said =
+    let own = begins (key ∷ rest) line said in
+    other_word key (keyword_of line) other (heads key (keyword_of line) rest own.0 own.1)
 
 pub only_screen : (rest : List (List ℕ)) → ((size : Size) → ¬ (AreSize rest size)) → SaysNoOwner (codes "screen" ∷ rest)
 only_screen rest none (Screen size) said =
     let e = tails _ _ rest said.0 said.1 in none size (subst (λ (r : List (List ℕ)). AreSize r size) e said.2)
-only_screen rest none (Fill rect colour) said = apart (codes "screen") (codes "fill") rest said.0 refl said.1
-only_screen rest none (Copy rect sx sy) said = apart (codes "screen") (codes "copy") rest said.0 refl said.1
-only_screen rest none (Hint rect sx sy) said = apart (codes "screen") (codes "hint") rest said.0 refl said.1
-only_screen rest none (Scroll rect dx dy) said = apart (codes "screen") (codes "scroll") rest said.0 refl said.1
-only_screen rest none (Pixels rect) said = apart (codes "screen") (codes "pixels") rest said.0 refl said.1
-only_screen rest none (End seat) said = apart (codes "screen") (codes "end") rest said.0 refl said.1
-only_screen rest none Hold said = apart (codes "screen") (codes "hold") rest [] refl said
-only_screen rest none Show said = apart (codes "screen") (codes "show") rest [] refl said
-only_screen rest none Quit said = apart (codes "screen") (codes "quit") rest [] refl said
+only_screen rest none line said = elsewhere (codes "screen") rest line refl said
 
 pub only_scroll : (rest : List (List ℕ)) → ((rect : Rect) (dx dy : ℤ) → ¬ (AreScroll rest rect dx dy)) →
     SaysNoOwner (codes "scroll" ∷ rest)
-only_scroll rest none (Screen size) said = apart (codes "scroll") (codes "screen") rest said.0 refl said.1
-only_scroll rest none (Fill rect colour) said = apart (codes "scroll") (codes "fill") rest said.0 refl said.1
-only_scroll rest none (Copy rect sx sy) said = apart (codes "scroll") (codes "copy") rest said.0 refl said.1
-only_scroll rest none (Hint rect sx sy) said = apart (codes "scroll") (codes "hint") rest said.0 refl said.1
 only_scroll rest none (Scroll rect dx dy) said =
     let e = tails _ _ rest said.0 said.1 in none rect dx dy
     (subst (λ (r : List (List ℕ)). AreScroll r rect dx dy) e said.2)
-only_scroll rest none (Pixels rect) said = apart (codes "scroll") (codes "pixels") rest said.0 refl said.1
-only_scroll rest none (End seat) said = apart (codes "scroll") (codes "end") rest said.0 refl said.1
-only_scroll rest none Hold said = apart (codes "scroll") (codes "hold") rest [] refl said
-only_scroll rest none Show said = apart (codes "scroll") (codes "show") rest [] refl said
-only_scroll rest none Quit said = apart (codes "scroll") (codes "quit") rest [] refl said
+only_scroll rest none line said = elsewhere (codes "scroll") rest line refl said
 
 pub only_pixels : (rest : List (List ℕ)) → ((rect : Rect) → ¬ (ArePlaces rest rect)) →
     SaysNoOwner (codes "pixels" ∷ rest)
-only_pixels rest none (Screen size) said = apart (codes "pixels") (codes "screen") rest said.0 refl said.1
-only_pixels rest none (Fill rect colour) said = apart (codes "pixels") (codes "fill") rest said.0 refl said.1
-only_pixels rest none (Copy rect sx sy) said = apart (codes "pixels") (codes "copy") rest said.0 refl said.1
-only_pixels rest none (Hint rect sx sy) said = apart (codes "pixels") (codes "hint") rest said.0 refl said.1
-only_pixels rest none (Scroll rect dx dy) said = apart (codes "pixels") (codes "scroll") rest said.0 refl said.1
 only_pixels rest none (Pixels rect) said =
     let e = tails _ _ rest said.0 said.1 in none rect (subst (λ (r : List (List ℕ)). ArePlaces r rect) e said.2)
-only_pixels rest none (End seat) said = apart (codes "pixels") (codes "end") rest said.0 refl said.1
-only_pixels rest none Hold said = apart (codes "pixels") (codes "hold") rest [] refl said
-only_pixels rest none Show said = apart (codes "pixels") (codes "show") rest [] refl said
-only_pixels rest none Quit said = apart (codes "pixels") (codes "quit") rest [] refl said
+only_pixels rest none line said = elsewhere (codes "pixels") rest line refl said
 
 pub only_end : (rest : List (List ℕ)) → ((seat : ℕ) → ¬ (IsSlotAlone rest seat)) → SaysNoOwner (codes "end" ∷ rest)
-only_end rest none (Screen size) said = apart (codes "end") (codes "screen") rest said.0 refl said.1
-only_end rest none (Fill rect colour) said = apart (codes "end") (codes "fill") rest said.0 refl said.1
-only_end rest none (Copy rect sx sy) said = apart (codes "end") (codes "copy") rest said.0 refl said.1
-only_end rest none (Hint rect sx sy) said = apart (codes "end") (codes "hint") rest said.0 refl said.1
-only_end rest none (Scroll rect dx dy) said = apart (codes "end") (codes "scroll") rest said.0 refl said.1
-only_end rest none (Pixels rect) said = apart (codes "end") (codes "pixels") rest said.0 refl said.1
 only_end rest none (End seat) said =
     let e = tails _ _ rest said.0 said.1 in none seat (subst (λ (r : List (List ℕ)). IsSlotAlone r seat) e said.2)
-only_end rest none Hold said = apart (codes "end") (codes "hold") rest [] refl said
-only_end rest none Show said = apart (codes "end") (codes "show") rest [] refl said
-only_end rest none Quit said = apart (codes "end") (codes "quit") rest [] refl said
+only_end rest none line said = elsewhere (codes "end") rest line refl said
 
-pub only_hold : (rest : List (List ℕ)) → rest ≢ [] → SaysNoOwner (codes "hold" ∷ rest)
-only_hold rest some (Screen size) said = apart (codes "hold") (codes "screen") rest said.0 refl said.1
-only_hold rest some (Fill rect colour) said = apart (codes "hold") (codes "fill") rest said.0 refl said.1
-only_hold rest some (Copy rect sx sy) said = apart (codes "hold") (codes "copy") rest said.0 refl said.1
-only_hold rest some (Hint rect sx sy) said = apart (codes "hold") (codes "hint") rest said.0 refl said.1
-only_hold rest some (Scroll rect dx dy) said = apart (codes "hold") (codes "scroll") rest said.0 refl said.1
-only_hold rest some (Pixels rect) said = apart (codes "hold") (codes "pixels") rest said.0 refl said.1
-only_hold rest some (End seat) said = apart (codes "hold") (codes "end") rest said.0 refl said.1
-only_hold rest some Hold said = some (sym (tails _ _ rest [] said))
-only_hold rest some Show said = apart (codes "hold") (codes "show") rest [] refl said
-only_hold rest some Quit said = apart (codes "hold") (codes "quit") rest [] refl said
+-- a keyword that stands alone
+pub data Alone : List ℕ → Type 0 where
+  HoldAlone : Alone (codes "hold")
+  ShowAlone : Alone (codes "show")
+  QuitAlone : Alone (codes "quit")
 
-pub only_show : (rest : List (List ℕ)) → rest ≢ [] → SaysNoOwner (codes "show" ∷ rest)
-only_show rest some (Screen size) said = apart (codes "show") (codes "screen") rest said.0 refl said.1
-only_show rest some (Fill rect colour) said = apart (codes "show") (codes "fill") rest said.0 refl said.1
-only_show rest some (Copy rect sx sy) said = apart (codes "show") (codes "copy") rest said.0 refl said.1
-only_show rest some (Hint rect sx sy) said = apart (codes "show") (codes "hint") rest said.0 refl said.1
-only_show rest some (Scroll rect dx dy) said = apart (codes "show") (codes "scroll") rest said.0 refl said.1
-only_show rest some (Pixels rect) said = apart (codes "show") (codes "pixels") rest said.0 refl said.1
-only_show rest some (End seat) said = apart (codes "show") (codes "end") rest said.0 refl said.1
-only_show rest some Hold said = apart (codes "show") (codes "hold") rest [] refl said
-only_show rest some Show said = some (sym (tails _ _ rest [] said))
-only_show rest some Quit said = apart (codes "show") (codes "quit") rest [] refl said
-
-pub only_quit : (rest : List (List ℕ)) → rest ≢ [] → SaysNoOwner (codes "quit" ∷ rest)
-only_quit rest some (Screen size) said = apart (codes "quit") (codes "screen") rest said.0 refl said.1
-only_quit rest some (Fill rect colour) said = apart (codes "quit") (codes "fill") rest said.0 refl said.1
-only_quit rest some (Copy rect sx sy) said = apart (codes "quit") (codes "copy") rest said.0 refl said.1
-only_quit rest some (Hint rect sx sy) said = apart (codes "quit") (codes "hint") rest said.0 refl said.1
-only_quit rest some (Scroll rect dx dy) said = apart (codes "quit") (codes "scroll") rest said.0 refl said.1
-only_quit rest some (Pixels rect) said = apart (codes "quit") (codes "pixels") rest said.0 refl said.1
-only_quit rest some (End seat) said = apart (codes "quit") (codes "end") rest said.0 refl said.1
-only_quit rest some Hold said = apart (codes "quit") (codes "hold") rest [] refl said
-only_quit rest some Show said = apart (codes "quit") (codes "show") rest [] refl said
-only_quit rest some Quit said = some (sym (tails _ _ rest [] said))
+pub only_alone : {key : List ℕ} → Alone key → (rest : List (List ℕ)) → rest ≢ [] → SaysNoOwner (key ∷ rest)
+only_alone HoldAlone rest some Hold said = some (sym (tails _ _ rest [] said))
+only_alone ShowAlone rest some Show said = some (sym (tails _ _ rest [] said))
+only_alone QuitAlone rest some Quit said = some (sym (tails _ _ rest [] said))
+only_alone HoldAlone rest some line said = elsewhere (codes "hold") rest line refl said
+only_alone ShowAlone rest some line said = elsewhere (codes "show") rest line refl said
+only_alone QuitAlone rest some line said = elsewhere (codes "quit") rest line refl said
 
 -- any other keyword
 pub only_known : (key : List ℕ) (rest : List (List ℕ)) → key ≢ codes "screen" → key ≢ codes "scroll" →
@@ -137,16 +112,7 @@ only_known key rest screen_ scroll_ pixels_ end_ hold_ show_ quit_ drawing_ Quit
 
 -- no words say nothing
 pub no_owner_words : SaysNoOwner []
-no_owner_words (Screen size) said = nothing _ said.0 said.1
-no_owner_words (Fill rect colour) said = nothing _ said.0 said.1
-no_owner_words (Copy rect sx sy) said = nothing _ said.0 said.1
-no_owner_words (Hint rect sx sy) said = nothing _ said.0 said.1
-no_owner_words (Scroll rect dx dy) said = nothing _ said.0 said.1
-no_owner_words (Pixels rect) said = nothing _ said.0 said.1
-no_owner_words (End seat) said = nothing _ said.0 said.1
-no_owner_words Hold said = nothing _ [] said
-no_owner_words Show said = nothing _ [] said
-no_owner_words Quit said = nothing _ [] said
+no_owner_words line said = let own = begins [] line said in nothing (keyword_of line) own.0 own.1
 
 -- ---- the words of a line by its first one
 

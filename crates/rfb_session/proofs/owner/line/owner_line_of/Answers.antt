@@ -1,8 +1,8 @@
 use Rattle.std.proofs.Common.{◌∙◌, refl, sym, codes}
 use Rattle.rfb_session.specs.declared.owner.order.OwnerLine.{OwnerLine}
 use Rattle.rfb_session.specs.language.Words.{IsSlotAlone, AreSize}
-use Rattle.rfb_session.proofs.OwnerKeywordLemmas.{alone_says, only_end, only_hold, only_quit, only_screen}
-use Rattle.rfb_session.proofs.OwnerKeywordLemmas.{only_show, owner_begins, owner_none}
+use Rattle.rfb_session.proofs.OwnerKeywordLemmas.{HoldAlone, QuitAlone, ShowAlone, alone_says, only_alone, only_end}
+use Rattle.rfb_session.proofs.OwnerKeywordLemmas.{only_screen, owner_begins, owner_none}
 use Rattle.rfb_session.proofs.OwnerLineLemmas.{no_first, owner_words}
 use Rattle.rfb_session.proofs.owner.line.owner_line_of.Goals as goal
 
@@ -35,19 +35,19 @@ pub returns-then-eq-3 : goal.returns-then-eq-3
 returns-then-eq-3 c =
     alone_says c.args.words.now c.in_ok-keyword.keyword.now c.in_ok-keyword.rest.now (codes "hold") OwnerLine.Hold
     c.alone.result c.in_ok-keyword.ensures.cases.0 (sym c.eq-3.ensures ∙ c.if-eq-3.true) refl
-    (only_hold _) c.alone.ensures
+    (only_alone HoldAlone _) c.alone.ensures
 
 pub returns-then-eq-4 : goal.returns-then-eq-4
 returns-then-eq-4 c =
     alone_says c.args.words.now c.in_ok-keyword.keyword.now c.in_ok-keyword.rest.now (codes "show") OwnerLine.Show
     c.alone-then-eq-4.result c.in_ok-keyword.ensures.cases.0 (sym c.eq-4.ensures ∙ c.if-eq-4.true) refl
-    (only_show _) c.alone-then-eq-4.ensures
+    (only_alone ShowAlone _) c.alone-then-eq-4.ensures
 
 pub returns-then-eq-5 : goal.returns-then-eq-5
 returns-then-eq-5 c =
     alone_says c.args.words.now c.in_ok-keyword.keyword.now c.in_ok-keyword.rest.now (codes "quit") OwnerLine.Quit
     c.alone-then-eq-5.result c.in_ok-keyword.ensures.cases.0 (sym c.eq-5.ensures ∙ c.if-eq-5.true) refl
-    (only_quit _) c.alone-then-eq-5.ensures
+    (only_alone QuitAlone _) c.alone-then-eq-5.ensures
 
 pub returns-in_err-keyword : goal.returns-in_err-keyword
 returns-in_err-keyword c =
