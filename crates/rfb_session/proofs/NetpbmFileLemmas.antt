@@ -1,7 +1,7 @@
 -- A file, from its front and what follows.
 use Rattle.std.proofs.Common.{◌≡◌, ◌∙◌, ◌<◌, ◌≤◌, ◌*◌, ◌++◌, ℕ, List, [], Option, Some, None, Result, Ok, Err, IfOk}
 use Rattle.std.proofs.Common.{IfErr, IfSome, length, take, drop, ap, sym, refl, subst, inl, inr, arith, append-nil}
-use Rattle.std.proofs.Common.{take_all, drop_of_length-le}
+use Rattle.std.proofs.Common.{take_all, drop_of_length-le, length-take}
 use Rattle.std.proofs.Math.Seq.{drop-append_seam, take-append_seam}
 use Rattle.std.proofs.lemmas.Bool.{cases_lt}
 use Rattle.std.specs.Fmt.{option_append}
@@ -49,22 +49,38 @@ front_is front rest bytes is few end =
 
 -- ---- what was read
 
+-- the front of what is read: at most 8,192 bytes, and fewer only where it ends
+pub record IsFront (old mid : Option (List ℕ)) (front : List ℕ) : Type 0 where
+  pub came : Consumes old mid front
+  pub few : length front ≤ 8192
+  pub end : length front < 8192 → IsAtEnd mid
+
+-- it is what was put first into a buffer
+pub first_in : (old mid : Option (List ℕ)) (buffer : List ℕ) (n : ℕ) → length buffer ≤ 8192 →
+    n ≤ length buffer → Consumes old mid (take n buffer) → (n < 8192 → IsAtEnd mid) →
+    IsFront old mid (take n buffer)
+first_in old mid buffer n size within came end = record {
+  came = came;
+  few = omega (arith, length-take n buffer);
+  end = λ short. end (omega (arith, length-take n buffer, short));
+}
+
 pub head_flaw_read : (old mid : Option (List ℕ)) (front : List ℕ) (flaw : Flaw) →
-    Consumes old mid front → length front ≤ 8192 →
-    (length front < 8192 → IsAtEnd mid) → HasHeadFlaw front flaw → FailsToSpell old (FlawError flaw)
-head_flaw_read None mid front flaw came few end bad = tt
-head_flaw_read (Some bytes) None front flaw came few end bad = absurd came
-head_flaw_read (Some bytes) (Some rest) front flaw came few end bad =
-    inl (subst (λ (l : List ℕ). HasHeadFlaw l flaw) (sym (front_is front rest bytes came few end).0) bad)
+    IsFront old mid front → HasHeadFlaw front flaw → FailsToSpell old (FlawError flaw)
+head_flaw_read None mid front flaw read bad = tt
+head_flaw_read (Some bytes) None front flaw read bad = absurd read.came
+head_flaw_read (Some bytes) (Some rest) front flaw read bad =
+    let p = front_is front rest bytes read.came read.few read.end in
+    inl (subst (λ (l : List ℕ). HasHeadFlaw l flaw) (sym p.0) bad)
 
 pub spells_read : (old mid : Option (List ℕ)) (front rest : List ℕ) (w h : ℕ) (s : Sample) (places : List Colour) →
-    Consumes old mid front → length front ≤ 8192 → (length front < 8192 → IsAtEnd mid) → IsHead front w h s rest →
+    IsFront old mid front → IsHead front w h s rest →
     IfSome (option_append (Some rest) mid) (λ bytes. ArePlaces s (h * w) bytes places) →
     SpellsKnown old (grid w h places)
-spells_read None mid front rest w h s places came few end head are = tt
-spells_read (Some bytes) None front rest w h s places came few end head are = absurd came
-spells_read (Some bytes) (Some more) front rest w h s places came few end head are =
-    let p = front_is front more bytes came few end in
+spells_read None mid front rest w h s places read head are = tt
+spells_read (Some bytes) None front rest w h s places read head are = absurd read.came
+spells_read (Some bytes) (Some more) front rest w h s places read head are =
+    let p = front_is front more bytes read.came read.few read.end in
     record {
       sample = s;
       rest = rest;
@@ -73,14 +89,14 @@ spells_read (Some bytes) (Some more) front rest w h s places came few end head a
     }
 
 pub places_flaw_read : (old mid : Option (List ℕ)) (front rest : List ℕ) (w h : ℕ) (s : Sample) (error : PixmapError) →
-    Consumes old mid front → length front ≤ 8192 → (length front < 8192 → IsAtEnd mid) → IsHead front w h s rest →
+    IsFront old mid front → IsHead front w h s rest →
     FailsToFill s (h * w) (option_append (Some rest) mid) error → FailsToSpell old error
-places_flaw_read None mid front rest w h s error came few end head fails = tt
-places_flaw_read (Some bytes) None front rest w h s error came few end head fails = absurd came
-places_flaw_read (Some bytes) (Some more) front rest w h s (Input input) came few end head fails = tt
-places_flaw_read (Some bytes) (Some more) front rest w h s NoMemory came few end head fails = tt
-places_flaw_read (Some bytes) (Some more) front rest w h s (FlawError flaw) came few end head fails =
-    let p = front_is front more bytes came few end in
+places_flaw_read None mid front rest w h s error read head fails = tt
+places_flaw_read (Some bytes) None front rest w h s error read head fails = absurd read.came
+places_flaw_read (Some bytes) (Some more) front rest w h s (Input input) read head fails = tt
+places_flaw_read (Some bytes) (Some more) front rest w h s NoMemory read head fails = tt
+places_flaw_read (Some bytes) (Some more) front rest w h s (FlawError flaw) read head fails =
+    let p = front_is front more bytes read.came read.few read.end in
     inr (
       w,
       h,

@@ -11,64 +11,48 @@ use Rattle.rfb_session.specs.declared.netpbm.fault.PixmapError.{PixmapError}
 use Rattle.rfb_session.specs.declared.netpbm.fault.PixmapError.TheVariants.{Flaw as FlawError, Input, NoMemory}
 use Rattle.rfb_session.specs.declared.netpbm.head.Sample.{Sample}
 use Rattle.rfb_session.specs.declared.netpbm.head.Sample.TheVariants.{Byte, Word}
-use Rattle.rfb_session.specs.netpbm.Places.{ArePlaces, colours_of, colours_of_bytes, colours_of_words, size_of, word_of}
+use Rattle.rfb_session.specs.netpbm.Places.{ArePlaces, colours_of, colours_of_words, size_of, word_of}
 use Rattle.rfb_session.specs.netpbm.inside.PlacesRead.{FailsEnd, FailsPiece, FailsToFill, ReadPlaces}
 
 -- ---- whole places
 
-bytes_more : (n : ℕ) (a b : List ℕ) → length a ≡ 3 * n →
-    colours_of_bytes (a ++ b) ≡ colours_of_bytes a ++ colours_of_bytes b
-bytes_more zero [] b size = refl
-bytes_more zero (r ∷ a) b size = absurd (omega arith)
-bytes_more (suc n) [] b size = absurd (omega arith)
-bytes_more (suc n) (r ∷ []) b size = absurd (omega arith)
-bytes_more (suc n) (r ∷ g ∷ []) b size = absurd (omega arith)
-bytes_more (suc n) (r ∷ g ∷ u ∷ a) b size =
-    ap (λ (l : List Colour). colour_of_bytes r g u ∷ l) (bytes_more n a b (omega arith))
-
-words_more : (n : ℕ) (a b : List ℕ) → length a ≡ 6 * n →
-    colours_of_words (a ++ b) ≡ colours_of_words a ++ colours_of_words b
-words_more zero [] b size = refl
-words_more zero (r ∷ a) b size = absurd (omega arith)
-words_more (suc n) [] b size = absurd (omega arith)
-words_more (suc n) (r ∷ []) b size = absurd (omega arith)
-words_more (suc n) (r ∷ r0 ∷ []) b size = absurd (omega arith)
-words_more (suc n) (r ∷ r0 ∷ g ∷ []) b size = absurd (omega arith)
-words_more (suc n) (r ∷ r0 ∷ g ∷ g0 ∷ []) b size = absurd (omega arith)
-words_more (suc n) (r ∷ r0 ∷ g ∷ g0 ∷ u ∷ []) b size = absurd (omega arith)
-words_more (suc n) (r ∷ r0 ∷ g ∷ g0 ∷ u ∷ u0 ∷ a) b size =
-    let c : Colour = record { r = word_of r r0; g = word_of g g0; b = word_of u u0 } in
-    ap (λ (l : List Colour). c ∷ l) (words_more n a b (omega arith))
+-- the first place of some, and the others
+first_place : (s : Sample) (n : ℕ) (a : List ℕ) → length a ≡ size_of s * suc n →
+    (c : Colour) × (rest : List ℕ) × (length rest ≡ size_of s * n)
+    × ((b : List ℕ) → colours_of s (a ++ b) ≡ c ∷ colours_of s (rest ++ b))
+    × (colours_of s a ≡ c ∷ colours_of s rest)
+first_place Byte n [] size = absurd (omega arith)
+first_place Byte n (r ∷ []) size = absurd (omega arith)
+first_place Byte n (r ∷ g ∷ []) size = absurd (omega arith)
+first_place Byte n (r ∷ g ∷ u ∷ rest) size = (colour_of_bytes r g u, rest, omega arith, λ b. refl, refl)
+first_place Word n [] size = absurd (omega arith)
+first_place Word n (r ∷ []) size = absurd (omega arith)
+first_place Word n (r ∷ r0 ∷ []) size = absurd (omega arith)
+first_place Word n (r ∷ r0 ∷ g ∷ []) size = absurd (omega arith)
+first_place Word n (r ∷ r0 ∷ g ∷ g0 ∷ []) size = absurd (omega arith)
+first_place Word n (r ∷ r0 ∷ g ∷ g0 ∷ u ∷ []) size = absurd (omega arith)
+first_place Word n (r ∷ r0 ∷ g ∷ g0 ∷ u ∷ u0 ∷ rest) size =
+    (record { r = word_of r r0; g = word_of g g0; b = word_of u u0 }, rest, omega arith, λ b. refl, refl)
 
 pub places_more : (s : Sample) (n : ℕ) (a b : List ℕ) → length a ≡ size_of s * n →
     colours_of s (a ++ b) ≡ colours_of s a ++ colours_of s b
-places_more Byte n a b size = bytes_more n a b size
-places_more Word n a b size = words_more n a b size
-
-bytes_count : (n : ℕ) (a : List ℕ) → length a ≡ 3 * n → length (colours_of_bytes a) ≡ n
-bytes_count zero [] size = refl
-bytes_count zero (r ∷ a) size = absurd (omega arith)
-bytes_count (suc n) [] size = absurd (omega arith)
-bytes_count (suc n) (r ∷ []) size = absurd (omega arith)
-bytes_count (suc n) (r ∷ g ∷ []) size = absurd (omega arith)
-bytes_count (suc n) (r ∷ g ∷ u ∷ a) size = ap suc (bytes_count n a (omega arith))
-
-words_count : (n : ℕ) (a : List ℕ) → length a ≡ 6 * n → length (colours_of_words a) ≡ n
-words_count zero [] size = refl
-words_count zero (r ∷ a) size = absurd (omega arith)
-words_count (suc n) [] size = absurd (omega arith)
-words_count (suc n) (r ∷ []) size = absurd (omega arith)
-words_count (suc n) (r ∷ r0 ∷ []) size = absurd (omega arith)
-words_count (suc n) (r ∷ r0 ∷ g ∷ []) size = absurd (omega arith)
-words_count (suc n) (r ∷ r0 ∷ g ∷ g0 ∷ []) size = absurd (omega arith)
-words_count (suc n) (r ∷ r0 ∷ g ∷ g0 ∷ u ∷ []) size = absurd (omega arith)
-words_count (suc n) (r ∷ r0 ∷ g ∷ g0 ∷ u ∷ u0 ∷ a) size = ap suc (words_count n a (omega arith))
+places_more Byte zero [] b size = refl
+places_more Word zero [] b size = refl
+places_more s zero (r ∷ a) b size = absurd (omega arith)
+places_more s (suc n) a b size =
+    let first = first_place s n a size in
+    first.3 b ∙ ap (λ (l : List Colour). first.0 ∷ l) (places_more s n first.1 b first.2)
+    ∙ ap (λ (l : List Colour). l ++ colours_of s b) (sym first.4)
 
 places_count : (s : Sample) (n : ℕ) (a : List ℕ) → length a ≡ size_of s * n → length (colours_of s a) ≡ n
-places_count Byte n a size = bytes_count n a size
-places_count Word n a size = words_count n a size
+places_count Byte zero [] size = refl
+places_count Word zero [] size = refl
+places_count s zero (r ∷ a) size = absurd (omega arith)
+places_count s (suc n) a size =
+    let first = first_place s n a size in
+    ap (λ (l : List Colour). length l) first.4 ∙ ap suc (places_count s n first.1 first.2)
 
--- the first place of some, and the others
+-- the same where its samples are known
 words_step : (xs : List ℕ) (c : Colour) → 6 ≤ length xs → c.r ≡ word_of (get_or xs 0 0) (get_or xs 1 0) →
     c.g ≡ word_of (get_or xs 2 0) (get_or xs 3 0) → c.b ≡ word_of (get_or xs 4 0) (get_or xs 5 0) →
     colours_of_words xs ≡ c ∷ colours_of_words (drop 6 xs)

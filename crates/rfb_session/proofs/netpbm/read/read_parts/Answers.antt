@@ -1,44 +1,32 @@
-use Rattle.std.proofs.Common.{◌≤◌, ◌<◌, length, take, arith, length-take}
+use Rattle.std.proofs.Common.{arith}
 use Rattle.std.proofs.lemmas.Result.{err_from_is_err_and}
-use Rattle.std.specs.Io.KnownBytes.{IsAtEnd}
-use Rattle.rfb_session.proofs.NetpbmFileLemmas.{head_flaw_read, input_read, places_flaw_read, spells_read}
+use Rattle.rfb_session.proofs.NetpbmFileLemmas.{first_in, head_flaw_read, input_read, places_flaw_read, spells_read}
 use Rattle.rfb_session.proofs.netpbm.read.read_parts.Goals as goal
 
 pub returns-in_err-head-clause-refused : goal.returns-in_err-head-clause-refused
 returns-in_err-head-clause-refused g c =
-    let buffer = c.read_up_to.new.buffer in
-    let n = c.in_ok-count.count in
-    let few : length (take n buffer) ≤ 8192 = omega (arith, length-take n buffer) in
-    let end : (length (take n buffer) < 8192 → IsAtEnd (g.R.Read.remaining c.read_up_to.new.input)) =
-    (λ short. c.in_ok-count.ensures.end (omega (arith, length-take n buffer, short))) in
+    let front = first_in (g.R.Read.remaining c.args.input.now) (g.R.Read.remaining c.read_up_to.new.input)
+    c.read_up_to.new.buffer c.in_ok-count.count (omega arith) c.in_ok-count.ensures.count
+    c.in_ok-count.ensures.bytes (λ short. c.in_ok-count.ensures.end (omega (arith, short))) in
     let p = err_from_is_err_and c.from_residual-in_err-head.result c.from_residual-in_err-head.ensures.1 in
-    rw (p.1, p.2)
-    (head_flaw_read (g.R.Read.remaining c.args.input.now) (g.R.Read.remaining c.read_up_to.new.input) (take n buffer)
-    c.in_err-head.field-0.0 c.in_ok-count.ensures.bytes few end c.in_err-head.ensures)
+    rw (p.1, p.2) (head_flaw_read _ _ _ c.in_err-head.field-0.0 front c.in_err-head.ensures)
 
 pub returns-in_err-places-clause-refused : goal.returns-in_err-places-clause-refused
 returns-in_err-places-clause-refused g c =
-    let buffer = c.read_up_to.new.buffer in
-    let n = c.in_ok-count.count in
-    let few : length (take n buffer) ≤ 8192 = omega (arith, length-take n buffer) in
-    let end : (length (take n buffer) < 8192 → IsAtEnd (g.R.Read.remaining c.read_up_to.new.input)) =
-    (λ short. c.in_ok-count.ensures.end (omega (arith, length-take n buffer, short))) in
+    let front = first_in (g.R.Read.remaining c.args.input.now) (g.R.Read.remaining c.read_up_to.new.input)
+    c.read_up_to.new.buffer c.in_ok-count.count (omega arith) c.in_ok-count.ensures.count
+    c.in_ok-count.ensures.bytes (λ short. c.in_ok-count.ensures.end (omega (arith, short))) in
     let fails = rw (c.chain-all.ensures.bytes, c.from.ensures, c.from-2.ensures) at c.in_err-places.ensures.refused in
     let p = err_from_is_err_and c.from_residual-in_err-places.result c.from_residual-in_err-places.ensures.1 in
-    rw (p.1, p.2)
-    (places_flaw_read (g.R.Read.remaining c.args.input.now) (g.R.Read.remaining c.read_up_to.new.input) (take n buffer)
-    _ _ _ _ _ c.in_ok-count.ensures.bytes few end c.in_ok-head.ensures fails)
+    rw (p.1, p.2) (places_flaw_read _ _ _ _ _ _ _ _ front c.in_ok-head.ensures fails)
 
 pub returns-clause-read : goal.returns-clause-read
 returns-clause-read g c =
-    let buffer = c.read_up_to.new.buffer in
-    let n = c.in_ok-count.count in
-    let few : length (take n buffer) ≤ 8192 = omega (arith, length-take n buffer) in
-    let end : (length (take n buffer) < 8192 → IsAtEnd (g.R.Read.remaining c.read_up_to.new.input)) =
-    (λ short. c.in_ok-count.ensures.end (omega (arith, length-take n buffer, short))) in
+    let front = first_in (g.R.Read.remaining c.args.input.now) (g.R.Read.remaining c.read_up_to.new.input)
+    c.read_up_to.new.buffer c.in_ok-count.count (omega arith) c.in_ok-count.ensures.count
+    c.in_ok-count.ensures.bytes (λ short. c.in_ok-count.ensures.end (omega (arith, short))) in
     let are = rw (c.chain-all.ensures.bytes, c.from.ensures, c.from-2.ensures) at c.in_ok-places.ensures.read in
-    spells_read (g.R.Read.remaining c.args.input.now) (g.R.Read.remaining c.read_up_to.new.input) (take n buffer)
-    _ _ _ _ _ c.in_ok-count.ensures.bytes few end c.in_ok-head.ensures are
+    spells_read _ _ _ _ _ _ _ _ front c.in_ok-head.ensures are
 
 pub returns-in_err-count-clause-refused : goal.returns-in_err-count-clause-refused
 returns-in_err-count-clause-refused g c =
