@@ -154,27 +154,27 @@ reached_slot e n m (Of j event) k r step = by (cases_eq k j)
 abbrev Found : Ends → Grid Colour → HubSeat → Type 0
 Found e screen b = (n : Network) × IsReached e n × SeatStandsFor e screen b n × Unit {0}
 
-pub stands_step : (old new : Hub) (event : HubEvent) (told : HubTold) →
-    HubSteps old event told new → HubStands old → HubStands new
-stands_step old new event told s stands = λ k b there ours made.
-    by k b there ours (came old new event told s k b there ours)
-    (subst (λ (v : Serving). AreMade (ends_of v b.setup)) s.made made)
+-- a seat that came from one that stood, or that is fresh, stands
+stands_came : (old new : Hub) (k : ℕ) (b : HubSeat) → serving_in new ≡ serving_in old → HubStands old →
+    ((a : HubSeat) → seat_in old k ≡ Some a → (n : Network) → AreMade (ends_of (serving_in old) b.setup) →
+    IsReached (ends_of (serving_in old) b.setup) n →
+    SeatStandsFor (ends_of (serving_in old) b.setup) old.screen a n →
+    Found (ends_of (serving_in old) b.setup) new.screen b) → CameFrom old k new b →
+    AreMade (ends_of (serving_in new) b.setup) → Found (ends_of (serving_in new) b.setup) new.screen b
+stands_came old new k b same stands goes came made =
+    subst (λ (v : Serving). Found (ends_of v b.setup) new.screen b) (sym same)
+    (by came (subst (λ (v : Serving). AreMade (ends_of v b.setup)) same made))
   where
-    by : (k : ℕ) (b : HubSeat) → seat_in new k ≡ Some b → b.foreign ≡ false → CameFrom old k new b →
-        AreMade (ends_of (serving_in old) b.setup) →
-        Found (ends_of (serving_in new) b.setup) new.screen b
-    by k b there ours (inl (a, was, setup, free)) made =
-        let e = ends_of (serving_in old) b.setup in
+    by : CameFrom old k new b → AreMade (ends_of (serving_in old) b.setup) →
+        Found (ends_of (serving_in old) b.setup) new.screen b
+    by (inl (a, was, setup, free)) fit =
         let before = subst (λ (x : Setup). AreMade (ends_of (serving_in old) x) →
         (n : Network) × IsReached (ends_of (serving_in old) x) n
         × SeatStandsFor (ends_of (serving_in old) x) old.screen a n × Unit {0}) (sym setup)
-        (stands k a was free) made in
-        let one = s.does k a b was there ours e before.0 made before.1 before.2 in
-        subst (λ (v : Serving). Found (ends_of v b.setup) new.screen b) (sym s.made)
-        (one.0, reached_slot e before.0 one.0 event k before.1 one.1, one.3, tt)
-    by k b there ours (inr (fresh, screens)) made =
-        let e = ends_of (serving_in old) b.setup in
-        subst (λ (v : Serving). Found (ends_of v b.setup) new.screen b) (sym s.made) (
+        (stands k a was free) fit in
+        goes a was before.0 fit before.1 before.2
+    by (inr (fresh, screens)) fit =
+        let e = ends_of (serving_in old) b.setup in (
           record { screen = old.screen; link = first_link e },
           first_reached e old.screen refl refl,
           record {
@@ -185,39 +185,27 @@ stands_step old new event told s stands = λ k b there ours made.
           tt,
         )
 
+pub stands_step : (old new : Hub) (event : HubEvent) (told : HubTold) →
+    HubSteps old event told new → HubStands old → HubStands new
+stands_step old new event told s stands = λ k b there ours made.
+    stands_came old new k b s.made stands
+    (λ a was n fit reached stood.
+    let e = ends_of (serving_in old) b.setup in
+    let one = s.does k a b was there ours e n fit reached stood in
+    (one.0, reached_slot e n one.0 event k reached one.1, one.3, tt))
+    (came old new event told s k b there ours) made
+
 -- after a drawing
 pub stands_drawn : (old new : Hub) (s : Stroke) (told : HubTold) → DrawsHub old s told new → HubStands old →
     HubStands new
 stands_drawn old new s told d stands = λ k b there ours made.
-    by k b there ours
+    stands_came old new k b d.made stands
+    (λ a was n fit reached stood.
+    let e = ends_of (serving_in old) b.setup in
+    let one = d.does k a b was there e n stood in (one.0, reached_stroke e n one.0 s reached one.1, one.2, tt))
     (drawn_from old new k b told _ _ (λ x y. IsNotifiedOn (notice_of s) x y) (λ x y is. is.keeps) d.acts d.kept
     (λ taken. d.slots taken k) there ours)
-    (subst (λ (v : Serving). AreMade (ends_of v b.setup)) d.made made)
-  where
-    by : (k : ℕ) (b : HubSeat) → seat_in new k ≡ Some b → b.foreign ≡ false → CameFrom old k new b →
-        AreMade (ends_of (serving_in old) b.setup) →
-        Found (ends_of (serving_in new) b.setup) new.screen b
-    by k b there ours (inl (a, was, setup, free)) made =
-        let e = ends_of (serving_in old) b.setup in
-        let before = subst (λ (x : Setup). AreMade (ends_of (serving_in old) x) →
-        (n : Network) × IsReached (ends_of (serving_in old) x) n
-        × SeatStandsFor (ends_of (serving_in old) x) old.screen a n × Unit {0}) (sym setup)
-        (stands k a was free) made in
-        let one = d.does k a b was there e before.0 before.2 in
-        subst (λ (v : Serving). Found (ends_of v b.setup) new.screen b) (sym d.made)
-        (one.0, reached_stroke e before.0 one.0 s before.1 one.1, one.2, tt)
-    by k b there ours (inr (fresh, screens)) made =
-        let e = ends_of (serving_in old) b.setup in
-        subst (λ (v : Serving). Found (ends_of v b.setup) new.screen b) (sym d.made) (
-          record { screen = old.screen; link = first_link e },
-          first_reached e old.screen refl refl,
-          record {
-            ours = fresh.ours;
-            screen_is = sym screens;
-            link_is = fresh.fresh;
-          },
-          tt,
-        )
+    made
 
 -- of a hub with no viewers
 pub empty_stands : (hub : Hub) → IsEmptyHub hub → HubStands hub

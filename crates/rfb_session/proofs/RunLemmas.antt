@@ -1,5 +1,7 @@
 -- Runs of a world: step after step, and what holds after them.
-use Rattle.std.proofs.Common.{List, [], ◌∷◌, ◌++◌, refl, sym, subst}
+use Rattle.std.proofs.Common.{◌≡◌, ℕ, ◌+◌, ◌<◌, List, [], ◌∷◌, ◌++◌, length, get_or, take}
+use Rattle.std.proofs.Common.{refl, sym, ap, ◌∙◌, subst}
+use Rattle.std.proofs.lemmas.List.{take_more}
 use Rattle.rfb_server.proofs.ServerLaws.{session_going}
 use Rattle.rfb_viewer.proofs.ViewerLaws.{viewer_going}
 use Rattle.rfb_session.specs.declared.event.Event.{Event}
@@ -9,6 +11,12 @@ use Rattle.rfb_session.specs.Link.{Ends}
 use Rattle.rfb_session.specs.Network.{Network, StepsAll, IsReached}
 use Rattle.rfb_session.specs.World.{StandsFor, Does, Reaches, NeitherFailed}
 use Rattle.rfb_session.proofs.WorldLemmas.{reached_step, steps_last}
+
+-- the first items of a list, and one item more
+pub item_taken : {A : Type 0} (items : List A) (i : ℕ) (item : A) → i < length items →
+    item ≡ get_or items i item → take (i + 1) items ≡ take i items ++ item ∷ []
+item_taken {A} items i item within is =
+    take_more items i item within ∙ ap (λ (x : A). take i items ++ x ∷ []) (sym is)
 
 -- a network, and nothing said of it
 abbrev pub Any : Ends → Network → Type 0

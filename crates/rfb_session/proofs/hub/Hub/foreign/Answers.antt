@@ -22,7 +22,6 @@ invariant_of-self c =
     (each_seat (λ y. Follows s.screen y.link.session) s.slots s.follow c.args.slot one.0
     (sym (at_slot s.slots c.args.slot _ within) ∙ one.1)))
 
-
 pub returns-clause-steps : goal.returns-clause-steps
 returns-clause-steps c =
     let s = c.args.self.now in

@@ -21,7 +21,6 @@ invariant_of-self c =
     (λ seat is. same_follows c.args.self.now.screen c.seat_in.new.slot _ seat c.seat_in.ensures is
     c.in_ok-seat.ensures.follows)
 
-
 pub returns-clause-steps : goal.returns-clause-steps
 returns-clause-steps c =
     let s = c.args.self.now in

@@ -12,7 +12,6 @@ invariant_of-self c =
     one_set c.args.self.now c.args.slot c.empty.new.slot c.if-place-ge-SLOTS.false
     (λ seat is. none_follows c.args.self.now.screen c.empty.new.slot seat c.empty.ensures.empty is)
 
-
 pub returns : goal.returns
 returns c =
     let s = c.args.self.now in

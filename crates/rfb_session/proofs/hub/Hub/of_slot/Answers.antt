@@ -21,11 +21,9 @@ pub invariant_of-self : goal.invariant_of-self
 invariant_of-self c =
     one_set c.args.self.now c.args.slot c.happen_in.new.slot c.if-place-ge-SLOTS.false c.happen_in.ensures.follows
 
-
 pub invariant_of-self-in-None : goal.invariant_of-self-in-None
 invariant_of-self-in-None c =
     one_set c.args.self.now c.args.slot c.happen_in.new.slot c.if-place-ge-SLOTS.false c.happen_in.ensures.follows
-
 
 pub invariant_of-self-then-delivery : goal.invariant_of-self-then-delivery
 invariant_of-self-then-delivery c =
@@ -39,7 +37,6 @@ invariant_of-self-then-delivery c =
           c.empty_others-ended.new.slots c.args.slot was.follow c.empty_others-ended.ensures.own
           c.empty_others-ended.ensures.others;
     }
-
 
 pub returns-then-delivery-clause-steps : goal.returns-then-delivery-clause-steps
 returns-then-delivery-clause-steps c =
@@ -65,7 +62,6 @@ returns-then-delivery-clause-steps c =
 pub invariant_of-self-else-delivery : goal.invariant_of-self-else-delivery
 invariant_of-self-else-delivery c =
     one_set c.args.self.now c.args.slot c.happen_in.new.slot c.if-place-ge-SLOTS.false c.happen_in.ensures.follows
-
 
 pub returns-else-delivery-clause-steps : goal.returns-else-delivery-clause-steps
 returns-else-delivery-clause-steps c =

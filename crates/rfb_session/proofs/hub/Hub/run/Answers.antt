@@ -1,24 +1,22 @@
-use Rattle.std.proofs.Common.{◌≡◌, None, ◌+◌, List, [], ◌∷◌, ◌++◌, take, sym, ap, ◌∙◌, subst, arith}
-use Rattle.std.proofs.lemmas.List.{take_more, take_all}
+use Rattle.std.proofs.Common.{◌≡◌, None, List, sym, subst, arith}
+use Rattle.std.proofs.lemmas.List.{take_all}
 use Rattle.rfb_session.specs.declared.hub.event.HubEvent.{HubEvent}
 use Rattle.rfb_session.specs.Headline.{IsHeadline}
 use Rattle.rfb_session.specs.HubSteps.{RunsHub}
 use Rattle.rfb_session.specs.LinkModel.{server_fault_of, viewer_fault_of}
 use Rattle.rfb_session.proofs.HubRunLemmas.{runs_more, each_holds, none_failed}
 use Rattle.rfb_session.proofs.NetworkLemmas.{headline_holds}
+use Rattle.rfb_session.proofs.RunLemmas.{item_taken}
 use Rattle.rfb_session.proofs.hub.Hub.run.Goals as goal
 
 pub loop-event-preserved : goal.loop-event-preserved
 loop-event-preserved c =
-    let before = take c.loop-event.event-index c.args.events.now in
-    let more = take_more c.args.events.now c.loop-event.event-index c.event-item.result (omega arith) in
-    let all : take (c.loop-event.event-index + 1) c.args.events.now
-    ≡ before ++ c.event-item.result ∷ [] =
-    more ∙ ap (λ (x : HubEvent). before ++ x ∷ []) (sym c.event-item.is) in
+    let all = item_taken c.args.events.now c.loop-event.event-index c.event-item.result (omega arith)
+    c.event-item.is in
     record {
       few = c.loop-event.invariant.few;
       runs = subst (λ (events : List HubEvent). RunsHub c.args.self.now events c.step.new.self)
-          (sym all) (runs_more c.args.self.now c.loop-event.self c.step.new.self before
+          (sym all) (runs_more c.args.self.now c.loop-event.self c.step.new.self _
           c.event-item.result c.in_ok-step.field-0 c.loop-event.invariant.runs
           c.in_ok-step.ensures.steps);
       stands = λ had. c.in_ok-step.ensures.stands (c.loop-event.invariant.stands had);

@@ -1,23 +1,20 @@
-use Rattle.std.proofs.Common.{◌≡◌, ◌+◌, List, [], ◌∷◌, ◌++◌, take, sym, ap, ◌∙◌, subst, arith}
-use Rattle.std.proofs.lemmas.List.{take_more, take_all}
+use Rattle.std.proofs.Common.{List, sym, subst, arith}
+use Rattle.std.proofs.lemmas.List.{take_all}
 use Rattle.rfb_session.specs.declared.event.Event.{Event}
 use Rattle.rfb_session.specs.Headline.{IsHeadline, ShowsKnown, ShowsLatest, due_picture}
 use Rattle.rfb_session.specs.World.{Reaches, NeitherFailed}
 use Rattle.rfb_session.proofs.NetworkLemmas.{headline_holds}
-use Rattle.rfb_session.proofs.RunLemmas.{Any, run_more, run_holds, neither_failed}
+use Rattle.rfb_session.proofs.RunLemmas.{Any, item_taken, run_more, run_holds, neither_failed}
 use Rattle.rfb_session.proofs.world.World.run.Goals as goal
 
 pub loop-event-preserved : goal.loop-event-preserved
 loop-event-preserved c =
-    let before = take c.loop-event.event-index c.args.events.now in
-    let more = take_more c.args.events.now c.loop-event.event-index c.event-item.result (omega arith) in
-    let all : take (c.loop-event.event-index + 1) c.args.events.now
-    ≡ before ++ c.event-item.result ∷ [] =
-    more ∙ ap (λ (x : Event). before ++ x ∷ []) (sym c.event-item.is) in
+    let all = item_taken c.args.events.now c.loop-event.event-index c.event-item.result (omega arith)
+    c.event-item.is in
     record {
       few = c.loop-event.invariant.few;
       runs = subst (λ (events : List Event). Reaches c.args.self.now events c.step.new.self Any)
-          (sym all) (run_more c.args.self.now c.loop-event.self c.step.new.self before
+          (sym all) (run_more c.args.self.now c.loop-event.self c.step.new.self _
           c.event-item.result c.in_ok-step.field-0 c.loop-event.invariant.runs
           c.in_ok-step.ensures.does);
     }
@@ -30,36 +27,25 @@ returns-clause-steps c =
 
 pub returns-clause-neither_failed : goal.returns-clause-neither_failed
 returns-clause-neither_failed c =
-    let all = take_all c.loop-event.event-index c.args.events.now (omega arith) in
     run_holds c.args.self.now c.loop-event.self c.args.events.now
     (λ e n. NeitherFailed c.loop-event.self)
-    (λ e m reached stands. neither_failed e c.loop-event.self m stands)
-    (subst (λ (events : List Event). Reaches c.args.self.now events c.loop-event.self Any) all
-    c.loop-event.invariant.runs)
+    (λ e m reached stands. neither_failed e c.loop-event.self m stands) (returns-clause-steps c)
 
 pub returns-clause-known : goal.returns-clause-known
 returns-clause-known c =
-    let all = take_all c.loop-event.event-index c.args.events.now (omega arith) in
     run_holds c.args.self.now c.loop-event.self c.args.events.now
     (λ e n. ShowsKnown n.link.session.form n.link.session.known (due_picture e n.link))
-    (λ e m reached stands. (headline_holds e m reached).known)
-    (subst (λ (events : List Event). Reaches c.args.self.now events c.loop-event.self Any) all
-    c.loop-event.invariant.runs)
+    (λ e m reached stands. (headline_holds e m reached).known) (returns-clause-steps c)
 
 pub returns-clause-latest : goal.returns-clause-latest
 returns-clause-latest c =
-    let all = take_all c.loop-event.event-index c.args.events.now (omega arith) in
     run_holds c.args.self.now c.loop-event.self c.args.events.now
     (λ e n. ShowsLatest n.link.latest (due_picture e n.link))
-    (λ e m reached stands. (headline_holds e m reached).latest)
-    (subst (λ (events : List Event). Reaches c.args.self.now events c.loop-event.self Any) all
-    c.loop-event.invariant.runs)
+    (λ e m reached stands. (headline_holds e m reached).latest) (returns-clause-steps c)
 
 pub returns-clause-headline : goal.returns-clause-headline
 returns-clause-headline c =
-    let all = take_all c.loop-event.event-index c.args.events.now (omega arith) in
     run_holds c.args.self.now c.loop-event.self c.args.events.now
     (λ e n. NeitherFailed c.loop-event.self × IsHeadline e n.link)
     (λ e m reached stands. (neither_failed e c.loop-event.self m stands, headline_holds e m reached))
-    (subst (λ (events : List Event). Reaches c.args.self.now events c.loop-event.self Any) all
-    c.loop-event.invariant.runs)
+    (returns-clause-steps c)
