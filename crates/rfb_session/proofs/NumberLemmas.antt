@@ -1,7 +1,7 @@
 -- Words of a line that are numbers.
 use Rattle.std.proofs.Common.{◌≡◌, ◌∙◌, ◌==◌, Bool, true, false, sym, ap, zero, suc, length, ℕ, ◌+◌}
 use Rattle.std.proofs.Common.{◌*◌, ◌-◌, ◌<◌, ◌≤◌, List, [], ◌∷◌, ◌++◌, refl, take, arith, get_or, subst}
-use Rattle.std.proofs.Common.{Some, None, Ok, Err, Result}
+use Rattle.std.proofs.Common.{Some, None, Ok, Err, Result, ◌↔◌, is_ok}
 use Rattle.std.proofs.lemmas.Str.{digit_value_digit}
 use Rattle.std.proofs.lemmas.Str.Parse.{IsNumeralModel, digits_value_short, numerals_by_value}
 use Rattle.std.proofs.lemmas.Str.Parse.{tells_by_index, tells_digits}
@@ -9,12 +9,22 @@ use Rattle.std.specs.Char.{digit_value}
 use Rattle.std.specs.Int.{IsInRange}
 use Rattle.std.specs.Str.Parse.{AllDigits, digits_value, digits_value_after}
 use Rattle.std.specs.Result.{result_ok}
-use Rattle.hex.specs.Hex.{decode_of, decode_sized}
+use Rattle.std.specs.List.{AllPass}
+use Rattle.hex.specs.Hex.{decode_of, decode_sized, is_hex_digit}
 use Rattle.hex.specs.declared.error.FromHexError.{FromHexError}
-use Rattle.hex.proofs.HexLemmas.{decode_of-ok, decode_sized-ok, decode_sized-twice}
+use Rattle.hex.proofs.HexLemmas.{IsOk-decode_sized, decode_of-ok, decode_sized-ok, decode_sized-twice}
 use Rattle.rfb_pixel.specs.declared.colour.Colour.{Colour}
 use Rattle.rfb_session.specs.language.Number.{IsDigits}
 use Rattle.rfb_session.specs.language.Words.{SaysComponents}
+
+-- bytes are decoded exactly where there are two digits for each
+pub found_decoded : (word : List ℕ) (n : ℕ) (bytes : Result (List ℕ) FromHexError) (found : Bool) →
+    bytes ≡ decode_sized word n → found ≡ is_ok bytes →
+    (found ≡ true) ↔ ((length word ≡ 2 * n) × AllPass is_hex_digit word)
+found_decoded word n bytes found is same =
+    let digits = IsOk-decode_sized word n in
+    let decoded = ap (λ (r : Result (List ℕ) FromHexError). is_ok r) is in
+    (λ some. digits.0 (sym decoded ∙ sym same ∙ some), λ are. same ∙ decoded ∙ digits.1 are)
 
 pub digits : IsNumeralModel IsDigits (digits_value 10)
 digits = numerals_by_value _ tells_by_index

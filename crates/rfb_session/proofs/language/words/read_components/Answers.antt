@@ -1,22 +1,16 @@
 -- `decode_sized` answers `Ok` to twelve hexadecimal digits alone.
-use Rattle.std.proofs.Common.{◌≡◌, ◌∙◌, sym, refl, true, false}
-use Rattle.hex.proofs.HexLemmas.{IsOk-decode_sized}
-use Rattle.rfb_session.proofs.NumberLemmas.{are_components}
+use Rattle.std.proofs.Common.{true, false}
+use Rattle.rfb_session.proofs.NumberLemmas.{are_components, found_decoded}
 use Rattle.rfb_session.proofs.language.words.read_components.Goals as goal
 
 pub returns-in_err-r-clause-found : goal.returns-in_err-r-clause-found
 returns-in_err-r-clause-found c =
-    let digits = IsOk-decode_sized c.args.word.now 6 in
-    let sized = c.from_hex.ensures in (
-      λ h. let bad : false ≡ true = rw c.from_residual.ensures at h in cc,
-      λ h. rw c.from_residual.ensures (c.in_err-r.ensures.variant ∙ rw sized (digits.1 h)),
-    )
+    rw c.from_residual.ensures
+    (found_decoded c.args.word.now 6 c.from_hex.result false c.from_hex.ensures c.in_err-r.ensures.variant)
 
 pub returns-clause-found : goal.returns-clause-found
 returns-clause-found c =
-    let digits = IsOk-decode_sized c.args.word.now 6 in
-    let sized = c.from_hex.ensures in
-    (λ h. digits.0 (rw sized at (sym c.in_ok-r.ensures.variant)), λ h. refl)
+    found_decoded c.args.word.now 6 c.from_hex.result true c.from_hex.ensures c.in_ok-r.ensures.variant
 
 pub returns-clause-value : goal.returns-clause-value
 returns-clause-value c =
