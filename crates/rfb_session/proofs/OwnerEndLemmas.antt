@@ -81,11 +81,7 @@ pixels_cut screen pixels new few fresh known = record {
 -- only its newline is missing
 pub refused_closes : (screen : Option Size) (left : ℕ) (why : Refusal) (new : OwnerReader) → left ≡ 0 →
     IsFresh new.stage → new.screen ≡ screen → ClosesFrom screen (Stage.Refused left why) (Some (Order.Refused why)) new
-refused_closes screen left why new none fresh known = record {
-  gives = λ text comes. by_reason text comes;
-  known = known;
-  fresh = fresh;
-}
+refused_closes screen left why new none fresh known = record { gives = by_reason; known = known; fresh = fresh }
   where
     by_reason : (text : List ℕ) → ComesTo screen text (Stage.Refused left why) →
         Closes screen text (Some (Order.Refused why))
@@ -101,11 +97,7 @@ refused_closes screen left why new none fresh known = record {
 -- bytes of its pixels are missing
 pub refused_cut : (screen : Option Size) (left : ℕ) (why : Refusal) (new : OwnerReader) → 0 < left → IsFresh new.stage →
     new.screen ≡ screen → ClosesFrom screen (Stage.Refused left why) (Some (Order.Refused Bad)) new
-refused_cut screen left why new some fresh known = record {
-  gives = λ text comes. by_reason text comes;
-  known = known;
-  fresh = fresh;
-}
+refused_cut screen left why new some fresh known = record { gives = by_reason; known = known; fresh = fresh }
   where
     by_reason : (text : List ℕ) → ComesTo screen text (Stage.Refused left why) →
         Closes screen text (Some (Order.Refused Bad))

@@ -9,25 +9,16 @@ use Rattle.rfb_session.proofs.owner.reader.OwnerReader.close_line.Goals as goal
 
 pub returns-in_default-said : goal.returns-in_default-said
 returns-in_default-said c =
-    let few : length c.args.line.items ≤ 96 = omega (
-      arith,
-      c.as_slice.ensures.fits,
-      ap (λ (t : List ℕ). length t) c.as_slice.ensures.value,
-    ) in
+    let few = subst (λ (t : List ℕ). length t ≤ 96) c.as_slice.ensures.value c.as_slice.ensures.fits in
     let some : length c.args.line.items ≢ 0 = λ none. absurd (grind (arith, nat_tests)) in
     line_closes _ c.args.line c.placed.result c.placed.new.self some
-    (λ plain. placed_orders c.args.self.now c.args.line.items c.in-Some.said c.placed.result c.placed.new.self
-    c.placed.ensures few (rw c.as_slice.ensures.value at c.in-Some.ensures)
-    (λ rect is. c.in_default-said.not-Pixels rect is) plain)
+    (placed_orders _ _ _ _ _ c.placed.ensures few (rw c.as_slice.ensures.value at c.in-Some.ensures)
+    c.in_default-said.not-Pixels)
     (subst (λ (s : Stage). IsFresh s) (sym c.placed.ensures.stage) c.requires.fresh) c.placed.ensures.known
 
 pub returns-in_default : goal.returns-in_default
 returns-in_default c =
-    let few : length c.args.line.items ≤ 96 = omega (
-      arith,
-      c.as_slice.ensures.fits,
-      ap (λ (t : List ℕ). length t) c.as_slice.ensures.value,
-    ) in
+    let few = subst (λ (t : List ℕ). length t ≤ 96) c.as_slice.ensures.value c.as_slice.ensures.fits in
     let some : length c.args.line.items ≢ 0 = λ none. absurd (grind (arith, nat_tests)) in
     line_closes _ c.args.line _ c.args.self.now some (λ plain. IsRefused.senseless (plain, few)
     (λ e. some (ap (λ (t : List ℕ). length t) e))

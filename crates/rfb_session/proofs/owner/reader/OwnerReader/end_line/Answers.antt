@@ -14,11 +14,7 @@ returns-then-is_empty c =
 
 pub returns-in-Pixels : goal.returns-in-Pixels
 returns-in-Pixels c =
-    let few : length c.args.line.items ≤ 96 = omega (
-      arith,
-      c.as_slice.ensures.fits,
-      ap (λ (t : List ℕ). length t) c.as_slice.ensures.value,
-    ) in
+    let few = subst (λ (t : List ℕ). length t ≤ 96) c.as_slice.ensures.value c.as_slice.ensures.fits in
     let says : SaysOwner (words_of c.args.line.items) c.in-Some.said = rw c.as_slice.ensures.value at c.in-Some.ensures
     in
     record {
@@ -30,24 +26,15 @@ returns-in-Pixels c =
 
 pub returns-in_default-said : goal.returns-in_default-said
 returns-in_default-said c =
-    let few : length c.args.line.items ≤ 96 = omega (
-      arith,
-      c.as_slice.ensures.fits,
-      ap (λ (t : List ℕ). length t) c.as_slice.ensures.value,
-    ) in
+    let few = subst (λ (t : List ℕ). length t ≤ 96) c.as_slice.ensures.value c.as_slice.ensures.fits in
     line_ends _ c.args.line c.placed.result c.placed.new.self
-    (λ plain. placed_orders c.args.self.now c.args.line.items c.in-Some.said c.placed.result c.placed.new.self
-    c.placed.ensures few (rw c.as_slice.ensures.value at c.in-Some.ensures)
-    (λ rect is. c.in_default-said.not-Pixels rect is) plain)
+    (placed_orders _ _ _ _ _ c.placed.ensures few (rw c.as_slice.ensures.value at c.in-Some.ensures)
+    c.in_default-said.not-Pixels)
     (subst (λ (s : Stage). IsFresh s) (sym c.placed.ensures.stage) c.requires.fresh) c.placed.ensures.known
 
 pub returns-in_default : goal.returns-in_default
 returns-in_default c =
-    let few : length c.args.line.items ≤ 96 = omega (
-      arith,
-      c.as_slice.ensures.fits,
-      ap (λ (t : List ℕ). length t) c.as_slice.ensures.value,
-    ) in
+    let few = subst (λ (t : List ℕ). length t ≤ 96) c.as_slice.ensures.value c.as_slice.ensures.fits in
     line_ends _ c.args.line _ c.args.self.now (λ plain. IsRefused.senseless (plain, few)
     (λ e. let none : length c.args.line.items ≡ 0 = ap (λ (t : List ℕ). length t) e in
     absurd (grind (arith, nat_tests)))
