@@ -5,10 +5,9 @@ use Rattle.std.proofs.Common.{inl, inr, refl, sym, ap, subst, ◌∙◌, append-
 use Rattle.rfb_pixel.specs.declared.colour.Colour.{Colour}
 use Rattle.rfb_picture.specs.Grid.{Grid}
 use Rattle.rfb_wire.specs.ClientMessage.{ClientMessage}
-use Rattle.rfb_wire.specs.stream.Sequel.{First, Second}
+use Rattle.rfb_wire.specs.stream.Sequel.{Second}
 use Rattle.rfb_wire.specs.stream.End.{acts}
 use Rattle.rfb_codec.specs.UpdateStream.{UpdatePoint}
-use Rattle.rfb_hello.specs.ServerHandshake.{ServerPoint}
 use Rattle.rfb_server.specs.Composition.{sent_as}
 use Rattle.rfb_viewer.specs.declared.fault.CallFault.{CallFault}
 use Rattle.rfb_viewer.specs.Calls.{requested, formatted, with_format}
@@ -25,7 +24,7 @@ use Rattle.rfb_session.proofs.PhaseLemmas.{Greeting, Versioned, Typed, Choosing3
 use Rattle.rfb_session.proofs.PhaseLemmas.{Chosen, Sharing, Begun, Named, Idling, Asking, Held, Sent}
 use Rattle.rfb_session.proofs.HoldsLemmas.{Holds}
 use Rattle.rfb_session.proofs.DueLemmas.{due_held}
-use Rattle.rfb_session.proofs.NetworkLemmas.{link_holds}
+use Rattle.rfb_session.proofs.NetworkLemmas.{link_holds, met}
 use Rattle.rfb_session.proofs.HopQueueLemmas.{IsLeft, Nothing, Whole, left_same, some_shown, no_replies}
 
 -- after the handshake, and outside of updates its picture shows that composing; the server has composed some
@@ -141,25 +140,7 @@ by_call o old new v message c is s picture point =
 -- the server is past the handshake where the viewer is
 server_past : (e : Ends) (c : Core) (p : UpdatePoint) → Phase e c → c.viewer.point ≡ Second p →
     c.session.point ≡ Second tt
-server_past e c p phase at = by phase
-  where
-    early : (vp : ServerPoint) → c.viewer.point ≡ First vp → c.session.point ≡ Second tt
-    early vp here = absurd (let is = sym here ∙ at in cc)
-
-    by : Phase e c → c.session.point ≡ Second tt
-    by (Greeting s) = early _ s.viewer_at
-    by (Versioned v s) = early _ s.viewer_at
-    by (Typed v s) = early _ s.viewer_at
-    by (Choosing37 s) = early _ s.viewer_at
-    by (Choosing38 s) = early _ s.viewer_at
-    by (Chosen s) = early _ s.viewer_at
-    by (Sharing v s) = early _ s.viewer_at
-    by (Begun v s) = s.session_at
-    by (Named v n text s has) = s.session_at
-    by (Idling q m s) = m.session_at
-    by (Asking q m s) = m.session_at
-    by (Held q m s) = m.session_at
-    by (Sent q m s) = m.session_at
+server_past e c p phase at = (met e c p phase at).1.session_at
 
 -- items reach the viewer
 to_viewer : (e : Ends) (screen : Grid Colour) (old new : LinkState) (c : Composing) (n : ℕ) →

@@ -1,5 +1,5 @@
 -- Every step of a world keeps what holds of its link; so it holds of all that is reached.
-use Rattle.std.proofs.Common.{◌≡◌, ℕ, [], map, None, inl, inr, refl, sym, ap, ◌∙◌, subst}
+use Rattle.std.proofs.Common.{◌≡◌, ◌⊎◌, ℕ, [], map, None, inl, inr, refl, sym, ap, ◌∙◌, subst}
 use Rattle.rfb_pixel.specs.declared.colour.Colour.{Colour}
 use Rattle.rfb_picture.specs.Grid.{Grid, changed}
 use Rattle.rfb_picture.proofs.GridLaws.{width-changed, height-changed, width-uniform, height-uniform}
@@ -22,6 +22,7 @@ use Rattle.rfb_session.specs.LinkSteps.{ToViewer as OfViewer, LinkSteps, begun}
 use Rattle.rfb_session.specs.Headline.{IsHeadline}
 use Rattle.rfb_session.specs.Network.{Network, Draws, OnLink, Steps, Strokes, Leads, Still, Then, IsReached}
 use Rattle.rfb_session.proofs.QueueLemmas.{uniform_at, none_unasked}
+use Rattle.rfb_session.proofs.PhaseLemmas.{Meets, Sends}
 use Rattle.rfb_session.proofs.PhaseLemmas.{Core, core, Phase, Greeting, Versioned, Typed, Choosing37, Choosing38}
 use Rattle.rfb_session.proofs.PhaseLemmas.{Chosen, Sharing, Begun, Named, Idling, Asking, Held, Sent}
 use Rattle.rfb_session.proofs.HoldsLemmas.{Holds, holds_to_viewer, holds_to_server}
@@ -159,15 +160,16 @@ apart vp p at one two = cc
 one_point : (p q : UpdatePoint) (at : ServerAt) → at ≡ Second p → at ≡ Second q → p.form ≡ q.form
 one_point p q at one two = let same : p ≡ q = cc in ap (λ (r : UpdatePoint). r.form) same
 
--- while an update is in flight both ends have one format
-agreed_now : (e : Ends) (c : Core) (p : UpdatePoint) → Phase e c → c.viewer.point ≡ Second p →
-    (c.to_viewer ≡ [] → ⊥) → p.form ≡ c.session.form
-agreed_now e c p phase at some = by phase
+-- where the viewer is past the handshake both ends meet, and nothing is in flight to it but an update
+pub met : (e : Ends) (c : Core) (p : UpdatePoint) → Phase e c → c.viewer.point ≡ Second p →
+    (q : UpdatePoint) × Meets e c q × ((c.to_viewer ≡ []) ⊎ Sends c q)
+met e c p phase at = by phase
   where
-    early : (vp : ServerPoint) → c.viewer.point ≡ First vp → p.form ≡ c.session.form
+    early : (vp : ServerPoint) → c.viewer.point ≡ First vp →
+        (q : UpdatePoint) × Meets e c q × ((c.to_viewer ≡ []) ⊎ Sends c q)
     early vp here = absurd (apart vp p c.viewer.point here at)
 
-    by : Phase e c → p.form ≡ c.session.form
+    by : Phase e c → (q : UpdatePoint) × Meets e c q × ((c.to_viewer ≡ []) ⊎ Sends c q)
     by (Greeting s) = early _ s.viewer_at
     by (Versioned v s) = early _ s.viewer_at
     by (Typed v s) = early _ s.viewer_at
@@ -177,10 +179,19 @@ agreed_now e c p phase at some = by phase
     by (Sharing v s) = early _ s.viewer_at
     by (Begun v s) = early _ s.viewer_at
     by (Named v n text s h) = early _ s.viewer_at
-    by (Idling q m s) = absurd (some s.none)
-    by (Asking q m s) = absurd (some s.none)
-    by (Held q m s) = absurd (some s.none)
-    by (Sent q m s) = one_point p q c.viewer.point at m.viewer_at ∙ sym s.formed
+    by (Idling q m s) = (q, m, inl s.none)
+    by (Asking q m s) = (q, m, inl s.none)
+    by (Held q m s) = (q, m, inl s.none)
+    by (Sent q m s) = (q, m, inr s)
+
+-- while an update is in flight both ends have one format
+agreed_now : (e : Ends) (c : Core) (p : UpdatePoint) → Phase e c → c.viewer.point ≡ Second p →
+    (c.to_viewer ≡ [] → ⊥) → p.form ≡ c.session.form
+agreed_now e c p phase at some = by (met e c p phase at)
+  where
+    by : (q : UpdatePoint) × Meets e c q × ((c.to_viewer ≡ []) ⊎ Sends c q) → p.form ≡ c.session.form
+    by (q, m, inl none) = absurd (some none)
+    by (q, m, inr s) = one_point p q c.viewer.point at m.viewer_at ∙ sym s.formed
 
 pub headline_holds : (e : Ends) (n : Network) → IsReached e n → IsHeadline e n.link
 headline_holds e n r =
