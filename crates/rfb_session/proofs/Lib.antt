@@ -78,6 +78,7 @@ pub mod PlayedLemmas
 pub mod VerdictLemmas
 pub mod ShownLemmas
 pub mod LossLemmas
+pub mod LeavingLemmas
 pub mod WrittenLemmas
 pub mod WireLemmas
 pub mod FailedLemmas
