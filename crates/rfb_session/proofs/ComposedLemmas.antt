@@ -30,11 +30,13 @@ idle_not_due screen link due (e, l, stands, none) =
     let c = stands.carries in
     none (due e.serving (server_of screen l.session) c.server_has c.server_is)
 
+-- a composing of an update, or of none, is one of a link's state
+abbrev ComposingDoes : Bool → Type 0
+ComposingDoes did = (screen : Grid Colour) (old new : Link) (told : Told) → ComposesOver screen old told new →
+    told.moved ≡ 0 → told.refused ≡ None → told.composed ≡ did → LinkDoesOver screen old Compose told new
+
 -- an update was composed, and what it answered was noted
-pub composed_does : (screen : Grid Colour) (old new : Link) (told : Told) →
-    ComposesOver screen old told new →
-    told.moved ≡ 0 → told.refused ≡ None → told.composed ≡ true →
-    LinkDoesOver screen old Compose told new
+pub composed_does : ComposingDoes true
 composed_does screen old new told over none taken did = λ e n made reached here stands.
     let c = stands.carries in
     let s : ServerState = server_of n.screen n.link.session in
@@ -85,17 +87,13 @@ composed_does screen old new told over none taken did = λ e n made reached here
     )
 
 -- none was due
-pub idle_does : (screen : Grid Colour) (old new : Link) (told : Told) →
-    ComposesOver screen old told new →
-    told.moved ≡ 0 → told.refused ≡ None → told.composed ≡ false →
-    LinkDoesOver screen old Compose told new
+pub idle_does : ComposingDoes false
 idle_does screen old new told over none taken not = λ e n made reached here stands.
     let c = stands.carries in
-    let s : ServerState = server_of n.screen n.link.session in
     let both = over.idle not in
     let stays : OwesNone n.screen old.session new.session old.to_viewer new.to_viewer =
     subst (λ (g : Grid Colour). OwesNone g old.session new.session old.to_viewer new.to_viewer) (sym here) both.0 in
-    let never = stays.not_due e.serving s c.server_has c.server_is in (
+    let never = stays.not_due e.serving _ c.server_has c.server_is in (
       n,
       (refl, inr (never, refl)),
       record {
@@ -108,7 +106,7 @@ idle_does screen old new told over none taken not = λ e n made reached here sta
         carries = rw (over.viewer, over.to_server, stays.appended) (record {
           server_has = c.server_has;
           viewer_has = c.viewer_has;
-          server_is = stays.kept.stands e.serving n.screen s c.server_has c.server_is;
+          server_is = stays.kept.stands e.serving n.screen _ c.server_has c.server_is;
           viewer_is = c.viewer_is;
           flies = c.flies;
         });
