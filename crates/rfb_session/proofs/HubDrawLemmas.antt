@@ -57,24 +57,37 @@ pub emptied_follow : (screen : Grid Colour) (old new : List (Option HubSeat)) (o
 emptied_follow screen old new own follow same emptied =
     all_emptied (λ seat. seat.link.session) screen old new own follow same emptied
 
--- what a hub keeps of its parts, with these slots
-abbrev pub KeepsHub : Hub → List (Option HubSeat) → Type 0
-KeepsHub hub slots = record {
+-- what a hub keeps of its parts, with this screen and these slots
+abbrev pub KeepsHub : Grid Colour → List (Option HubSeat) → Type 0
+KeepsHub screen slots = record {
   eight : length slots ≡ 8;
-  columns : hub.screen.width ≤ 4096;
-  rows : hub.screen.height ≤ 4096;
-  follow : EachFollows hub.screen slots
+  columns : screen.width ≤ 4096;
+  rows : screen.height ≤ 4096;
+  follow : EachFollows screen slots
 }
 
 -- it keeps it where one slot is set
 pub one_set : (hub : Hub) (i : ℕ) (x : Option HubSeat) → i < 8 →
     ((seat : HubSeat) → x ≡ Some seat → Follows hub.screen seat.link.session) →
-    KeepsHub hub (set hub.slots i x)
+    KeepsHub hub.screen (set hub.slots i x)
 one_set hub i x low one = record {
   eight = length-set hub.slots i x ∙ hub.eight;
   columns = hub.columns;
   rows = hub.rows;
   follow = set_follow hub.screen hub.slots i x (omega (arith, low, hub.eight)) hub.follow one;
+}
+
+-- and where all are told of a drawing
+pub all_told : (hub : Hub) (screen : Grid Colour) (slots : List (Option HubSeat)) (s : Stroke) →
+    length slots ≡ length hub.slots → screen.width ≡ hub.screen.width → screen.height ≡ hub.screen.height →
+    screen ≡ drawn_by s hub.screen →
+    ((k : ℕ) → OnSlot (λ a b. IsNotifiedOn (notice_of s) a b) (seat_in hub k) (seat_at k slots)) →
+    KeepsHub screen slots
+all_told hub screen slots s size wide high is told = record {
+  eight = size ∙ hub.eight;
+  columns = rw wide hub.columns;
+  rows = rw high hub.rows;
+  follow = rw is (notified_follow hub.screen hub.slots slots s hub.follow told);
 }
 
 -- ---- what it is made with

@@ -1,16 +1,16 @@
-use Rattle.std.proofs.Common.{◌∙◌, arith, inl, refl}
+use Rattle.std.proofs.Common.{arith, inl, refl}
 use Rattle.rfb_server.specs.Strokes.{stroke}
 use Rattle.rfb_server.proofs.DrawingLaws.{area_held}
-use Rattle.rfb_session.proofs.HubDrawLemmas.{all_held, notified_follow, drawn_does, made_sized}
+use Rattle.rfb_session.proofs.HubDrawLemmas.{all_held, all_told, drawn_does, made_sized}
 use Rattle.rfb_session.proofs.hub.Hub.drawn.Goals as goal
 
 pub notify_all-requires : goal.notify_all-requires
 notify_all-requires c =
-    let s = c.args.self.now in
-    let one = stroke c.args.drawing.now in (
+    let s = c.args.self.now in (
       omega arith,
       rw c.in-Ok.ensures.value
-          (all_held s.screen s.slots _ s.follow (area_held one s.screen c.in-Ok.ensures.inside)),
+          (all_held s.screen s.slots _ s.follow
+          (area_held (stroke c.args.drawing.now) s.screen c.in-Ok.ensures.inside)),
     )
 
 pub draw_on-requires : goal.draw_on-requires
@@ -18,15 +18,9 @@ draw_on-requires c = record { inside = c.in-Ok.ensures.inside }
 
 pub invariant_of-self : goal.invariant_of-self
 invariant_of-self c =
-    let s = c.args.self.now in
-    record {
-      eight = c.notify_all.ensures.size ∙ s.eight;
-      columns = rw c.draw_on.ensures.width s.columns;
-      rows = rw c.draw_on.ensures.height s.rows;
-      follow = rw c.draw_on.ensures.value
-          (notified_follow s.screen s.slots c.notify_all.new.slots (stroke c.args.drawing.now) s.follow
-          (rw c.in-Ok.ensures.value at c.notify_all.ensures.notified));
-    }
+    all_told c.args.self.now c.draw_on.new.screen c.notify_all.new.slots (stroke c.args.drawing.now)
+    c.notify_all.ensures.size c.draw_on.ensures.width c.draw_on.ensures.height c.draw_on.ensures.value
+    (rw c.in-Ok.ensures.value at c.notify_all.ensures.notified)
 
 pub returns-in-Ok : goal.returns-in-Ok
 returns-in-Ok c =
