@@ -20,7 +20,8 @@ use Rattle.rfb_session.proofs.FlightLemmas.{viewer_moved, server_moved, viewer_g
 module _ {S V : Type 0} (serves_as : Serving → S → ServerState → List ℕ → Type 0)
     (shows_as : Viewing → V → ViewerState → List ℕ → Type 0) where
   -- what is in flight between two ends that stand for a state
-  abbrev in_flight : {e : Ends} {screen : Grid Colour} {s : S} {v : V} {to_server to_viewer : List ℕ} {l : LinkState} →
+  abbrev in_flight : {e : Ends} {screen : Grid Colour} {s : S} {v : V}
+      {to_server to_viewer : List ℕ} {l : LinkState} →
       Carries serves_as shows_as e screen s v to_server to_viewer l → Flight
   in_flight {e} {screen} {s} {v} {to_server} {to_viewer} c = record {
     viewer_has = c.viewer_has;

@@ -10,17 +10,16 @@ use Rattle.rfb_session.proofs.RunLemmas.{item_taken}
 use Rattle.rfb_session.proofs.hub.Hub.run.Goals as goal
 
 pub loop-event-preserved : goal.loop-event-preserved
-loop-event-preserved c =
-    let all = item_taken c.args.events.now c.loop-event.event-index c.event-item.result (omega arith)
-    c.event-item.is in
-    record {
-      few = c.loop-event.invariant.few;
-      runs = subst (λ (events : List HubEvent). RunsHub c.args.self.now events c.step.new.self)
-          (sym all) (runs_more c.args.self.now c.loop-event.self c.step.new.self _
-          c.event-item.result c.in_ok-step.field-0 c.loop-event.invariant.runs
-          c.in_ok-step.ensures.steps);
-      stands = λ had. c.in_ok-step.ensures.stands (c.loop-event.invariant.stands had);
-    }
+loop-event-preserved c = record {
+  few = c.loop-event.invariant.few;
+  runs = subst (λ (events : List HubEvent). RunsHub c.args.self.now events c.step.new.self)
+      (sym (item_taken c.args.events.now c.loop-event.event-index c.event-item.result (omega arith)
+      c.event-item.is))
+      (runs_more c.args.self.now c.loop-event.self c.step.new.self _
+      c.event-item.result c.in_ok-step.field-0 c.loop-event.invariant.runs
+      c.in_ok-step.ensures.steps);
+  stands = λ had. c.in_ok-step.ensures.stands (c.loop-event.invariant.stands had);
+}
 
 pub returns-clause-steps : goal.returns-clause-steps
 returns-clause-steps c =

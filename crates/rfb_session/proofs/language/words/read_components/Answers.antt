@@ -5,12 +5,10 @@ use Rattle.rfb_session.proofs.language.words.read_components.Goals as goal
 
 pub returns-in_err-r-clause-found : goal.returns-in_err-r-clause-found
 returns-in_err-r-clause-found c =
-    rw c.from_residual.ensures
-    (found_decoded c.args.word.now 6 c.from_hex.result false c.from_hex.ensures c.in_err-r.ensures.variant)
+    rw c.from_residual.ensures (found_decoded _ 6 _ false c.from_hex.ensures c.in_err-r.ensures.variant)
 
 pub returns-clause-found : goal.returns-clause-found
-returns-clause-found c =
-    found_decoded c.args.word.now 6 c.from_hex.result true c.from_hex.ensures c.in_ok-r.ensures.variant
+returns-clause-found c = found_decoded _ 6 _ true c.from_hex.ensures c.in_ok-r.ensures.variant
 
 pub returns-clause-value : goal.returns-clause-value
 returns-clause-value c =

@@ -8,16 +8,15 @@ use Rattle.rfb_session.proofs.RunLemmas.{Any, item_taken, run_more, run_holds, n
 use Rattle.rfb_session.proofs.world.World.run.Goals as goal
 
 pub loop-event-preserved : goal.loop-event-preserved
-loop-event-preserved c =
-    let all = item_taken c.args.events.now c.loop-event.event-index c.event-item.result (omega arith)
-    c.event-item.is in
-    record {
-      few = c.loop-event.invariant.few;
-      runs = subst (λ (events : List Event). Reaches c.args.self.now events c.step.new.self Any)
-          (sym all) (run_more c.args.self.now c.loop-event.self c.step.new.self _
-          c.event-item.result c.in_ok-step.field-0 c.loop-event.invariant.runs
-          c.in_ok-step.ensures.does);
-    }
+loop-event-preserved c = record {
+  few = c.loop-event.invariant.few;
+  runs = subst (λ (events : List Event). Reaches c.args.self.now events c.step.new.self Any)
+      (sym (item_taken c.args.events.now c.loop-event.event-index c.event-item.result (omega arith)
+      c.event-item.is))
+      (run_more c.args.self.now c.loop-event.self c.step.new.self _
+      c.event-item.result c.in_ok-step.field-0 c.loop-event.invariant.runs
+      c.in_ok-step.ensures.does);
+}
 
 pub returns-clause-steps : goal.returns-clause-steps
 returns-clause-steps c =

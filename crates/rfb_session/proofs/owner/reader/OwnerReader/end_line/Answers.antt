@@ -26,16 +26,15 @@ returns-in-Pixels c =
 
 pub returns-in_default-said : goal.returns-in_default-said
 returns-in_default-said c =
-    let few = subst (λ (t : List ℕ). length t ≤ 96) c.as_slice.ensures.value c.as_slice.ensures.fits in
     line_ends _ c.args.line c.placed.result c.placed.new.self
-    (placed_orders _ _ _ _ _ c.placed.ensures few (rw c.as_slice.ensures.value at c.in-Some.ensures)
-    c.in_default-said.not-Pixels)
+    (placed_orders _ _ _ _ _ c.placed.ensures (rw c.as_slice.ensures.value at c.as_slice.ensures.fits)
+    (rw c.as_slice.ensures.value at c.in-Some.ensures) c.in_default-said.not-Pixels)
     (subst (λ (s : Stage). IsFresh s) (sym c.placed.ensures.stage) c.requires.fresh) c.placed.ensures.known
 
 pub returns-in_default : goal.returns-in_default
 returns-in_default c =
-    let few = subst (λ (t : List ℕ). length t ≤ 96) c.as_slice.ensures.value c.as_slice.ensures.fits in
-    line_ends _ c.args.line _ c.args.self.now (λ plain. IsRefused.senseless (plain, few)
+    line_ends _ c.args.line _ c.args.self.now (λ plain. IsRefused.senseless
+    (plain, rw c.as_slice.ensures.value at c.as_slice.ensures.fits)
     (λ e. let none : length c.args.line.items ≡ 0 = ap (λ (t : List ℕ). length t) e in
     absurd (grind (arith, nat_tests)))
     (rw c.as_slice.ensures.value at c.in_default.ensures)) c.requires.fresh refl
