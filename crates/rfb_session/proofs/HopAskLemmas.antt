@@ -1,12 +1,11 @@
 -- Requests that ask for all, among the items that are sent to a server.
-use Rattle.std.proofs.Common.{zero, suc, List, [], ◌∷◌, ◌++◌, map}
+use Rattle.std.proofs.Common.{zero, List, [], ◌∷◌, ◌++◌, map}
 use Rattle.rfb_wire.specs.ClientMessage.{SetPixelFormat, SetEncodings, FramebufferUpdateRequest}
 use Rattle.rfb_wire.specs.ClientMessage.{KeyEvent, PointerEvent, ClientCutText}
 use Rattle.rfb_wire.specs.stream.Sequel.{First, Second}
 use Rattle.rfb_hello.specs.ClientHandshake.{ClientItem}
-use Rattle.rfb_hello.specs.ServerHandshake.{ServerPoint, AwaitsVersion, AwaitsSecurity, AwaitsResult, AwaitsInit}
-use Rattle.rfb_hello.specs.ServerHandshake.{AwaitsName, Begun, ServerItem, ProtocolVersion, SecurityNone, SecurityTypes}
-use Rattle.rfb_hello.specs.ServerHandshake.{SecurityResult, ServerInit, Name}
+use Rattle.rfb_hello.specs.ServerHandshake.{ServerPoint, AwaitsSecurity}
+use Rattle.rfb_hello.specs.ServerHandshake.{ServerItem, SecurityTypes, ServerInit}
 use Rattle.rfb_hello.specs.ViewerAnswers.{choice_asked}
 use Rattle.rfb_server.specs.ClientBytes.{FromClient}
 use Rattle.rfb_viewer.specs.ServerBytes.{ServerAt, FromServer}
@@ -44,42 +43,9 @@ steps_all e (step ∷ steps) = steps_all e steps
 
 answers_step : (e : Ends) (point : ServerPoint) (step : ServerItem) →
     AreForAll e (answers_to_step e.viewing point step)
-answers_step e AwaitsVersion (ProtocolVersion version) = tt
-answers_step e AwaitsVersion SecurityNone = tt
-answers_step e AwaitsVersion (SecurityTypes types) = tt
-answers_step e AwaitsVersion SecurityResult = tt
-answers_step e AwaitsVersion (ServerInit width height zero) = tt
-answers_step e AwaitsVersion (ServerInit width height (suc k)) = tt
-answers_step e AwaitsVersion (Name text) = tt
-answers_step e (AwaitsSecurity v) (ProtocolVersion version) = tt
-answers_step e (AwaitsSecurity v) SecurityNone = tt
 answers_step e (AwaitsSecurity v) (SecurityTypes types) = steps_all e (choice_asked v e.viewing.hello.shared)
-answers_step e (AwaitsSecurity v) SecurityResult = tt
-answers_step e (AwaitsSecurity v) (ServerInit width height zero) = tt
-answers_step e (AwaitsSecurity v) (ServerInit width height (suc k)) = tt
-answers_step e (AwaitsSecurity v) (Name text) = tt
-answers_step e (AwaitsResult v) (ProtocolVersion version) = tt
-answers_step e (AwaitsResult v) SecurityNone = tt
-answers_step e (AwaitsResult v) (SecurityTypes types) = tt
-answers_step e (AwaitsResult v) SecurityResult = tt
-answers_step e (AwaitsResult v) (ServerInit width height zero) = tt
-answers_step e (AwaitsResult v) (ServerInit width height (suc k)) = tt
-answers_step e (AwaitsResult v) (Name text) = tt
-answers_step e (AwaitsInit v) (ProtocolVersion version) = tt
-answers_step e (AwaitsInit v) SecurityNone = tt
-answers_step e (AwaitsInit v) (SecurityTypes types) = tt
-answers_step e (AwaitsInit v) SecurityResult = tt
-answers_step e (AwaitsInit v) (ServerInit width height zero) = tt
-answers_step e (AwaitsInit v) (ServerInit width height (suc k)) = tt
-answers_step e (AwaitsInit v) (Name text) = tt
-answers_step e (AwaitsName v w h n) (ProtocolVersion version) = tt
-answers_step e (AwaitsName v w h n) SecurityNone = tt
-answers_step e (AwaitsName v w h n) (SecurityTypes types) = tt
-answers_step e (AwaitsName v w h n) SecurityResult = tt
-answers_step e (AwaitsName v w h n) (ServerInit width height zero) = tt
-answers_step e (AwaitsName v w h n) (ServerInit width height (suc k)) = tt
-answers_step e (AwaitsName v w h n) (Name text) = tt
-answers_step e (Begun v w h) step = tt
+answers_step e point (ServerInit width height zero) = tt
+answers_step e point step = tt
 
 answers_all : (e : Ends) (at : ServerAt) (item : FromServer) → AreForAll e (viewer_answers e.viewing at item)
 answers_all e (First point) (First step) = answers_step e point step
