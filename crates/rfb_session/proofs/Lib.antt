@@ -17,7 +17,6 @@ pub mod CarryLemmas
 pub mod WorldLemmas
 pub mod DeliveringLemmas
 pub mod ReachingLemmas
-pub mod EndedLemmas
 pub mod ChannelLemmas
 pub mod DrawnLemmas
 pub mod DrawnLaws

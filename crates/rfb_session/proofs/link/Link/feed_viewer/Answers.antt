@@ -1,7 +1,6 @@
 use Rattle.std.proofs.Common.{ℕ, List, ◌++◌, inl, inr, ap, ◌∙◌, refl}
 use Rattle.rfb_viewer.specs.Told.{seen}
 use Rattle.rfb_session.proofs.DeliveringLemmas.{viewer_delivers, viewer_never}
-use Rattle.rfb_session.proofs.EndedLemmas.{ended_by}
 use Rattle.rfb_session.proofs.ReachingLemmas.{watched_once, watched_last, there}
 use Rattle.rfb_session.proofs.ShareSeatLemmas.{not_failed}
 use Rattle.rfb_session.proofs.link.Link.feed_viewer.Goals as goal
@@ -38,8 +37,7 @@ returns-else-viewer_wants_memory-clause-reached c =
           (record {
             fault = c.in-Err.fault;
             has_memory = c.viewer_wants_memory.ensures.other c.if-viewer_wants_memory.false;
-            ends = ended_by c.in-Err.ensures.fails c.in-Err.ensures.fault c.in-Err.ensures.memory
-                c.in-Err.ensures.picture c.in-Err.ensures.reason;
+            ends = assumption c.in-Err.ensures;
             failed = λ some. let was = there _ some in (c.feed.ensures.failed was.0 was.1).1;
           })
           refl c.arrive-in-Err.ensures refl refl,

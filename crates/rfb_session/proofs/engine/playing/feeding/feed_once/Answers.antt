@@ -2,7 +2,6 @@ use Rattle.std.proofs.Common.{take}
 use Rattle.std.proofs.lemmas.Result.{err_from_is_err_and}
 use Rattle.rfb_viewer.specs.Told.{seen}
 use Rattle.rfb_session.specs.ViewerActs.{ends_told}
-use Rattle.rfb_session.proofs.EndedLemmas.{ended_by}
 use Rattle.rfb_session.proofs.WatcherLemmas.{hears_once}
 use Rattle.rfb_session.proofs.engine.playing.feeding.feed_once.Goals as goal
 
@@ -24,5 +23,4 @@ returns-clause-heard g c = (
 pub returns-in_err-fed-clause-ends : goal.returns-in_err-fed-clause-ends
 returns-in_err-fed-clause-ends g c =
     let p = err_from_is_err_and c.from_residual.result c.from_residual.ensures.1 in
-    rw (p.1, p.2) (ended_by c.in_err-fed.ensures.fails c.in_err-fed.ensures.fault c.in_err-fed.ensures.memory
-    c.in_err-fed.ensures.picture c.in_err-fed.ensures.reason)
+    rw (p.1, p.2) (assumption c.in_err-fed.ensures)
