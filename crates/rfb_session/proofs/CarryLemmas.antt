@@ -46,14 +46,8 @@ module _ {S V : Type 0} (serves_as : Serving → S → ServerState → List ℕ 
         moved.moves,
         holds_to_viewer e screen l moved.new
             (length bytes) h moved.moves,
-        record {
-          server_has = c.server_has;
-          viewer_has = one.1;
-          server_is = same moved.new moved.moves;
-          viewer_is =
-              subst (λ (t : ViewerState). shows_as e.viewing new t one.1) (sym moved.viewer_is) one.2;
-          flies = moved.flies;
-        },
+        search (same moved.new moved.moves, moved.flies,
+        subst (λ (t : ViewerState). shows_as e.viewing new t one.1) (sym moved.viewer_is) one.2),
       )
     where
       same : (m : LinkState) → MovesToViewer e l (length bytes) m →
@@ -86,15 +80,8 @@ module _ {S V : Type 0} (serves_as : Serving → S → ServerState → List ℕ 
         moved.moves,
         holds_to_server e screen l moved.new
             (length bytes) h moved.moves,
-        record {
-          server_has = one.1;
-          viewer_has = c.viewer_has;
-          server_is =
-              subst (λ (t : ServerState). serves_as e.serving new t one.1)
-              (sym moved.server_is) one.2;
-          viewer_is = same moved.new moved.moves;
-          flies = moved.flies;
-        },
+        search (same moved.new moved.moves, moved.flies,
+        subst (λ (t : ServerState). serves_as e.serving new t one.1) (sym moved.server_is) one.2),
       )
     where
       same : (m : LinkState) → MovesToServer e screen l (length bytes) m →
