@@ -6,17 +6,17 @@ use Rattle.rfb_pixel.specs.declared.colour.Colour.{Colour}
 use Rattle.rfb_pixel.specs.Format.{PixelFormat}
 use Rattle.rfb_picture.specs.Grid.{Grid}
 use Rattle.rfb_wire.specs.stream.Sequel.{First, Second}
-use Rattle.rfb_wire.specs.stream.Grammar.{sizes}
-use Rattle.rfb_wire.specs.stream.End.{acts}
+use Rattle.rfb_wire.specs.stream.Grammar.{Grammar, sizes}
+use Rattle.rfb_wire.specs.stream.End.{Machine, acts}
 use Rattle.rfb_wire.proofs.stream_laws.GrammarLaws.{all_length, sizes_append}
 use Rattle.rfb_wire.proofs.stream_laws.EndLaws.{acts_append}
 use Rattle.rfb_wire.specs.ClientMessage.{SetPixelFormat, SpellsClientMessage}
 use Rattle.rfb_codec.specs.UpdateStream.{UpdatePoint}
 use Rattle.rfb_server.specs.ClientBytes.{FromClient}
-use Rattle.rfb_server.specs.Server.{Serving, ServerState, serves, server}
+use Rattle.rfb_server.specs.Server.{ServerState, server}
 use Rattle.rfb_server.proofs.ServerLaws.{client_bytes_laws}
 use Rattle.rfb_viewer.specs.ServerBytes.{ServerAt, FromServer}
-use Rattle.rfb_viewer.specs.Viewer.{Viewing, ViewerState, viewer, shows}
+use Rattle.rfb_viewer.specs.Viewer.{ViewerState, viewer}
 use Rattle.rfb_viewer.specs.Calls.{format_refused, format_refusal, with_format, formatted}
 use Rattle.rfb_viewer.proofs.ViewerLaws.{server_bytes_laws}
 use Rattle.rfb_session.specs.Link.{Ends, server_of, session_of, LinkState}
@@ -59,31 +59,31 @@ server_flight e l f flies =
 
 -- ---- deliveries after deliveries
 
-viewer_replies_append : (viewing : Viewing) (s : ViewerState) (xs ys : List FromServer) →
-    viewer_replies viewing s (xs ++ ys)
-    ≡ viewer_replies viewing s xs ++ viewer_replies viewing (acts (viewer viewing) s xs) ys
-viewer_replies_append viewing s [] ys = refl
-viewer_replies_append viewing s (item ∷ xs) ys =
-    ap (λ (more : List FromClient). viewer_answers viewing s.point item ++ more)
-    (viewer_replies_append viewing (shows viewing s item) xs ys)
-    ∙ sym (append_assoc (viewer_answers viewing s.point item)
-    (viewer_replies viewing (shows viewing s item) xs)
-    (viewer_replies viewing (acts (viewer viewing) (shows viewing s item) xs) ys))
+-- what items are answered is what some are answered, and then the others
+answered_append : {S P I F E O : Type 0} (m : Machine S P I F E) (answers : S → I → List O)
+    (replies : S → List I → List O) → ((s : S) → replies s [] ≡ []) →
+    ((s : S) (item : I) (items : List I) →
+    replies s (item ∷ items) ≡ answers s item ++ replies (m.act s item) items) →
+    (s : S) (xs ys : List I) → replies s (xs ++ ys) ≡ replies s xs ++ replies (acts m s xs) ys
+answered_append m answers replies none step s [] ys = rw (none s) refl
+answered_append {O = O} m answers replies none step s (item ∷ xs) ys =
+    let more = answered_append m answers replies none step (m.act s item) xs ys in
+    rw (step s item (xs ++ ys), step s item xs)
+    (ap (λ (q : List O). answers s item ++ q) more
+    ∙ sym (append_assoc (answers s item) (replies (m.act s item) xs) (replies (acts m (m.act s item) xs) ys)))
 
-server_replies_append : (serving : Serving) (s : ServerState) (xs ys : List FromClient) →
-    server_replies serving s (xs ++ ys)
-    ≡ server_replies serving s xs ++ server_replies serving (acts (server serving) s xs) ys
-server_replies_append serving s [] ys = refl
-server_replies_append serving s (item ∷ xs) ys =
-    ap (λ (more : List FromServer). server_answers serving s.point item ++ more)
-    (server_replies_append serving (serves serving s item) xs ys)
-    ∙ sym (append_assoc (server_answers serving s.point item)
-    (server_replies serving (serves serving s item) xs)
-    (server_replies serving (acts (server serving) (serves serving s item) xs) ys))
+-- some of a queue was done, and then some more
+queue_joined : {I : Type 0} (old one left mid next rest : List I) → old ≡ one ++ left → mid ≡ left →
+    mid ≡ next ++ rest → old ≡ (one ++ next) ++ rest
+queue_joined {I} old one left mid next rest first here second =
+    first ∙ ap (λ (q : List I). one ++ q) (sym here ∙ second) ∙ sym (append_assoc one next rest)
 
-counted : (at n m one mid two to all : ℕ) → at + n ≡ one + mid → mid + m ≡ two + to → all
-    ≡ one + two → at + (n + m) ≡ all + to
-counted at n m one mid two to all a b c = omega (arith, a, b, c)
+-- and so of the bytes that they are
+count_joined : {P I F : Type 0} (g : Grammar P I F) (one next : List I) (at n m mid to here : ℕ) →
+    at + n ≡ sizes g one + mid → here ≡ mid → here + m ≡ sizes g next + to →
+    at + (n + m) ≡ sizes g (one ++ next) + to
+count_joined g one next at n m mid to here first is second =
+    omega (arith, first, is, second, sizes_append g one next)
 
 abbrev to_viewer_of : LinkState → ViewerState → List FromServer → ℕ → List FromClient → LinkState
 to_viewer_of l v left at ts =
@@ -97,12 +97,6 @@ pub viewer_moves_join : (e : Ends) (a b c : LinkState) (n m : ℕ) → MovesToVi
     MovesToViewer e b m c → MovesToViewer e a (n + m) c
 viewer_moves_join e a b c n m one two = by b one.result two
   where
-    queue_is : (mid : LinkState) (next : MovesToViewer e mid m c) → mid.to_viewer ≡ one.left →
-        a.to_viewer ≡ (one.done ++ next.done) ++ next.left
-    queue_is mid next at =
-        one.queue ∙ ap (λ (q : List FromServer). one.done ++ q) (sym at ∙ next.queue)
-        ∙ sym (append_assoc one.done next.done next.left)
-
     by : (mid : LinkState) → mid
         ≡ record a {
           viewer = acts (viewer e.viewing) a.viewer one.done;
@@ -123,7 +117,9 @@ viewer_moves_join e a b c n m one two = by b one.result two
         ∙ append_assoc a.to_server (viewer_replies e.viewing a.viewer one.done)
         (viewer_replies e.viewing (acts (viewer e.viewing) a.viewer one.done) next.done)
         ∙ ap (λ (q : List FromClient). a.to_server ++ q)
-        (sym (viewer_replies_append e.viewing a.viewer one.done next.done)) in
+        (sym (answered_append (viewer e.viewing) (λ s item. viewer_answers e.viewing s.point item)
+        (λ s items. viewer_replies e.viewing s items) (λ s. refl) (λ s item items. refl)
+        a.viewer one.done next.done)) in
         let rest : to_viewer_of mid (acts (viewer e.viewing) mid.viewer next.done) next.left next.at
         (mid.to_server ++ viewer_replies e.viewing mid.viewer next.done)
         ≡ to_viewer_of a (acts (viewer e.viewing) mid.viewer next.done) next.left next.at
@@ -131,35 +127,23 @@ viewer_moves_join e a b c n m one two = by b one.result two
         ap (λ (l : LinkState). to_viewer_of l
         (acts (viewer e.viewing) mid.viewer next.done) next.left next.at
         (mid.to_server ++ viewer_replies e.viewing mid.viewer next.done)) is in
-        record {
-          done = one.done ++ next.done;
-          left = next.left;
-          at = next.at;
-          queue = queue_is mid next (ap (λ (l : LinkState). l.to_viewer) is);
-          count = counted a.at_viewer n m (sizes (to_viewer_stream e) one.done) one.at
-              (sizes (to_viewer_stream e) next.done) next.at
-              (sizes (to_viewer_stream e) (one.done ++ next.done)) one.count
-              (ap (λ (l : LinkState). l.at_viewer + m) (sym is) ∙ next.count)
-              (sizes_append (to_viewer_stream e) one.done next.done);
-          within = next.within;
-          result = next.result ∙ rest
-              ∙ ap (λ (v : ViewerState). to_viewer_of a v next.left next.at
-              (mid.to_server ++ viewer_replies e.viewing mid.viewer next.done)) state
-              ∙ ap (λ (q : List FromClient). to_viewer_of a
-              (acts (viewer e.viewing) a.viewer
-              (one.done ++ next.done)) next.left next.at q) answers;
-        }
+        let result : c ≡ to_viewer_of a (acts (viewer e.viewing) a.viewer (one.done ++ next.done)) next.left next.at
+        (a.to_server ++ viewer_replies e.viewing a.viewer (one.done ++ next.done)) =
+        next.result ∙ rest
+        ∙ ap (λ (v : ViewerState). to_viewer_of a v next.left next.at
+        (mid.to_server ++ viewer_replies e.viewing mid.viewer next.done)) state
+        ∙ ap (λ (q : List FromClient). to_viewer_of a
+        (acts (viewer e.viewing) a.viewer (one.done ++ next.done)) next.left next.at q) answers in
+        search (result, next.within,
+        queue_joined a.to_viewer one.done one.left mid.to_viewer next.done next.left one.queue
+        (ap (λ (l : LinkState). l.to_viewer) is) next.queue,
+        count_joined (to_viewer_stream e) one.done next.done a.at_viewer n m one.at next.at mid.at_viewer one.count
+        (ap (λ (l : LinkState). l.at_viewer) is) next.count)
 
 pub server_moves_join : (e : Ends) (screen : Grid Colour) (a b c : LinkState) (n m : ℕ) →
     MovesToServer e screen a n b → MovesToServer e screen b m c → MovesToServer e screen a (n + m) c
 server_moves_join e screen a b c n m one two = by b one.result two
   where
-    queue_is : (mid : LinkState) (next : MovesToServer e screen mid m c) → mid.to_server ≡ one.left →
-        a.to_server ≡ (one.done ++ next.done) ++ next.left
-    queue_is mid next at =
-        one.queue ∙ ap (λ (q : List FromClient). one.done ++ q) (sym at ∙ next.queue)
-        ∙ sym (append_assoc one.done next.done next.left)
-
     first : ServerState
     first = acts (server e.serving) (server_of screen a.session) one.done
 
@@ -195,7 +179,8 @@ server_moves_join e screen a b c n m one two = by b one.result two
         (server_replies e.serving
         (acts (server e.serving) (server_of screen a.session) one.done) next.done)
         ∙ ap (λ (q : List FromServer). a.to_viewer ++ q)
-        (sym (server_replies_append e.serving
+        (sym (answered_append (server e.serving) (λ s item. server_answers e.serving s.point item)
+        (λ s items. server_replies e.serving s items) (λ s. refl) (λ s item items. refl)
         (server_of screen a.session) one.done next.done)) in
         let rest : to_server_of mid
         (acts (server e.serving) (server_of screen mid.session) next.done) next.left next.at
@@ -207,25 +192,19 @@ server_moves_join e screen a b c n m one two = by b one.result two
         (acts (server e.serving) (server_of screen mid.session) next.done) next.left next.at
         (mid.to_viewer ++ server_replies e.serving
         (server_of screen mid.session) next.done)) is in
-        record {
-          done = one.done ++ next.done;
-          left = next.left;
-          at = next.at;
-          queue = queue_is mid next (ap (λ (l : LinkState). l.to_server) is);
-          count = counted a.at_server n m (sizes (to_server_stream e) one.done) one.at
-              (sizes (to_server_stream e) next.done) next.at
-              (sizes (to_server_stream e) (one.done ++ next.done)) one.count
-              (ap (λ (l : LinkState). l.at_server + m) (sym is) ∙ next.count)
-              (sizes_append (to_server_stream e) one.done next.done);
-          within = next.within;
-          result = next.result ∙ rest
-              ∙ ap (λ (s : ServerState). to_server_of a s next.left next.at
-              (mid.to_viewer ++ server_replies e.serving
-              (server_of screen mid.session) next.done)) state
-              ∙ ap (λ (q : List FromServer). to_server_of a
-              (acts (server e.serving) (server_of screen a.session)
-              (one.done ++ next.done)) next.left next.at q) replies;
-        }
+        let result : c ≡ to_server_of a (acts (server e.serving) (server_of screen a.session) (one.done ++ next.done))
+        next.left next.at
+        (a.to_viewer ++ server_replies e.serving (server_of screen a.session) (one.done ++ next.done)) =
+        next.result ∙ rest
+        ∙ ap (λ (s : ServerState). to_server_of a s next.left next.at
+        (mid.to_viewer ++ server_replies e.serving (server_of screen mid.session) next.done)) state
+        ∙ ap (λ (q : List FromServer). to_server_of a
+        (acts (server e.serving) (server_of screen a.session) (one.done ++ next.done)) next.left next.at q) replies in
+        search (result, next.within,
+        queue_joined a.to_server one.done one.left mid.to_server next.done next.left one.queue
+        (ap (λ (l : LinkState). l.to_server) is) next.queue,
+        count_joined (to_server_stream e) one.done next.done a.at_server n m one.at next.at mid.at_server one.count
+        (ap (λ (l : LinkState). l.at_server) is) next.count)
 
 -- ---- an accepted format
 
