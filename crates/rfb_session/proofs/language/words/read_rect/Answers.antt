@@ -1,34 +1,14 @@
-use Rattle.std.proofs.Common.{◌≡◌, true, false}
+use Rattle.std.proofs.Common.{rules}
 use Rattle.rfb_session.proofs.language.words.read_rect.Goals as goal
 
 pub returns-in_err-read_number-clause-found : goal.returns-in_err-read_number-clause-found
-returns-in_err-read_number-clause-found c =
-    rw c.from_residual.ensures (
-      λ h. let bad : false ≡ true = h in
-          absurd (cc),
-      λ are. absurd (c.in_err-read_number.ensures are.0),
-    )
+returns-in_err-read_number-clause-found c = search (rules, c.in_err-read_number.ensures)
 
 pub returns-in_err-read_number-2-clause-found : goal.returns-in_err-read_number-2-clause-found
-returns-in_err-read_number-2-clause-found c =
-    rw c.from_residual-in_err-read_number-2.ensures (
-      λ h. let bad : false ≡ true = h in
-          absurd (cc),
-      λ are. absurd (c.in_err-read_number-2.ensures are.1),
-    )
+returns-in_err-read_number-2-clause-found c = search (rules, c.in_err-read_number-2.ensures)
 
 pub returns-in_err-read_number-3-clause-found : goal.returns-in_err-read_number-3-clause-found
-returns-in_err-read_number-3-clause-found c =
-    rw c.from_residual-in_err-read_number-3.ensures (
-      λ h. let bad : false ≡ true = h in
-          absurd (cc),
-      λ are. absurd (c.in_err-read_number-3.ensures are.2),
-    )
+returns-in_err-read_number-3-clause-found c = search (rules, c.in_err-read_number-3.ensures)
 
 pub returns-in_err-read_number-4-clause-found : goal.returns-in_err-read_number-4-clause-found
-returns-in_err-read_number-4-clause-found c =
-    rw c.from_residual-in_err-read_number-4.ensures (
-      λ h. let bad : false ≡ true = h in
-          absurd (cc),
-      λ are. absurd (c.in_err-read_number-4.ensures are.3),
-    )
+returns-in_err-read_number-4-clause-found c = search (rules, c.in_err-read_number-4.ensures)
