@@ -40,15 +40,10 @@ module _ {S V : Type 0} (serves_as : Serving → S → ServerState → List ℕ 
       × Carries serves_as shows_as e screen s new (to_server ++ viewer_reply event) later m
   viewer_fed e screen s old new to_server bytes later event l made h c fed =
       let one = fed l.viewer c.viewer_has c.viewer_is in
-      let moved =
-      viewer_moved e screen l (in_flight c) bytes later one.1 event one.0 made h c.flies refl one.3 in (
-        moved.new,
-        moved.moves,
-        holds_to_viewer e screen l moved.new
-            (length bytes) h moved.moves,
-        search (same moved.new moved.moves, moved.flies,
-        subst (λ (t : ViewerState). shows_as e.viewing new t one.1) (sym moved.viewer_is) one.2),
-      )
+      let moved = viewer_moved e screen l (in_flight c) bytes later one.1 event one.0 made h c.flies refl one.3 in
+      search (moved.moves, holds_to_viewer e screen l moved.new (length bytes) h moved.moves, moved.flies,
+      same moved.new moved.moves,
+      subst (λ (t : ViewerState). shows_as e.viewing new t one.1) (sym moved.viewer_is) one.2)
     where
       same : (m : LinkState) → MovesToViewer e l (length bytes) m →
           serves_as e.serving s (server_of screen m.session) c.server_has
@@ -74,15 +69,10 @@ module _ {S V : Type 0} (serves_as : Serving → S → ServerState → List ℕ 
       × Carries serves_as shows_as e screen new v later (to_viewer ++ server_reply event) m
   server_fed e screen old new v bytes later to_viewer event l made h c fed =
       let one = fed (server_of screen l.session) c.server_has c.server_is in
-      let moved =
-      server_moved e screen l (in_flight c) bytes later one.1 event one.0 made h c.flies refl one.3 in (
-        moved.new,
-        moved.moves,
-        holds_to_server e screen l moved.new
-            (length bytes) h moved.moves,
-        search (same moved.new moved.moves, moved.flies,
-        subst (λ (t : ServerState). serves_as e.serving new t one.1) (sym moved.server_is) one.2),
-      )
+      let moved = server_moved e screen l (in_flight c) bytes later one.1 event one.0 made h c.flies refl one.3 in
+      search (moved.moves, holds_to_server e screen l moved.new (length bytes) h moved.moves, moved.flies,
+      same moved.new moved.moves,
+      subst (λ (t : ServerState). serves_as e.serving new t one.1) (sym moved.server_is) one.2)
     where
       same : (m : LinkState) → MovesToServer e screen l (length bytes) m →
           shows_as e.viewing v m.viewer c.viewer_has
