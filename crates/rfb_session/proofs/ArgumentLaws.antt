@@ -60,6 +60,7 @@ abbrev pub AreSix : (List ℕ → Type 0) → (List ℕ → Type 0) → List (Li
 AreSix P Q words rect =
     (x y w h u v : List ℕ) × (words ≡ x ∷ y ∷ w ∷ h ∷ u ∷ v ∷ []) × AreRect x y w h rect × P u × Q v
 
+-- they are, where each is read
 pub are_six : (P Q : List ℕ → Type 0) (words : List (Bor (List ℕ))) (d : Bor (List ℕ)) →
     length words ≡ 6 → (rect : Rect) →
     AreRect (word words 0 d) (word words 1 d) (word words 2 d) (word words 3 d) rect →
@@ -77,6 +78,7 @@ are_six P Q words d len rect are p q = (
   q,
 )
 
+-- and they are not, where one is not
 pub none_six : (P Q : List ℕ → Type 0) (words : List (Bor (List ℕ))) (d : Bor (List ℕ)) →
     length words ≡ 6 → (rect : Rect) →
     (AreRect (word words 0 d) (word words 1 d) (word words 2 d) (word words 3 d) rect →
@@ -101,7 +103,8 @@ not_size words other size said =
     other (sym (texts_length words) ∙ s)
 
 -- words that are not all numbers are no rectangle
-pub no_rect : {x y w h : List ℕ} {rect : Rect} → (false ≡ true) ↔ AreNumbers x y w h → ¬ (AreRect x y w h rect)
+pub no_rect : {x y w h : List ℕ} {rect : Rect} → (false ≡ true) ↔ AreNumbers x y w h →
+    ¬ (AreRect x y w h rect)
 no_rect found are = let bad = found.1 are.numbers in cc
 
 pub no_fill : (words : List (Bor (List ℕ))) (d : Bor (List ℕ)) → length words ≡ 5 →

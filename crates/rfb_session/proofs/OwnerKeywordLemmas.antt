@@ -28,6 +28,7 @@ keyword_of Hold = codes "hold"
 keyword_of Show = codes "show"
 keyword_of Quit = codes "quit"
 
+-- what a line says begins with its keyword
 begins : (words : List (List ℕ)) (line : OwnerLine) → SaysOwner words line →
     (rest : List (List ℕ)) × (words ≡ keyword_of line ∷ rest)
 begins words (Screen size) said = (said.0, said.1)
