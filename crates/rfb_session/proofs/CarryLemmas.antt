@@ -41,9 +41,9 @@ module _ {S V : Type 0} (serves_as : Serving → S → ServerState → List ℕ 
   viewer_fed e screen s old new to_server bytes later event l made h c fed =
       let one = fed l.viewer c.viewer_has c.viewer_is in
       let moved = viewer_moved e screen l (in_flight c) bytes later one.1 event one.0 made h c.flies refl one.3 in
-      search (moved.moves, holds_to_viewer e screen l moved.new (length bytes) h moved.moves, moved.flies,
-      same moved.new moved.moves,
-      subst (λ (t : ViewerState). shows_as e.viewing new t one.1) (sym moved.viewer_is) one.2)
+      let holds = holds_to_viewer e screen l moved.new (length bytes) h moved.moves in
+      let stands = subst (λ (t : ViewerState). shows_as e.viewing new t one.1) (sym moved.viewer_is) one.2 in
+      search (moved.moves, moved.flies, holds, stands, same moved.new moved.moves)
     where
       same : (m : LinkState) → MovesToViewer e l (length bytes) m →
           serves_as e.serving s (server_of screen m.session) c.server_has
@@ -70,9 +70,9 @@ module _ {S V : Type 0} (serves_as : Serving → S → ServerState → List ℕ 
   server_fed e screen old new v bytes later to_viewer event l made h c fed =
       let one = fed (server_of screen l.session) c.server_has c.server_is in
       let moved = server_moved e screen l (in_flight c) bytes later one.1 event one.0 made h c.flies refl one.3 in
-      search (moved.moves, holds_to_server e screen l moved.new (length bytes) h moved.moves, moved.flies,
-      same moved.new moved.moves,
-      subst (λ (t : ServerState). serves_as e.serving new t one.1) (sym moved.server_is) one.2)
+      let holds = holds_to_server e screen l moved.new (length bytes) h moved.moves in
+      let stands = subst (λ (t : ServerState). serves_as e.serving new t one.1) (sym moved.server_is) one.2 in
+      search (moved.moves, moved.flies, holds, stands, same moved.new moved.moves)
     where
       same : (m : LinkState) → MovesToServer e screen l (length bytes) m →
           shows_as e.viewing v m.viewer c.viewer_has

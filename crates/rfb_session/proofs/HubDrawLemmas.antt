@@ -63,7 +63,7 @@ KeepsHub screen slots = record {
   eight : length slots ≡ 8;
   columns : screen.width ≤ 4096;
   rows : screen.height ≤ 4096;
-  follow : EachFollows screen slots
+  follow : EachFollows screen slots;
 }
 
 -- it keeps it where one slot is set

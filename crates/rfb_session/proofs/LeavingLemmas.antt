@@ -117,16 +117,15 @@ module _ {F : Type 0} {event : ℕ → Event} {queue : Link → List ℕ}
 
 -- ---- the ways of a link
 
+-- an end to which bytes are lost stays as it was
+session_stays : (a b : Link) (k : ℕ) → LosesToServer a k b → server_fault_of b ≡ server_fault_of a
+session_stays a b k one = ap (λ (end : Session). session_fault end) one.session
+
+viewer_stays : (a b : Link) (k : ℕ) → LosesToViewer a k b → viewer_fault_of b ≡ viewer_fault_of a
+viewer_stays a b k one = ap (λ (end : Viewer). fault_of end) one.viewer
+
 pub to_session : Way (λ n. ToServer n) to_server_on DeliversToServer LosesToServer ReachesSession server_fault_of
-to_session = record {
-  none = server_none; none_lost = no_server_loss; more = server_more; more_lost = more_server_loss;
-  stays = λ a b k one. ap (λ (end : Session). session_fault end) one.session; does = server_moved;
-  acts = λ old new count told all. all; lost = λ old new count told all. all; alone = λ count told all. all;
-}
+to_session = search (server_none, no_server_loss, server_more, more_server_loss, session_stays, server_moved)
 
 pub to_viewer : Way (λ n. ToViewer n) to_viewer_on DeliversToViewer LosesToViewer ReachesViewer viewer_fault_of
-to_viewer = record {
-  none = viewer_none; none_lost = no_viewer_loss; more = viewer_more; more_lost = more_viewer_loss;
-  stays = λ a b k one. ap (λ (end : Viewer). fault_of end) one.viewer; does = viewer_moved;
-  acts = λ old new count told all. all; lost = λ old new count told all. all; alone = λ count told all. all;
-}
+to_viewer = search (viewer_none, no_viewer_loss, viewer_more, more_viewer_loss, viewer_stays, viewer_moved)

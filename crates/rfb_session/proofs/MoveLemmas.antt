@@ -134,11 +134,11 @@ viewer_moves_join e a b c n m one two = by b one.result two
         (mid.to_server ++ viewer_replies e.viewing mid.viewer next.done)) state
         ∙ ap (λ (q : List FromClient). to_viewer_of a
         (acts (viewer e.viewing) a.viewer (one.done ++ next.done)) next.left next.at q) answers in
-        search (result, next.within,
-        queue_joined a.to_viewer one.done one.left mid.to_viewer next.done next.left one.queue
-        (ap (λ (l : LinkState). l.to_viewer) is) next.queue,
-        count_joined (to_viewer_stream e) one.done next.done a.at_viewer n m one.at next.at mid.at_viewer one.count
-        (ap (λ (l : LinkState). l.at_viewer) is) next.count)
+        let queue = queue_joined a.to_viewer one.done one.left mid.to_viewer next.done next.left one.queue
+        (ap (λ (l : LinkState). l.to_viewer) is) next.queue in
+        let count = count_joined (to_viewer_stream e) one.done next.done a.at_viewer n m one.at next.at mid.at_viewer
+        one.count (ap (λ (l : LinkState). l.at_viewer) is) next.count in
+        search (result, next.within, queue, count)
 
 pub server_moves_join : (e : Ends) (screen : Grid Colour) (a b c : LinkState) (n m : ℕ) →
     MovesToServer e screen a n b → MovesToServer e screen b m c → MovesToServer e screen a (n + m) c
@@ -200,11 +200,11 @@ server_moves_join e screen a b c n m one two = by b one.result two
         (mid.to_viewer ++ server_replies e.serving (server_of screen mid.session) next.done)) state
         ∙ ap (λ (q : List FromServer). to_server_of a
         (acts (server e.serving) (server_of screen a.session) (one.done ++ next.done)) next.left next.at q) replies in
-        search (result, next.within,
-        queue_joined a.to_server one.done one.left mid.to_server next.done next.left one.queue
-        (ap (λ (l : LinkState). l.to_server) is) next.queue,
-        count_joined (to_server_stream e) one.done next.done a.at_server n m one.at next.at mid.at_server one.count
-        (ap (λ (l : LinkState). l.at_server) is) next.count)
+        let queue = queue_joined a.to_server one.done one.left mid.to_server next.done next.left one.queue
+        (ap (λ (l : LinkState). l.to_server) is) next.queue in
+        let count = count_joined (to_server_stream e) one.done next.done a.at_server n m one.at next.at mid.at_server
+        one.count (ap (λ (l : LinkState). l.at_server) is) next.count in
+        search (result, next.within, queue, count)
 
 -- ---- an accepted format
 
