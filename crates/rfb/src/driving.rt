@@ -19,20 +19,18 @@ use crate::context::Context;
 use crate::driving::ending::drive_result;
 use crate::driving::rig::FileRig;
 use crate::driving::setup::setup_of;
-use crate::explain::{Notes, tell_closed_output, tell_unreached};
-use crate::fault::{Failure, Fault};
-use crate::options::address::Address;
+use crate::explain::{Notes, tell_unreached};
+use crate::fault::Failure;
 use crate::reaching::connect_in_time;
 use crate::sharing::READ_AT_ONCE;
 use crate::sharing::shell::{Front, Shell};
-use crate::sharing::standard::{Streams, open_streams};
+use crate::sharing::standard::{Streams, streams_for};
 use crate::sharing::tenant::{Tenant, doors_of};
 pub use drive_words::{DRIVE, DriveOptions, drive_options_in};
 use rfb_session::doors::live;
 use rfb_session::drive::{Driver, ORDERS};
 use std::alloc::Global;
 use std::fs::Files;
-use std::io;
 use std::io::{Read, Write};
 use std::net::{Net, OpenListener};
 use std::os::fd::{AsRawFd, RawFd};
@@ -56,14 +54,11 @@ pub fn drive_at<P: AllocGlobal + Clock + Files + Net, R: Read, W: Write, E: Writ
         (W.contents context.old.output.now) (W.contents context.new.output.now)) }
     ensures same { KeepsStreams context.old context.new }
 {
-    let streams = open_streams();
-    let says = streams.errors && !options.is_quiet;
+    let (streams, says) = streams_for(context.errors, options.is_quiet)?;
     let notes = &mut Notes::new(context.errors, says);
-    if !streams.output {
-        tell_closed_output(notes);
-        return Err(Failure::Fault(Fault::Device));
-    }
-    let server = server_at(context.rt, options.server, options.timeout, notes)?;
+    let connected = connect_in_time(context.rt, options.server, options.timeout);
+    tell_unreached(options.server, &connected, notes);
+    let server = connected?;
     let alloc = context.alloc();
     let (input, streams) = input_of(streams, options.has_lines);
     let fd = server.as_raw_fd();
@@ -83,22 +78,6 @@ pub fn drive_at<P: AllocGlobal + Clock + Files + Net, R: Read, W: Write, E: Writ
     )?;
     live(driver, &mut doors, shell, &mut part);
     drive_result(driver.outcome(), fd)
-}
-
-// The connection to the server that does not wait. `notes` say why there is none.
-fn server_at<N: Net + Clock, O: Write>(
-    net: &N,
-    server: Address<'_>,
-    seconds: u32,
-    notes: &mut O,
-) -> io::Result<N::Stream> {
-    match connect_in_time(net, server.host, server.port, seconds) {
-        Ok(stream) => Ok(stream),
-        Err(error) => {
-            tell_unreached(server.host, server.port, &error, notes);
-            Err(error)
-        }
-    }
 }
 
 // A driver that was told nothing, as the options ask for it.

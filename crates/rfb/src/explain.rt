@@ -15,6 +15,7 @@ mod placing;
 mod telling;
 
 use crate::fault::{Failure, Fault};
+use crate::options::address::Address;
 pub use early::{Early, tell_closed, tell_part};
 pub use escaped::Escaped;
 pub use failing::{Flaw, ServerFlaw, tell_client, tell_server};
@@ -78,13 +79,16 @@ pub fn tell_own<N: Write>(failure: &Failure, notes: &mut N) {
     let _ = writeln!(notes, "{text}");
 }
 
-/// Says that a connection to a host could not be had.
-pub fn tell_unreached<N: Write>(host: &str, port: u16, error: &io::Error, notes: &mut N) {
-    let _ = writeln!(
-        notes,
-        "rfb: no connection to {}, port {port}: {error}",
-        Escaped(host.as_bytes())
-    );
+/// Says why a connection to a server could not be had, if so.
+pub fn tell_unreached<S, N: Write>(server: Address<'_>, connected: &io::Result<S>, notes: &mut N) {
+    if let Err(error) = connected {
+        let _ = writeln!(
+            notes,
+            "rfb: no connection to {}, port {}: {error}",
+            Escaped(server.host.as_bytes()),
+            server.port
+        );
+    }
 }
 
 /// Says that a port of an address is listened on.

@@ -1,5 +1,6 @@
 //! How long is waited for a peer: a connection to a server, and those that a listener takes.
 
+use crate::options::address::{Address, Peer};
 use rfb_session::turns;
 use std::io::{ErrorKind, Read, Write};
 use std::net::{Net, OpenListener, OpenStream, SocketAddr, TcpStream, ToSocketAddrs};
@@ -47,22 +48,20 @@ impl<'a, C: Clock> Deadline<'a, C> {
     }
 }
 
-/// Connects to a host. Within `seconds` seconds, if there is a number, a refused connection is
-/// tried again, and each read ends.
+/// Connects to a server. While it is waited for, if that ends, a refused connection is tried again,
+/// and each read ends then.
 pub fn connect<'a, N: Net + Clock>(
     net: &'a N,
-    host: &str,
-    port: u16,
-    seconds: Option<u32>,
+    peer: Peer<'_>,
 ) -> io::Result<Patient<'a, N::Stream, N>> {
-    let deadline = Deadline::new(net, seconds)?;
-    let stream = connect_until(net, host, port, &deadline)?;
+    let deadline = Deadline::new(net, peer.timeout)?;
+    let stream = connect_until(net, peer.address, &deadline)?;
     Ok(Patient::new(stream, deadline))
 }
 
-/// Connects to a host, once. The connection does not wait from then on.
-pub fn connect_once<N: Net>(net: &N, host: &str, port: u16) -> io::Result<N::Stream> {
-    let stream = TcpStream::connect(net, (host, port))?;
+/// Connects to a server, once. The connection does not wait from then on.
+pub fn connect_once<N: Net>(net: &N, server: Address<'_>) -> io::Result<N::Stream> {
+    let stream = TcpStream::connect(net, (server.host, server.port))?;
     hurry(&stream)?;
     Ok(stream)
 }
@@ -70,12 +69,11 @@ pub fn connect_once<N: Net>(net: &N, host: &str, port: u16) -> io::Result<N::Str
 /// The same within so many seconds, in which a refused connection is tried again.
 pub fn connect_in_time<N: Net + Clock>(
     net: &N,
-    host: &str,
-    port: u16,
+    server: Address<'_>,
     seconds: u32,
 ) -> io::Result<N::Stream> {
     let deadline = Deadline::new(net, Some(seconds))?;
-    let stream = connect_until(net, host, port, &deadline)?;
+    let stream = connect_until(net, server, &deadline)?;
     hurry(&stream)?;
     Ok(stream)
 }
@@ -91,15 +89,14 @@ pub fn hurry<S: OpenStream>(stream: &S) -> io::Result<()> {
 // Tries to connect until the deadline, or once where there is none.
 fn connect_until<N: Net + Clock>(
     net: &N,
-    host: &str,
-    port: u16,
+    server: Address<'_>,
     deadline: &Deadline<'_, N>,
 ) -> io::Result<N::Stream> {
     for _turn in 0..turns() {
         let Some(left) = deadline.left()? else {
-            return TcpStream::connect(net, (host, port));
+            return TcpStream::connect(net, (server.host, server.port));
         };
-        match connect_within(net, host, port, left) {
+        match connect_within(net, server, left) {
             Err(error) if error.kind() == ErrorKind::ConnectionRefused => {
                 let pause = Duration::from_millis(PAUSE);
                 if left <= pause {
@@ -114,9 +111,9 @@ fn connect_until<N: Net + Clock>(
 }
 
 // Connects to the first address of a host that takes it.
-fn connect_within<N: Net>(net: &N, host: &str, port: u16, left: Duration) -> io::Result<N::Stream> {
+fn connect_within<N: Net>(net: &N, server: Address<'_>, left: Duration) -> io::Result<N::Stream> {
     let mut last = io::Error::from(ErrorKind::NotFound);
-    for address in (host, port).to_socket_addrs(net)? {
+    for address in (server.host, server.port).to_socket_addrs(net)? {
         match TcpStream::connect_timeout(net, &address, left) {
             Ok(stream) => return Ok(stream),
             Err(error) => last = error,

@@ -12,9 +12,8 @@ mod relay_words;
 mod setup;
 
 use crate::context::Context;
-use crate::explain::{Notes, tell_closed_output, tell_unreached};
-use crate::fault::{Failure, Fault};
-use crate::options::address::Address;
+use crate::explain::{Notes, tell_unreached};
+use crate::fault::Failure;
 use crate::reaching::connect_once;
 use crate::relaying::setup::setup_of;
 use crate::serving::listener_at;
@@ -23,13 +22,12 @@ use crate::sharing::ending::result_of;
 use crate::sharing::shell::callee::Callee;
 use crate::sharing::shell::{Front, Shell};
 use crate::sharing::speaker::Reporter;
-use crate::sharing::standard::open_streams;
+use crate::sharing::standard::streams_for;
 use crate::sharing::tenant::{Tenant, doors_of};
 pub use relay_words::{RELAY, RelayOptions, relay_options_in};
 use rfb_session::doors::live;
 use rfb_session::relay::Relay;
 use std::alloc::Global;
-use std::io;
 use std::io::{Read, Write};
 use std::net::{Net, OpenListener};
 use std::os::fd::AsRawFd;
@@ -51,14 +49,11 @@ pub fn relay_at<P: AllocGlobal + Clock + Net, R: Read, W: Write, E: Write>(
         (W.contents context.old.output.now) (W.contents context.new.output.now)) }
     ensures same { KeepsStreams context.old context.new }
 {
-    let streams = open_streams();
-    let says = streams.errors && !options.is_quiet;
+    let (streams, says) = streams_for(context.errors, options.is_quiet)?;
     let notes = &mut Notes::new(context.errors, says);
-    if !streams.output {
-        tell_closed_output(notes);
-        return Err(Failure::Fault(Fault::Device));
-    }
-    let server = server_at(context.rt, options.server, notes)?;
+    let connected = connect_once(context.rt, options.server);
+    tell_unreached(options.server, &connected, notes);
+    let server = connected?;
     let listener = listener_at(context.rt, options.listen, options.port, notes)?;
     listener.set_nonblocking(true)?;
     let alloc = context.alloc();
@@ -81,21 +76,6 @@ pub fn relay_at<P: AllocGlobal + Clock + Net, R: Read, W: Write, E: Write>(
     )?;
     live(relay, &mut doors, shell, &mut part);
     result_of(relay.outcome())
-}
-
-// A connection to the server that does not wait. `notes` say why there is none.
-fn server_at<N: Net, O: Write>(
-    net: &N,
-    server: Address<'_>,
-    notes: &mut O,
-) -> io::Result<N::Stream> {
-    match connect_once(net, server.host, server.port) {
-        Ok(stream) => Ok(stream),
-        Err(error) => {
-            tell_unreached(server.host, server.port, &error, notes);
-            Err(error)
-        }
-    }
 }
 
 // A relay that was told nothing, as the options ask for it. It says sentences, or none.

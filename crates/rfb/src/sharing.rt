@@ -19,14 +19,14 @@ pub mod standard;
 pub mod tenant;
 
 use crate::context::Context;
-use crate::explain::{Notes, tell_closed_output};
-use crate::fault::{Failure, Fault};
+use crate::explain::Notes;
+use crate::fault::Failure;
 use crate::serving::listener_at;
 use crate::sharing::ending::result_of;
 use crate::sharing::setup::setup_of;
 use crate::sharing::shell::{Front, Shell};
 use crate::sharing::speaker::Reporter;
-use crate::sharing::standard::open_streams;
+use crate::sharing::standard::streams_for;
 use crate::sharing::tenant::{Tenant, doors_of};
 use rfb_session::console::{Console, OWNER};
 use rfb_session::doors::live;
@@ -60,13 +60,8 @@ pub fn share_at<P: AllocGlobal + Clock + Net, R: Read, W: Write, E: Write>(
         (W.contents context.old.output.now) (W.contents context.new.output.now)) }
     ensures same { KeepsStreams context.old context.new }
 {
-    let streams = open_streams();
-    let says = streams.errors && !options.is_quiet;
+    let (streams, says) = streams_for(context.errors, options.is_quiet)?;
     let notes = &mut Notes::new(context.errors, says);
-    if !streams.output {
-        tell_closed_output(notes);
-        return Err(Failure::Fault(Fault::Device));
-    }
     let listener = listener_at(context.rt, options.listen, options.port, notes)?;
     listener.set_nonblocking(true)?;
     let alloc = context.alloc();

@@ -59,14 +59,10 @@ pub fn view_at<P: AllocGlobal + Net + Clock, R, W: Write, E: Write>(
     ensures same { KeepsStreams context.old context.new }
 {
     let alloc = context.alloc();
-    let mut notes = Notes::new(context.errors, context.explains);
-    match connect(context.rt, options.host, options.port, options.timeout) {
-        Ok(connection) => { view_on(alloc, connection, options.sight, context.output, &mut notes) }
-        Err(error) => {
-            tell_unreached(options.host, options.port, &error, &mut notes);
-            Err(Failure::from(error))
-        }
-    }
+    let notes = &mut Notes::new(context.errors, context.explains);
+    let connected = connect(context.rt, options.peer);
+    tell_unreached(options.peer.address, &connected, notes);
+    view_on(alloc, connected?, options.sight, context.output, notes)
 }
 
 /// Views the server at the other end of a connection, up to the end of the last update that is

@@ -2,7 +2,7 @@
 use Rattle.std.specs.Prelude.{◌≡◌, ◌⊎◌, Bool, true, false, List, codes, option_map}
 use Rattle.clap.specs.Words.{Row, first_of}
 use Rattle.rfb.specs.declared.driving.drive_words.DriveOptions.{DriveOptions}
-use Rattle.rfb.specs.command.RelayWords.{GivesServerAlone, GivesWants, HasBadRelay}
+use Rattle.rfb.specs.command.RelayWords.{GivesAllWants, GivesServerAlone, HasBadRelay}
 use Rattle.rfb.specs.command.Values.{GivesNumber, HasNoWords, HasWords, IsAbsent, IsFlagged, IsThere}
 
 -- lines are named: a file has them, or they are words
@@ -28,7 +28,7 @@ pub record GivesDriveOptions (rows : List Row) (options : DriveOptions) : Type 0
   pub tells : IsFlagged (codes "tell") rows options.tells_changes
   pub quiet : IsFlagged (codes "quiet") rows options.is_quiet
   pub has_lines : AreNamed rows options.has_lines
-  pub wants : GivesWants rows options.wants
+  pub wants : GivesAllWants rows options.wants
 
 -- it names no server, or a word of its is no format, or no list of encodings; or it names its lines
 -- twice

@@ -5,8 +5,8 @@ use Rattle.rfb_wire.specs.declared.encoding.Encoding.TheVariants.{CopyRect, Hext
 use Rattle.rfb.specs.declared.relaying.relay_words.RelayOptions.{RelayOptions}
 use Rattle.rfb.specs.declared.script.line.Wants.{Wants}
 use Rattle.rfb.specs.Address.{IsAddress}
-use Rattle.rfb.specs.command.Values.{GivesEncodings, GivesFormat, HasBadEncodings, HasBadFormat}
-use Rattle.rfb.specs.command.Values.{GivesNumber, IsAbsent, IsFlagged, MayGiveNumber, NamesHost}
+use Rattle.rfb.specs.command.Values.{GivesNumber, GivesWants, HasBadWants, IsAbsent, IsFlagged, MayGiveNumber}
+use Rattle.rfb.specs.command.Values.{NamesHost}
 
 -- the server that is given, by a word alone
 abbrev pub GivesServerAlone : List Row → Text → ℕ → Type 0
@@ -20,10 +20,9 @@ HasNoServer rows =
     ⊎ ((word : Text) × (first_of (codes "server") rows ≡ Some word)
     × ((host : Text) (port : ℕ) → ¬ (IsAddress word host port)))
 
--- what the server is asked for
-pub record GivesWants (rows : List Row) (wants : Wants) : Type 0 where
-  pub format : GivesFormat rows wants.format
-  pub encodings : GivesEncodings (CopyRect ∷ Hextile ∷ Rre ∷ Raw ∷ []) rows wants.encodings.items
+-- what the server is asked for, in all encodings if none are given
+abbrev pub GivesAllWants : List Row → Wants → Type 0
+GivesAllWants = GivesWants (CopyRect ∷ Hextile ∷ Rre ∷ Raw ∷ [])
 
 -- what `relay` is asked for
 pub record GivesRelayOptions (rows : List Row) (options : RelayOptions) : Type 0 where
@@ -40,12 +39,8 @@ pub record GivesRelayOptions (rows : List Row) (options : RelayOptions) : Type 0
   pub always_shared : IsFlagged (codes "always-shared") rows options.is_always_shared
   pub view_only : IsFlagged (codes "view-only") rows options.is_view_only
   pub quiet : IsFlagged (codes "quiet") rows options.is_quiet
-  pub wants : GivesWants rows options.wants
+  pub wants : GivesAllWants rows options.wants
 
--- a word of `relay` is no format, or no list of encodings
-abbrev pub HasBadWants : List Row → Type 0
-HasBadWants rows = HasBadFormat rows ⊎ HasBadEncodings rows
-
--- or it names no server
+-- a word of `relay` is no format, or no list of encodings; or it names no server
 abbrev pub HasBadRelay : List Row → Type 0
 HasBadRelay rows = HasNoServer rows ⊎ HasBadWants rows

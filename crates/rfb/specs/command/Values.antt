@@ -1,5 +1,5 @@
 -- What a word gives: a format, encodings, a number, a file, or that it is there.
-use Rattle.std.specs.Prelude.{◌≡◌, ◌≤◌, ℕ, Bool, true, false, List, [], ◌∷◌}
+use Rattle.std.specs.Prelude.{◌≡◌, ◌≤◌, ◌⊎◌, ℕ, Bool, true, false, List, [], ◌∷◌}
 use Rattle.std.specs.Prelude.{◌++◌, Option, Some, None, codes}
 use Rattle.std.specs.Prelude.{flat_map, option_map}
 use Rattle.std.specs.Str.Parse.{IsNumeral, digits_value, without_leading_plus}
@@ -9,6 +9,7 @@ use Rattle.rfb_wire.specs.declared.encoding.Encoding.{Encoding}
 use Rattle.rfb.specs.declared.options.paths.Input.{Input}
 use Rattle.rfb.specs.declared.options.paths.Input.TheVariants.{Standard, File, Lines}
 use Rattle.rfb.specs.declared.options.paths.Paths.{Paths}
+use Rattle.rfb.specs.declared.script.line.Wants.{Wants}
 use Rattle.rfb_session.specs.language.Words.{AreEncodings, IsFormatWord, parts_of}
 
 -- the format that is given by its name, or rgb888
@@ -39,6 +40,15 @@ abbrev pub HasBadEncodings : List Row → Type 0
 HasBadEncodings rows =
     (list : Text) × (first_of (codes "encodings") rows ≡ Some list)
     × ((encodings : List Encoding) → ¬ (AreEncodings (parts_of list) encodings))
+
+-- what a server is asked for, in these encodings if none are given
+pub record GivesWants (otherwise : List Encoding) (rows : List Row) (wants : Wants) : Type 0 where
+  pub format : GivesFormat rows wants.format
+  pub encodings : GivesEncodings otherwise rows wants.encodings.items
+
+-- a word is no format, or no list of encodings
+abbrev pub HasBadWants : List Row → Type 0
+HasBadWants rows = HasBadFormat rows ⊎ HasBadEncodings rows
 
 -- a number that is given by its digits, a plus before them or none, if it lies in the range
 abbrev pub GivesNumber : Text → ℕ → ℕ → List Row → ℕ → Type 0

@@ -2,12 +2,13 @@
 use Rattle.std.specs.Prelude.{◌⊎◌, ℕ, true, false, List, [], ◌∷◌, Option, codes}
 use Rattle.clap.specs.Words.{Row, Text, first_of}
 use Rattle.rfb_wire.specs.declared.encoding.Encoding.TheVariants.{Raw}
+use Rattle.rfb.specs.declared.options.address.Peer.{Peer}
 use Rattle.rfb.specs.declared.viewing.view_options.ViewOptions.{ViewOptions}
 use Rattle.rfb.specs.declared.viewing.view_options.Sight.{Sight}
 use Rattle.rfb.specs.declared.viewing.film.FollowOptions.{FollowOptions}
 use Rattle.rfb.specs.declared.viewing.film.Film.{Film}
 use Rattle.rfb.specs.Address.{GivesServer}
-use Rattle.rfb.specs.command.Values.{GivesEncodings, GivesFormat, HasBadEncodings, HasBadFormat}
+use Rattle.rfb.specs.command.Values.{GivesWants, HasBadWants}
 use Rattle.rfb.specs.command.Values.{GivesOr, IsAbsent, IsFlagged, IsThere, MayGiveNumber}
 
 -- the server that is given
@@ -26,10 +27,14 @@ HasBadAddress rows =
     (number : Option ℕ) × MayGiveNumber (codes "port") 1 65535 rows number
     × ((host : Text) (port : ℕ) → ¬ (NamesServer rows number host port))
 
+-- a server is given, and how many seconds are waited for it
+pub record GivesPeer (rows : List Row) (peer : Peer) : Type 0 where
+  pub address : GivesAddress rows peer.address.host.now peer.address.port
+  pub timeout : MayGiveNumber (codes "timeout") 1 4294967295 rows peer.timeout
+
 -- what is to be seen of a server
 pub record GivesSight (rows : List Row) (sight : Sight) : Type 0 where
-  pub format : GivesFormat rows sight.wants.format
-  pub encodings : GivesEncodings (Raw ∷ []) rows sight.wants.encodings.items
+  pub wants : GivesWants (Raw ∷ []) rows sight.wants
   pub updates : GivesOr (codes "updates") 4294967295 1 rows sight.updates
   pub is_recorded : IsFlagged (codes "record") rows sight.is_recorded
   pub is_partial : IsFlagged (codes "partial") rows sight.is_partial
@@ -37,22 +42,16 @@ pub record GivesSight (rows : List Row) (sight : Sight) : Type 0 where
 -- what `view` is asked for, where one picture is wanted
 pub record GivesViewOptions (rows : List Row) (options : ViewOptions) : Type 0 where
   pub unpaced : IsAbsent (codes "fps") rows
-  pub address : GivesAddress rows options.host.now options.port
-  pub timeout : MayGiveNumber (codes "timeout") 1 4294967295 rows options.timeout
+  pub peer : GivesPeer rows options.peer
   pub sight : GivesSight rows options.sight
 
--- a word of `view` is no format, or no list of encodings
-abbrev pub HasBadSight : List Row → Type 0
-HasBadSight rows = HasBadFormat rows ⊎ HasBadEncodings rows
-
--- or it names no server, or says how many pictures there are in a second
+-- a word of `view` is no format, or no list of encodings; or it names no server, or says how many pictures there are in a second
 abbrev pub HasBadLook : List Row → Type 0
-HasBadLook rows = HasBadAddress rows ⊎ HasBadSight rows ⊎ IsThere (codes "fps") rows
+HasBadLook rows = HasBadAddress rows ⊎ HasBadWants rows ⊎ IsThere (codes "fps") rows
 
 -- where a picture is wanted after each update: what is to be seen
 pub record GivesFilm (rows : List Row) (film : Film) : Type 0 where
-  pub format : GivesFormat rows film.wants.format
-  pub encodings : GivesEncodings (Raw ∷ []) rows film.wants.encodings.items
+  pub wants : GivesWants (Raw ∷ []) rows film.wants
   pub updates : MayGiveNumber (codes "updates") 1 4294967295 rows film.updates
   pub rate : GivesOr (codes "fps") 1000 30 rows film.rate
 
@@ -60,15 +59,14 @@ pub record GivesFilm (rows : List Row) (film : Film) : Type 0 where
 pub record GivesFollowOptions (rows : List Row) (options : FollowOptions) : Type 0 where
   pub unrecorded : IsFlagged (codes "record") rows false
   pub whole : IsFlagged (codes "partial") rows false
-  pub address : GivesAddress rows options.host.now options.port
-  pub timeout : MayGiveNumber (codes "timeout") 1 4294967295 rows options.timeout
+  pub peer : GivesPeer rows options.peer
   pub film : GivesFilm rows options.film
 
 -- it names no server, or a word is no format, or no list of encodings; or a recording is wanted, or a part of a
 -- picture
 abbrev pub HasBadFollow : List Row → Type 0
 HasBadFollow rows =
-    HasBadAddress rows ⊎ HasBadSight rows ⊎ IsFlagged (codes "record") rows true
+    HasBadAddress rows ⊎ HasBadWants rows ⊎ IsFlagged (codes "record") rows true
     ⊎ IsFlagged (codes "partial") rows true
 
 -- where one picture is wanted, or one after each update

@@ -5,6 +5,7 @@ ghost use Rattle.clap.specs.Words.{first_of, found_of, rows_of};
 ghost use Rattle.rfb.specs.command.DriveWords.{AreNamed, GivesDriveOptions, HasBadDrive};
 ghost use Rattle.rfb.specs.command.DriveWords.{NamesLinesTwice};
 
+use crate::defaults::all_encodings;
 use crate::help::Topic;
 use crate::options::BadValue;
 use crate::options::address::{Address, NEEDED_SERVER, server_in};
@@ -80,7 +81,7 @@ pub fn drive_options_in<'a>(given: &ArgMatches<'a>) -> Result<DriveOptions<'a>, 
         (λ _. HasBadDrive (rows_of (found_of given.now))) }
 {
     let server = server_in(given)?;
-    let wants = wants_in(given)?;
+    let wants = wants_in(given, all_encodings())?;
     let has_lines = are_lines_named(given)?;
     Ok(DriveOptions {
         server,

@@ -1,5 +1,7 @@
 //! The files that lines name: pictures and texts that are read, pictures that are written.
 
+ghost use Rattle.std.specs.Prelude.{◌+◌, ◌≤◌, OnOk};
+
 use crate::working::target::{Target, open_target};
 use crate::writing::write_ppm;
 use rfb_picture::{Picture, Rect};
@@ -106,11 +108,7 @@ fn write_rows<W: Write>(
     part: Rect,
     output: &mut W,
 ) -> io::Result<()> {
-    let columns = usize::from(part.x) + usize::from(part.w);
-    if columns > usize::from(picture.width()) {
-        return Err(io::Error::from(ErrorKind::InvalidInput));
-    }
-    write!(output, "P6\n{} {}\n65535\n", part.w, part.h)?;
+    write_head(picture, part, output)?;
     let mut bytes = Vec::new(alloc);
     for row in 0..part.h {
         let y = part.y.saturating_add(row);
@@ -121,6 +119,19 @@ fn write_rows<W: Write>(
         }
     }
     output.flush()
+}
+
+// Writes the head of a PPM of a part of a screen. It fails where the part leaves the screen on the
+// right.
+fn write_head<W: Write>(screen: &Picture<Colour>, part: Rect, output: &mut W) -> io::Result<()>
+    ensures { OnOk result (part.x + part.w ≤ screen.now.width) }
+{
+    let columns = usize::from(part.x) + usize::from(part.w);
+    if columns > usize::from(screen.width()) {
+        return Err(io::Error::from(ErrorKind::InvalidInput));
+    }
+    write!(output, "P6\n{} {}\n65535\n", part.w, part.h)?;
+    Ok(())
 }
 
 // Appends colours as PPM has them, two bytes a component.
@@ -141,18 +152,19 @@ fn write_difference<W: Write>(
     at: Place,
     output: &mut W,
 ) -> io::Result<()> {
-    let columns = usize::from(at.x) + usize::from(expected.width);
-    if columns > usize::from(screen.width()) {
-        return Err(io::Error::from(ErrorKind::InvalidInput));
-    }
-    let (width, height) = (expected.width, expected.height);
-    write!(output, "P6\n{width} {height}\n65535\n")?;
+    let part = Rect {
+        x: at.x,
+        y: at.y,
+        w: expected.width,
+        h: expected.height,
+    };
+    write_head(screen, part, output)?;
     let mut bytes = Vec::new(alloc);
-    let mut y = at.y;
-    for wanted in expected.places.chunks(usize::from(width).max(1)) {
+    let mut y = part.y;
+    for wanted in expected.places.chunks(usize::from(part.w).max(1)) {
         if y < screen.height() {
             bytes.clear();
-            append_difference(screen.row(at.x, y, width), wanted, &mut bytes)?;
+            append_difference(screen.row(part.x, y, part.w), wanted, &mut bytes)?;
             output.write_all(bytes.as_slice())?;
             y += 1;
         }

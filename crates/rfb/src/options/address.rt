@@ -4,7 +4,7 @@ ghost use Rattle.std.specs.Prelude.{codes, ℕ, List, option_map, MatchOption, M
 ghost use Rattle.clap.specs.Words.{found_of, rows_of};
 ghost use Rattle.rfb.specs.Address.{GivesServer, IsAddress, NamesDisplay, NamesPort, OrLoopback};
 ghost use Rattle.rfb.specs.command.Values.{MayGiveNumber};
-ghost use Rattle.rfb.specs.command.ViewWords.{GivesAddress, HasBadAddress};
+ghost use Rattle.rfb.specs.command.ViewWords.{GivesAddress, GivesPeer, HasBadAddress};
 ghost use Rattle.rfb.specs.command.RelayWords.{GivesServerAlone, HasNoServer};
 
 use crate::options::BadValue;
@@ -30,6 +30,14 @@ const LAST_DISPLAY: u16 = 99;
 pub struct Address<'a> {
     pub host: &'a str,
     pub port: u16,
+}
+
+/// A server, and how long is waited for it.
+#[derive(Clone, Copy)]
+pub struct Peer<'a> {
+    pub address: Address<'a>,
+    /// If there is a number, waiting ends after that many seconds.
+    pub timeout: Option<u32>,
 }
 
 /// A server, by a word that stands alone.
@@ -64,8 +72,8 @@ pub const ANY_PORT: Word<'static> = Word {
     help: "The port, 1 to 65535; 5900 without it",
 };
 
-/// The server that is given: by a word, or by its host, its port or both, and never by both ways.
-pub fn address_in<'a>(given: &ArgMatches<'a>) -> Result<Address<'a>, BadValue<'a>>
+// The server that is given: by a word, or by its host, its port or both, and never by both ways.
+fn address_in<'a>(given: &ArgMatches<'a>) -> Result<Address<'a>, BadValue<'a>>
     ensures { MatchResult result
         (λ address. GivesAddress (rows_of (found_of given.now)) address.host.now address.port)
         (λ _. HasBadAddress (rows_of (found_of given.now))) }
@@ -75,6 +83,17 @@ pub fn address_in<'a>(given: &ArgMatches<'a>) -> Result<Address<'a>, BadValue<'a
         given.get_str("host"),
         port_given(given),
     )
+}
+
+/// That server, and how many seconds are given for it.
+pub fn peer_in<'a>(given: &ArgMatches<'a>) -> Result<Peer<'a>, BadValue<'a>>
+    ensures { MatchResult result (GivesPeer (rows_of (found_of given.now)))
+        (λ _. HasBadAddress (rows_of (found_of given.now))) }
+{
+    Ok(Peer {
+        address: address_in(given)?,
+        timeout: number_given(given, "timeout"),
+    })
 }
 
 /// The server that is given by a word alone.

@@ -5,14 +5,12 @@ ghost use Rattle.std.specs.Prelude.{◌≡◌, ◌≤◌, ◌<◌, false, true, 
 ghost use Rattle.clap.specs.Words.{first_of, found_of, rows_of};
 ghost use Rattle.rfb_pixel.specs.Format.{PixelFormat};
 ghost use Rattle.rfb_wire.specs.declared.encoding.Encoding.{Encoding as AnEncoding};
-ghost use Rattle.rfb.specs.command.Values.{GivesEncodings, HasBadEncodings};
+ghost use Rattle.rfb.specs.command.Values.{GivesEncodings, GivesWants, HasBadEncodings, HasBadWants};
 ghost use Rattle.rfb.specs.command.Values.{GivesFormat, GivesNumber, GivesOr, HasBadFormat};
-ghost use Rattle.rfb.specs.command.RelayWords.{GivesWants, HasBadWants};
 ghost use Rattle.rfb.specs.command.Values.{HasNoWords, HasWords, IsAbsent, IsFlagged, IsThere};
 ghost use Rattle.rfb.specs.command.Values.{MayGiveNumber, NamesWord};
 ghost use Rattle.rfb_session.specs.language.Words.{AreEncodings, IsFormatWord, parts_of};
 
-use crate::defaults::all_encodings;
 use crate::options::BadValue;
 use crate::script::Wants;
 use arrayvec::ArrayVec;
@@ -114,13 +112,16 @@ fn encodings_named<'a>(list: &'a str) -> Result<ArrayVec<Encoding, 4>, BadValue<
     }
 }
 
-/// What a server is asked for: in all encodings if none are given. The format is judged first.
-pub fn wants_in<'a>(given: &ArgMatches<'a>) -> Result<Wants, BadValue<'a>>
-    ensures { MatchResult result (GivesWants (rows_of (found_of given.now)))
+/// What a server is asked for: in other encodings if none are given. The format is judged first.
+pub fn wants_in<'a>(
+    given: &ArgMatches<'a>,
+    otherwise: ArrayVec<Encoding, 4>,
+) -> Result<Wants, BadValue<'a>>
+    ensures { MatchResult result (GivesWants otherwise.items (rows_of (found_of given.now)))
         (λ _. HasBadWants (rows_of (found_of given.now))) }
 {
     let format = format_in(given)?;
-    let encodings = encodings_in(given, all_encodings())?;
+    let encodings = encodings_in(given, otherwise)?;
     Ok(Wants { format, encodings })
 }
 

@@ -4,6 +4,7 @@ ghost use Rattle.std.specs.Prelude.{◌≡◌, codes, option_map, MatchResult};
 ghost use Rattle.clap.specs.Words.{first_of, found_of, rows_of};
 ghost use Rattle.rfb.specs.command.RelayWords.{GivesRelayOptions, HasBadRelay};
 
+use crate::defaults::all_encodings;
 use crate::help::Topic;
 use crate::options::BadValue;
 use crate::options::address::{Address, NEEDED_SERVER, server_in};
@@ -93,7 +94,7 @@ pub fn relay_options_in<'a>(given: &ArgMatches<'a>) -> Result<RelayOptions<'a>, 
         (λ _. HasBadRelay (rows_of (found_of given.now))) }
 {
     let server = server_in(given)?;
-    let wants = wants_in(given)?;
+    let wants = wants_in(given, all_encodings())?;
     Ok(RelayOptions {
         server,
         listen: listen_in(given),

@@ -1,9 +1,12 @@
 //! The standard streams of the process: which of them it has, and when they are ready.
 
+use crate::explain::{Notes, tell_closed_output};
+use crate::fault::{Failure, Fault};
 use libc::net::{POLLNVAL, POLLOUT, poll};
 use libc::types::pollfd;
 use mio::unix::SourceFd;
 use mio::{Interest, Registry, Token};
+use std::io::Write;
 use std::os::fd::RawFd;
 
 /// The descriptors of standard input, standard output and standard error.
@@ -21,9 +24,21 @@ pub struct Streams {
     pub errors: bool,
 }
 
-/// Looks which standard streams are open. It is asked before anything is opened, since what is
-/// opened then takes the place of one that is not.
-pub fn open_streams() -> Streams {
+/// Which standard streams are open, and whether sentences are said: where they are not unwanted, and
+/// standard error is open. It fails where standard output is closed, and says so. It is asked before
+/// anything is opened, since what is opened then takes the place of a stream that is not.
+pub fn streams_for<E: Write>(errors: &mut E, is_quiet: bool) -> Result<(Streams, bool), Failure> {
+    let streams = open_streams();
+    let says = streams.errors && !is_quiet;
+    if !streams.output {
+        tell_closed_output(&mut Notes::new(errors, says));
+        return Err(Failure::Fault(Fault::Device));
+    }
+    Ok((streams, says))
+}
+
+// Looks which standard streams are open.
+fn open_streams() -> Streams {
     let mut asked = [asked_of(INPUT, 0), asked_of(OUTPUT, 0), asked_of(ERRORS, 0)];
     let _ = poll(&mut asked, 0);
     let [input, output, errors] = asked;

@@ -2,6 +2,7 @@
 
 ghost use Rattle.std.specs.Prelude.{◌≡◌, ◌≤◌, ℕ, Some};
 
+use crate::options::address::Peer;
 use crate::script::Wants;
 
 // No more updates than these end where no number is asked for: at a thousand a second they take
@@ -11,11 +12,7 @@ const ALL: u32 = u32::MAX;
 /// What `view --follow` is asked for: a server, and which pictures of it.
 #[derive(Drop)]
 pub struct FollowOptions<'a> {
-    /// A name or an address.
-    pub host: &'a str,
-    pub port: u16,
-    /// If there is a number, waiting ends after that many seconds.
-    pub timeout: Option<u32>,
+    pub peer: Peer<'a>,
     pub film: Film,
 }
 

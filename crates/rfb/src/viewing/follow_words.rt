@@ -3,13 +3,13 @@
 ghost use Rattle.std.specs.Prelude.{MatchResult};
 ghost use Rattle.clap.specs.Words.{found_of, rows_of};
 ghost use Rattle.rfb.specs.command.ViewWords.{GivesFilm, GivesFollowOptions};
-ghost use Rattle.rfb.specs.command.ViewWords.{HasBadFollow, HasBadSight};
+ghost use Rattle.rfb.specs.command.Values.{HasBadWants};
+ghost use Rattle.rfb.specs.command.ViewWords.{HasBadFollow};
 
 use crate::defaults::only_raw;
 use crate::options::BadValue;
-use crate::options::address::address_in;
-use crate::options::given::{encodings_in, format_in, is_given, number_given, number_or};
-use crate::script::Wants;
+use crate::options::address::peer_in;
+use crate::options::given::{is_given, number_given, number_or, wants_in};
 use crate::viewing::film::{Film, FollowOptions};
 use clap::ArgMatches;
 
@@ -31,25 +31,19 @@ pub fn follow_options_in<'a>(given: &ArgMatches<'a>) -> Result<FollowOptions<'a>
     if is_given(given, "partial") {
         return Err(BadValue::Followed);
     }
-    let address = address_in(given)?;
-    let film = film_in(given)?;
     Ok(FollowOptions {
-        host: address.host,
-        port: address.port,
-        timeout: number_given(given, "timeout"),
-        film,
+        peer: peer_in(given)?,
+        film: film_in(given)?,
     })
 }
 
 // Which pictures are wanted. The format is judged first.
 fn film_in<'a>(given: &ArgMatches<'a>) -> Result<Film, BadValue<'a>>
     ensures { MatchResult result (GivesFilm (rows_of (found_of given.now)))
-        (λ _. HasBadSight (rows_of (found_of given.now))) }
+        (λ _. HasBadWants (rows_of (found_of given.now))) }
 {
-    let format = format_in(given)?;
-    let encodings = encodings_in(given, only_raw())?;
     Ok(Film {
-        wants: Wants { format, encodings },
+        wants: wants_in(given, only_raw())?,
         updates: number_given(given, "updates"),
         rate: number_or(given, "fps", MOST_RATE, RATE),
     })

@@ -44,21 +44,17 @@ pub fn follow_at<P: AllocGlobal + Net + Clock, R, W: Write, E: Write>(
     ensures same { KeepsStreams context.old context.new }
 {
     let alloc = context.alloc();
-    let mut notes = Notes::new(context.errors, context.explains);
-    match connect(context.rt, options.host, options.port, options.timeout) {
-        Ok(connection) => follow_on(
-            alloc,
-            connection,
-            context.rt,
-            options.film,
-            context.output,
-            &mut notes,
-        ),
-        Err(error) => {
-            tell_unreached(options.host, options.port, &error, &mut notes);
-            Err(Failure::from(error))
-        }
-    }
+    let notes = &mut Notes::new(context.errors, context.explains);
+    let connected = connect(context.rt, options.peer);
+    tell_unreached(options.peer.address, &connected, notes);
+    follow_on(
+        alloc,
+        connected?,
+        context.rt,
+        options.film,
+        context.output,
+        notes,
+    )
 }
 
 /// Follows the server at the other end of a connection: after each update the picture is written

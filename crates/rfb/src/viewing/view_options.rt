@@ -2,16 +2,13 @@
 
 ghost use Rattle.std.specs.Prelude.{◌≤◌};
 
+use crate::options::address::Peer;
 use crate::script::Wants;
 
 /// What `view` is asked for: a server, and what to see of it.
 #[derive(Drop)]
 pub struct ViewOptions<'a> {
-    /// A name or an address.
-    pub host: &'a str,
-    pub port: u16,
-    /// If there is a number, waiting ends after that many seconds.
-    pub timeout: Option<u32>,
+    pub peer: Peer<'a>,
     pub sight: Sight,
 }
 

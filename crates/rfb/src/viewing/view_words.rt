@@ -3,16 +3,16 @@
 ghost use Rattle.std.specs.Prelude.{MatchResult};
 ghost use Rattle.clap.specs.Words.{found_of, rows_of};
 ghost use Rattle.rfb.specs.command.ViewWords.{GivesViewOptions, GivesSight};
-ghost use Rattle.rfb.specs.command.ViewWords.{HasBadLook, HasBadSight};
+ghost use Rattle.rfb.specs.command.Values.{HasBadWants};
+ghost use Rattle.rfb.specs.command.ViewWords.{HasBadLook};
 
 use crate::defaults::only_raw;
 use crate::help::Topic;
 use crate::options::BadValue;
-use crate::options::address::{ANY_PORT, HOST, SERVER, address_in};
+use crate::options::address::{ANY_PORT, HOST, SERVER, peer_in};
 use crate::options::common::{FORMAT, OUTPUT, PARTIAL};
-use crate::options::given::{count_or, encodings_in, format_in, is_given, is_there, number_given};
+use crate::options::given::{count_or, is_given, is_there, wants_in};
 use crate::options::usage::{Mark, Takes, Usage, Word};
-use crate::script::Wants;
 use crate::viewing::follow_words::MOST_RATE;
 use crate::viewing::{Sight, ViewOptions};
 use clap::ArgMatches;
@@ -77,25 +77,19 @@ pub fn view_options_in<'a>(given: &ArgMatches<'a>) -> Result<ViewOptions<'a>, Ba
     if is_there(given, "fps") {
         return Err(BadValue::Pace);
     }
-    let address = address_in(given)?;
-    let sight = sight_in(given)?;
     Ok(ViewOptions {
-        host: address.host,
-        port: address.port,
-        timeout: number_given(given, "timeout"),
-        sight,
+        peer: peer_in(given)?,
+        sight: sight_in(given)?,
     })
 }
 
 // What is to be seen of it. The format is judged first.
 fn sight_in<'a>(given: &ArgMatches<'a>) -> Result<Sight, BadValue<'a>>
     ensures { MatchResult result (GivesSight (rows_of (found_of given.now)))
-        (λ _. HasBadSight (rows_of (found_of given.now))) }
+        (λ _. HasBadWants (rows_of (found_of given.now))) }
 {
-    let format = format_in(given)?;
-    let encodings = encodings_in(given, only_raw())?;
     Ok(Sight {
-        wants: Wants { format, encodings },
+        wants: wants_in(given, only_raw())?,
         updates: count_or(given, "updates", 1),
         is_recorded: is_given(given, "record"),
         is_partial: is_given(given, "partial"),
