@@ -8,6 +8,7 @@ pub mod Ends
 pub mod Fault
 pub mod Few
 pub mod Film
+pub mod Hosting
 pub mod HubRun
 pub mod HubScript
 pub mod Lines

@@ -1,5 +1,5 @@
 -- What the words of the command line ask for.
-use Rattle.std.specs.Prelude.{◌≡◌, ◌≢◌, ◌≤◌, ◌⊎◌, Bool, true, false, List, [], ◌∷◌, Option, Some, None, codes, filter}
+use Rattle.std.specs.Prelude.{◌≡◌, ◌≢◌, ◌⊎◌, Bool, true, false, List, [], ◌∷◌, Option, Some, None, codes, filter}
 use Rattle.std.specs.Prelude.{not, nat_eq, ◌&&◌}
 use Rattle.std.specs.Cmp.Lexicographic.{pointwise}
 use Rattle.clap.specs.Words.{HasKind, IsAmong, Row, Text, fault_of, first_of, kind_of}
@@ -16,7 +16,8 @@ use Rattle.rfb.specs.declared.sharing.share_words.ShareOptions.{ShareOptions}
 use Rattle.rfb.specs.declared.commands.Verb.{Verb}
 use Rattle.rfb.specs.command.Program.{program, asked, name_of}
 use Rattle.rfb.specs.command.Values.{GivesFormat, HasBadFormat, GivesNumber, MayGiveNumber, IsFlagged, GivesFiles}
-use Rattle.rfb.specs.command.Values.{NamesHost, NamesWord}
+use Rattle.rfb.specs.command.Values.{NamesWord}
+use Rattle.rfb.specs.command.HostingWords.{GivesHosting}
 use Rattle.rfb.specs.command.ServeWords.{GivesServeOptions, HasBadServe}
 use Rattle.rfb.specs.command.ViewWords.{GivesFollowOptions, GivesViewOptions, HasBadView}
 use Rattle.rfb.specs.command.RelayWords.{GivesRelayOptions, HasBadRelay}
@@ -24,18 +25,9 @@ use Rattle.rfb.specs.command.DriveWords.{GivesDriveOptions, HasBadDrive}
 
 -- what `share` is asked for
 pub record GivesShareOptions (rows : List Row) (options : ShareOptions) : Type 0 where
-  pub listen : NamesHost (first_of (codes "listen") rows) options.listen.now
-  pub port : GivesNumber (codes "port") 1 65535 rows options.port
-  pub viewers : GivesNumber (codes "viewers") 1 8 rows options.viewers
-  pub few : (1 ≤ options.viewers) × (options.viewers ≤ 8)
+  pub hosting : GivesHosting rows options.hosting
   pub name : NamesWord (codes "rfb") (first_of (codes "name") rows) options.name.now
-  pub until_idle : IsFlagged (codes "until-idle") rows options.until_idle
-  pub handshake : GivesNumber (codes "handshake") 1 4294967295 rows options.handshake
-  pub timeout : MayGiveNumber (codes "timeout") 1 4294967295 rows options.timeout
   pub hold : GivesNumber (codes "hold") 1 4294967295 rows options.hold
-  pub always_shared : IsFlagged (codes "always-shared") rows options.is_always_shared
-  pub view_only : IsFlagged (codes "view-only") rows options.is_view_only
-  pub quiet : IsFlagged (codes "quiet") rows options.is_quiet
 
 -- what `play` is asked for
 pub record GivesPlayOptions (rows : List Row) (options : PlayOptions) : Type 0 where

@@ -1,6 +1,6 @@
 -- What a relay does, as far as its core tells it: all that happens to it is what its doors bring, and
 -- what leaves there.
-use Rattle.std.specs.Prelude.{◌≡◌, ◌≤◌, true, ℕ, ◌*◌, List, Option, option_map, take}
+use Rattle.std.specs.Prelude.{◌≡◌, true, ℕ, ◌*◌, List, Option, option_map, take}
 use Rattle.rfb_hello.specs.declared.version.Version.TheVariants.{V38}
 use Rattle.rfb_session.specs.declared.console.Outcome.{Outcome}
 use Rattle.rfb_session.specs.declared.relay.Relay.{Relay}
@@ -10,6 +10,7 @@ use Rattle.rfb_session.specs.relay.Server.{IsFreshRelay}
 use Rattle.rfb_session.specs.relay.Relay.{DeclinesRelay, OpensRelay, RelaySteps}
 use Rattle.rfb.specs.Outcomes.{HappensUntil, LeavesCore}
 use Rattle.rfb.specs.Ends.{EndsWell, FailsFor, IsNoEnd}
+use Rattle.rfb.specs.Hosting.{IsHosted}
 use Rattle.rfb.specs.declared.fault.Failure.{Failure}
 use Rattle.rfb.specs.declared.relaying.relay_words.RelayOptions.{RelayOptions}
 use Rattle.rfb.specs.declared.sharing.speaker.Reporter.{Reporter}
@@ -19,12 +20,7 @@ pub record IsSetupOf (options : RelayOptions) (setup : RelaySetup) : Type 0 wher
   pub name : option_map (λ name. name.now) setup.name
       ≡ option_map (λ name. take 255 name.now) options.name
   pub text_limit : setup.rules.text_limit ≡ 65536
-  pub viewers : options.viewers ≤ 8 → setup.rules.viewers ≡ options.viewers
-  pub until_idle : setup.rules.until_idle ≡ options.until_idle
-  pub always_shared : setup.rules.always_shared ≡ options.is_always_shared
-  pub view_only : setup.rules.view_only ≡ options.is_view_only
-  pub handshake : setup.rules.handshake ≡ 1000 * options.handshake
-  pub timeout : setup.rules.timeout ≡ option_map (λ seconds. 1000 * seconds) options.timeout
+  pub hosted : IsHosted options.hosting setup.rules
   pub hold : setup.rules.hold ≡ 1000
   pub retry : setup.rules.retry ≡ option_map (λ seconds. 1000 * seconds) options.retry
   pub format : setup.viewer.format ≡ options.wants.format

@@ -7,6 +7,7 @@ use Rattle.rfb_session.specs.console.Console.{IsFreshConsole}
 use Rattle.rfb_session.specs.console.History.{Lasts}
 use Rattle.rfb.specs.Outcomes.{HappensUntil, LeavesCore}
 use Rattle.rfb.specs.Ends.{EndsWell, IsNoEnd}
+use Rattle.rfb.specs.Hosting.{IsHosted}
 use Rattle.rfb.specs.declared.sharing.share_words.ShareOptions.{ShareOptions}
 use Rattle.rfb.specs.declared.sharing.speaker.Reporter.{Reporter}
 
@@ -14,10 +15,7 @@ use Rattle.rfb.specs.declared.sharing.speaker.Reporter.{Reporter}
 -- its are milliseconds
 pub record IsAsked (options : ShareOptions) (console : Console Reporter) : Type 0 where
   pub fresh : IsFreshConsole console
-  pub until_idle : console.rules.until_idle ≡ options.until_idle
-  pub always_shared : console.rules.always_shared ≡ options.is_always_shared
-  pub view_only : console.rules.view_only ≡ options.is_view_only
-  pub handshake : console.rules.handshake ≡ 1000 * options.handshake
+  pub hosted : IsHosted options.hosting console.rules
   pub hold : console.rules.hold ≡ 1000 * options.hold
 
 -- these happened to a console of the options, in this order, and nothing else did; so it has ended,

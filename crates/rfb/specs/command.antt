@@ -5,5 +5,6 @@ pub mod Program
 pub mod Values
 pub mod ServeWords
 pub mod ViewWords
+pub mod HostingWords
 pub mod RelayWords
 pub mod DriveWords

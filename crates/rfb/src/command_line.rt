@@ -43,55 +43,31 @@ error: unrecognized subcommand
 
 For more information, try '--help'.";
 
+// What is wrong with words that go with no others, or lack some.
 const SERVERS: &str = "\
-error: the argument '[SERVER]' cannot be used with '--host <H>' or '--port <P>'
-
-Usage: rfb view [OPTIONS] [SERVER]
-
-For more information, try '--help'.";
+the argument '[SERVER]' cannot be used with '--host <H>' or '--port <P>'";
 
 const NO_SERVER: &str = "\
-error: the following required arguments were not provided:
-  --port <P>
+the following required arguments were not provided:
+  --port <P>";
 
-Usage: rfb view --port <P>
+const FOLLOWED: &str = "the argument '--follow' cannot be used with '--record' or '--partial'";
 
-For more information, try '--help'.";
+const PACE: &str = "the argument '--fps <N>' cannot be used without '--follow'";
 
-const FOLLOWED: &str = "\
-error: the argument '--follow' cannot be used with '--record' or '--partial'
-
-Usage: rfb view [OPTIONS] [SERVER]
-
-For more information, try '--help'.";
-
-const PACE: &str = "\
-error: the argument '--fps <N>' cannot be used without '--follow'
-
-Usage: rfb view [OPTIONS] [SERVER]
-
-For more information, try '--help'.";
-
-const LINES: &str = "\
-error: the argument '--input <FILE>' cannot be used with '[LINE]...'
-
-Usage: rfb drive [OPTIONS] <SERVER> [LINE]...
-
-For more information, try '--help'.";
+const LINES: &str = "the argument '--input <FILE>' cannot be used with '[LINE]...'";
 
 const SIDES: &str = "\
-error: the argument '--picture <FILE>' cannot be used with '--width <N>' or '--height <N>'
+the argument '--picture <FILE>' cannot be used with '--width <N>' or '--height <N>'";
 
-Usage: rfb serve [OPTIONS] --port <P>
+const CONNECTIONS: &str = "the argument '--forever' cannot be used with '--connections <K>'";
 
-For more information, try '--help'.";
+// How commands are called.
+const VIEW: &str = "view [OPTIONS] [SERVER]";
 
-const CONNECTIONS: &str = "\
-error: the argument '--forever' cannot be used with '--connections <K>'
+const DRIVE: &str = "drive [OPTIONS] <SERVER> [LINE]...";
 
-Usage: rfb serve [OPTIONS] --port <P>
-
-For more information, try '--help'.";
+const SERVE: &str = "serve [OPTIONS] --port <P>";
 
 const ENCODINGS: &str = "\
 rfb: encodings are raw, copyrect, rre and hextile: one to four of them, with a comma between two";
@@ -235,14 +211,26 @@ For more information, try '--help'."
         }
         BadValue::Server(word) => tell_server_word(word, "[SERVER]", errors),
         BadValue::NeededServer(word) => tell_server_word(word, "<SERVER>", errors),
-        BadValue::Servers => writeln!(errors, "{SERVERS}"),
-        BadValue::NoServer => writeln!(errors, "{NO_SERVER}"),
-        BadValue::Sides => writeln!(errors, "{SIDES}"),
-        BadValue::Connections => writeln!(errors, "{CONNECTIONS}"),
-        BadValue::Followed => writeln!(errors, "{FOLLOWED}"),
-        BadValue::Pace => writeln!(errors, "{PACE}"),
-        BadValue::Lines => writeln!(errors, "{LINES}"),
+        BadValue::Servers => tell_misuse(SERVERS, VIEW, errors),
+        BadValue::NoServer => tell_misuse(NO_SERVER, "view --port <P>", errors),
+        BadValue::Sides => tell_misuse(SIDES, SERVE, errors),
+        BadValue::Connections => tell_misuse(CONNECTIONS, SERVE, errors),
+        BadValue::Followed => tell_misuse(FOLLOWED, VIEW, errors),
+        BadValue::Pace => tell_misuse(PACE, VIEW, errors),
+        BadValue::Lines => tell_misuse(LINES, DRIVE, errors),
     };
+}
+
+// Prints what is wrong with the words of a command, and how it is called.
+fn tell_misuse<E: Write>(what: &str, usage: &str, errors: &mut E) -> io::Result<()> {
+    writeln!(
+        errors,
+        "error: {what}
+
+Usage: rfb {usage}
+
+For more information, try '--help'."
+    )
 }
 
 // Prints that a word names no server. `name` is how help has such a word.

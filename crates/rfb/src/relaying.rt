@@ -49,12 +49,13 @@ pub fn relay_at<P: AllocGlobal + Clock + Net, R: Read, W: Write, E: Write>(
         (W.contents context.old.output.now) (W.contents context.new.output.now)) }
     ensures same { KeepsStreams context.old context.new }
 {
-    let (streams, says) = streams_for(context.errors, options.is_quiet)?;
+    let hosting = options.hosting;
+    let (streams, says) = streams_for(context.errors, hosting.is_quiet)?;
     let notes = &mut Notes::new(context.errors, says);
     let connected = connect_once(context.rt, options.server);
     tell_unreached(options.server, &connected, notes);
     let server = connected?;
-    let listener = listener_at(context.rt, options.listen, options.port, notes)?;
+    let listener = listener_at(context.rt, hosting.listen, hosting.port, notes)?;
     listener.set_nonblocking(true)?;
     let alloc = context.alloc();
     let front = Front {

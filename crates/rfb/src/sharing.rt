@@ -9,6 +9,7 @@ ghost use Rattle.rfb.specs.Context.{KeepsStreams};
 ghost use Rattle.rfb.specs.Share.{IsAsked, LeavesShare, Shares};
 
 pub mod ending;
+pub mod hosting;
 mod owner_cause;
 mod ready;
 pub mod setup;
@@ -60,9 +61,10 @@ pub fn share_at<P: AllocGlobal + Clock + Net, R: Read, W: Write, E: Write>(
         (W.contents context.old.output.now) (W.contents context.new.output.now)) }
     ensures same { KeepsStreams context.old context.new }
 {
-    let (streams, says) = streams_for(context.errors, options.is_quiet)?;
+    let hosting = options.hosting;
+    let (streams, says) = streams_for(context.errors, hosting.is_quiet)?;
     let notes = &mut Notes::new(context.errors, says);
-    let listener = listener_at(context.rt, options.listen, options.port, notes)?;
+    let listener = listener_at(context.rt, hosting.listen, hosting.port, notes)?;
     listener.set_nonblocking(true)?;
     let alloc = context.alloc();
     let shell = &mut Shell::new(context.rt, alloc, Some(listener), FRONT, streams)?;

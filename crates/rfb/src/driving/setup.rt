@@ -4,7 +4,7 @@ ghost use Rattle.rfb.specs.Drive.{IsDriveSetup};
 
 use crate::defaults::{copy_of, viewer_setup};
 use crate::driving::DriveOptions;
-use crate::sharing::setup::millis;
+use crate::sharing::hosting::millis;
 use rfb_session::drive::DriverSetup;
 
 /// The setup that options ask for. Their numbers are seconds, and its are milliseconds.

@@ -9,13 +9,13 @@ use crate::help::Topic;
 use crate::options::BadValue;
 use crate::options::address::{Address, NEEDED_SERVER, server_in};
 use crate::options::common::{
-    ALL_ENCODINGS, ALWAYS_SHARED, FORMAT, HANDSHAKE, HANDSHAKE_SECONDS, LISTEN, MOST_VIEWERS,
-    PATIENCE, PORT, QUIET, UNTIL_IDLE, VIEWERS,
+    ALL_ENCODINGS, ALWAYS_SHARED, FORMAT, HANDSHAKE, LISTEN, PATIENCE, PORT, QUIET, UNTIL_IDLE,
+    VIEWERS,
 };
-use crate::options::given::{count_or, is_given, number_given, number_in, wants_in};
+use crate::options::given::{number_given, wants_in};
 use crate::options::usage::{Mark, Takes, Usage, Word};
 use crate::script::Wants;
-use crate::serving::listen_in;
+use crate::sharing::hosting::{Hosting, hosting_in};
 use clap::ArgMatches;
 
 /// What `relay` is asked for.
@@ -23,29 +23,12 @@ use clap::ArgMatches;
 pub struct RelayOptions<'a> {
     /// The server that is relayed.
     pub server: Address<'a>,
-    /// The address and the port to listen on.
-    pub listen: &'a str,
-    pub port: u16,
-    /// How many viewers there are at once at most, 1 to 8.
-    pub viewers: u16,
+    pub hosting: Hosting<'a>,
     /// The name that viewers get, or else the server's own.
     pub name: Option<&'a str>,
-    /// Whether all ends with the last viewer.
-    pub until_idle: bool,
-    /// Within how many seconds a viewer's handshake has to be done.
-    pub handshake: u32,
-    /// If there is a number, a viewer is let go for which bytes waited for so many seconds while it
-    /// took none of them and sent none.
-    pub timeout: Option<u32>,
     /// If there is a number, a server that went away is called again after so many seconds, and
     /// after as many once more, until somebody comes.
     pub retry: Option<u32>,
-    /// Whether a viewer that asks for the screen alone shares it all the same.
-    pub is_always_shared: bool,
-    /// Whether no key, pointer or text of a viewer's goes to the server.
-    pub is_view_only: bool,
-    /// Whether there are no sentences, whatever else asks for them.
-    pub is_quiet: bool,
     /// What the server is asked for.
     pub wants: Wants,
 }
@@ -97,17 +80,9 @@ pub fn relay_options_in<'a>(given: &ArgMatches<'a>) -> Result<RelayOptions<'a>, 
     let wants = wants_in(given, all_encodings())?;
     Ok(RelayOptions {
         server,
-        listen: listen_in(given),
-        port: number_in(given, "port", 1, u16::MAX),
-        viewers: number_in(given, "viewers", 1, MOST_VIEWERS),
+        hosting: hosting_in(given),
         name: name_in(given),
-        until_idle: is_given(given, "until-idle"),
-        handshake: count_or(given, "handshake", HANDSHAKE_SECONDS),
-        timeout: number_given(given, "timeout"),
         retry: number_given(given, "retry"),
-        is_always_shared: is_given(given, "always-shared"),
-        is_view_only: is_given(given, "view-only"),
-        is_quiet: is_given(given, "quiet"),
         wants,
     })
 }

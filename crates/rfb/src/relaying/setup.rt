@@ -5,8 +5,8 @@ ghost use Rattle.rfb.specs.Relay.{IsSetupOf};
 
 use crate::defaults::viewer_setup;
 use crate::relaying::RelayOptions;
-use crate::sharing::setup::{NAME_MAX, millis, millis_of};
-use rfb_session::console::Rules;
+use crate::sharing::hosting::rules_of;
+use crate::sharing::setup::NAME_MAX;
 use rfb_session::relay::RelaySetup;
 
 // How many bytes of each text of a viewer's are passed on at most.
@@ -21,17 +21,7 @@ pub fn setup_of<'a>(options: RelayOptions<'a>) -> RelaySetup<'a>
 {
     RelaySetup {
         name: name_of(options.name),
-        rules: Rules {
-            text_limit: TEXT_MOST,
-            viewers: options.viewers.min(8) as u8,
-            until_idle: options.until_idle,
-            always_shared: options.is_always_shared,
-            view_only: options.is_view_only,
-            handshake: millis(options.handshake),
-            timeout: millis_of(options.timeout),
-            hold: millis(HOLD),
-            retry: millis_of(options.retry),
-        },
+        rules: rules_of(&options.hosting, TEXT_MOST, HOLD, options.retry),
         viewer: viewer_setup(options.wants.format, options.wants.encodings),
     }
 }

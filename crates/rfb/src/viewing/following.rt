@@ -89,7 +89,8 @@ pub fn follow_on<S: Read + Write + OpenStream + Drop, C: Clock, W: Write, N: Wri
     )
 }
 
-// Follows a server whose bytes come from `reader`, and that is answered on `writer`.
+// Follows a server whose bytes come from `reader`, and that is answered on `writer`, and tells how
+// it goes, and why it fails.
 fn follow_over<R: Read + Drop, V: Write + Drop, C: Clock, W: Write, N: Write>(
     alloc: Global,
     reader: R,
@@ -105,7 +106,34 @@ fn follow_over<R: Read + Drop, V: Write + Drop, C: Clock, W: Write, N: Write>(
         (W.contents output.old) (W.contents output.new)) }
 {
     let mut viewer = viewer_for(alloc, &film);
-    film_heard(reader, writer, clock, &mut viewer, &film, output, notes)
+    let mut heard = Heard::new(Origin::Connection);
+    let mut unsent = None;
+    let shared = RefCell::new(&mut *notes);
+    let mut telling = Telling::quiet(Origin::Connection, Shared::new(&shared));
+    let hearing = Hearing::new(reader, &mut heard, Shared::new(&shared));
+    let writing = Writing::new(writer, &mut unsent);
+    let judged = film_told(
+        hearing,
+        writing,
+        clock,
+        &mut viewer,
+        &film,
+        output,
+        &mut telling,
+    );
+    let came = Early::new(&telling, &viewer, &heard);
+    // Both hold the notes.
+    drop(telling);
+    drop(shared);
+    tell_unsent(&unsent, notes);
+    if let Err(Failure::Engine(fault)) = &judged {
+        tell_server(*fault, &viewer, &heard, notes);
+        tell_closed(*fault, came, film.wants.format, notes);
+    }
+    if !matches!(&judged, Err(Failure::Fault(_))) {
+        tell_filmed(came.updates, notes);
+    }
+    judged
 }
 
 // A fresh viewer that is made for a film.
@@ -114,44 +142,6 @@ fn viewer_for(alloc: Global, film: &Film) -> Viewer
 {
     let encodings = copy_of(&film.wants.encodings);
     fresh_viewer(alloc, film.wants.format, encodings)
-}
-
-// Runs a fresh viewer until the film is over, and tells how it goes, and why it fails.
-fn film_heard<R: Read + Drop, V: Write + Drop, C: Clock, W: Write, N: Write>(
-    reader: R,
-    writer: V,
-    clock: &C,
-    viewer: &mut Viewer,
-    film: &Film,
-    output: &mut W,
-    notes: &mut N,
-) -> Result<(), Failure>
-    requires fresh { IsFresh film.now.wants.format film.now.wants.encodings.items viewer.old }
-    ensures done { OnOk result (Follows film.now (R.remaining reader) (V.contents writer)
-        (W.contents output.old) (W.contents output.new)) }
-    ensures stopped { IfErr result (FailsToFollow film.now (R.remaining reader) (V.contents writer)
-        (W.contents output.old) (W.contents output.new)) }
-{
-    let mut heard = Heard::new(Origin::Connection);
-    let mut unsent = None;
-    let shared = RefCell::new(&mut *notes);
-    let mut telling = Telling::quiet(Origin::Connection, Shared::new(&shared));
-    let hearing = Hearing::new(reader, &mut heard, Shared::new(&shared));
-    let writing = Writing::new(writer, &mut unsent);
-    let judged = film_told(hearing, writing, clock, viewer, film, output, &mut telling);
-    let came = Early::new(&telling, viewer, &heard);
-    // Both hold the notes.
-    drop(telling);
-    drop(shared);
-    tell_unsent(&unsent, notes);
-    if let Err(Failure::Engine(fault)) = &judged {
-        tell_server(*fault, viewer, &heard, notes);
-        tell_closed(*fault, came, film.wants.format, notes);
-    }
-    if !matches!(&judged, Err(Failure::Fault(_))) {
-        tell_filmed(came.updates, notes);
-    }
-    judged
 }
 
 // Runs a fresh viewer until the film is over, with somebody who has heard of no update yet.
