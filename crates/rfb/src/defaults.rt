@@ -22,6 +22,18 @@ pub const TEXT_LIMIT: u32 = 1024;
 /// How many places of a screen a viewer admits: those of the largest one.
 pub const MAX_PLACES: u32 = 16_777_216;
 
+/// The loopback address.
+pub const LOOPBACK: &str = "127.0.0.1";
+
+/// The seconds that a viewer's handshake has.
+pub const HANDSHAKE_SECONDS: u32 = 10;
+
+/// The seconds that a scene, or an update of a server that is relayed, has before it is shown.
+pub const HOLD_SECONDS: u32 = 1;
+
+/// The seconds that a line of a rig has.
+pub const LINE_SECONDS: u32 = 30;
+
 /// A server of version 3.8 with a black screen that is named `rfb`.
 pub fn fresh_server(alloc: Global, screen: Screen) -> Result<Server, AllocError>
     ensures { IfOk result (λ server. IsFreshServer screen server) }

@@ -46,7 +46,7 @@ use crate::script::cause::tell_bad_line;
 use crate::script::parting::lines_in;
 use crate::script::read::{read_screen, read_step, read_viewer};
 pub use hub::hub_step::{HubNumbered, HubStep};
-pub use hub::{HubScript, begins_hub, read_hub_explained};
+pub use hub::{HubScript, begins_hub, read_hub_script};
 pub use line::{Numbered, Step, Wants};
 use rfb_session::language::Screen;
 pub use run::{SCRIPT, script};

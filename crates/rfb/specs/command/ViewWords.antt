@@ -45,7 +45,8 @@ pub record GivesViewOptions (rows : List Row) (options : ViewOptions) : Type 0 w
   pub peer : GivesPeer rows options.peer
   pub sight : GivesSight rows options.sight
 
--- a word of `view` is no format, or no list of encodings; or it names no server, or says how many pictures there are in a second
+-- a word of `view` is no format, or no list of encodings; or it names no server, or says how many
+-- pictures there are in a second
 abbrev pub HasBadLook : List Row → Type 0
 HasBadLook rows = HasBadAddress rows ⊎ HasBadWants rows ⊎ IsThere (codes "fps") rows
 

@@ -5,13 +5,13 @@ ghost use Rattle.clap.specs.Words.{first_of, found_of, rows_of};
 ghost use Rattle.rfb.specs.command.DriveWords.{AreNamed, GivesDriveOptions, HasBadDrive};
 ghost use Rattle.rfb.specs.command.DriveWords.{NamesLinesTwice};
 
-use crate::defaults::all_encodings;
+use crate::defaults::{LINE_SECONDS, all_encodings};
 use crate::help::Topic;
 use crate::options::BadValue;
 use crate::options::address::{Address, NEEDED_SERVER, server_in};
 use crate::options::common::{ALL_ENCODINGS, FORMAT, INPUT, QUIET};
 use crate::options::given::{are_there, count_or, is_given, is_there, wants_in};
-use crate::options::usage::{Mark, Takes, Usage, Word};
+use crate::options::usage::{Mark, Takes, Usage, Word, long};
 use crate::script::Wants;
 use clap::ArgMatches;
 
@@ -34,9 +34,6 @@ pub struct DriveOptions<'a> {
     pub wants: Wants,
 }
 
-// The seconds that a line has where no number is given.
-const TIMEOUT: u32 = 30;
-
 /// What `drive` is called with.
 pub const DRIVE: &Usage<'static> = &Usage {
     name: "drive",
@@ -44,24 +41,17 @@ pub const DRIVE: &Usage<'static> = &Usage {
     topic: Topic::Rigs,
     words: &[
         NEEDED_SERVER,
-        Word {
-            name: "timeout",
-            mark: Mark::Long,
-            takes: Takes::NumberOr("S", u32::MAX, "30"),
-            help: "The seconds that a line has until one says otherwise, 1 to 4294967295",
-        },
-        Word {
-            name: "keep",
-            mark: Mark::Long,
-            takes: Takes::Text("DIR"),
-            help: "The folder that gets what the screen showed where a line took too long",
-        },
-        Word {
-            name: "tell",
-            mark: Mark::Long,
-            takes: Takes::Nothing,
-            help: "Reports each change of the screen",
-        },
+        long!(
+            "timeout",
+            Takes::NumberOr("S", u32::MAX, "30"),
+            "The seconds that a line has until one says otherwise, 1 to 4294967295"
+        ),
+        long!(
+            "keep",
+            Takes::Text("DIR"),
+            "The folder that gets what the screen showed where a line took too long"
+        ),
+        long!("tell", Takes::Nothing, "Reports each change of the screen"),
         QUIET,
         FORMAT,
         ALL_ENCODINGS,
@@ -85,7 +75,7 @@ pub fn drive_options_in<'a>(given: &ArgMatches<'a>) -> Result<DriveOptions<'a>, 
     let has_lines = are_lines_named(given)?;
     Ok(DriveOptions {
         server,
-        timeout: count_or(given, "timeout", TIMEOUT),
+        timeout: count_or(given, "timeout", LINE_SECONDS),
         keep: keep_in(given),
         tells_changes: is_given(given, "tell"),
         is_quiet: is_given(given, "quiet"),

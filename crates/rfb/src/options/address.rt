@@ -7,17 +7,16 @@ ghost use Rattle.rfb.specs.command.Values.{MayGiveNumber};
 ghost use Rattle.rfb.specs.command.ViewWords.{GivesAddress, GivesPeer, HasBadAddress};
 ghost use Rattle.rfb.specs.command.RelayWords.{GivesServerAlone, HasNoServer};
 
+use crate::defaults::LOOPBACK;
 use crate::options::BadValue;
 use crate::options::given::{number_given, within, word_in};
-use crate::options::usage::{Mark, Takes, Word};
+use crate::options::usage::{Mark, Takes, Word, long};
 use clap::ArgMatches;
 use rfb_session::language::read_number;
 
 // What a word for a server may be.
 const FORMS: &str =
     "HOST, HOST:N or HOST::PORT; below 100 N is a display, at port 5900 + N; HOST alone is 5900";
-
-const LOOPBACK: &str = "127.0.0.1";
 
 // The port of a host's display 0, and the last number that names a display: a greater one is a
 // port.
@@ -57,20 +56,18 @@ pub const NEEDED_SERVER: Word<'static> = Word {
 };
 
 /// A host.
-pub const HOST: Word<'static> = Word {
-    name: "host",
-    mark: Mark::Long,
-    takes: Takes::Text("H"),
-    help: "The name or the address of the server, 127.0.0.1 without it",
-};
+pub const HOST: Word<'static> = long!(
+    "host",
+    Takes::Text("H"),
+    "The name or the address of the server, 127.0.0.1 without it"
+);
 
 /// A port that may be left out.
-pub const ANY_PORT: Word<'static> = Word {
-    name: "port",
-    mark: Mark::Long,
-    takes: Takes::Number("P", u16::MAX as u32),
-    help: "The port, 1 to 65535; 5900 without it",
-};
+pub const ANY_PORT: Word<'static> = long!(
+    "port",
+    Takes::Number("P", u16::MAX as u32),
+    "The port, 1 to 65535; 5900 without it"
+);
 
 // The server that is given: by a word, or by its host, its port or both, and never by both ways.
 fn address_in<'a>(given: &ArgMatches<'a>) -> Result<Address<'a>, BadValue<'a>>

@@ -5,7 +5,8 @@ ghost use Rattle.std.specs.Prelude.{◌≡◌, ◌≤◌, ◌<◌, false, true, 
 ghost use Rattle.clap.specs.Words.{first_of, found_of, rows_of};
 ghost use Rattle.rfb_pixel.specs.Format.{PixelFormat};
 ghost use Rattle.rfb_wire.specs.declared.encoding.Encoding.{Encoding as AnEncoding};
-ghost use Rattle.rfb.specs.command.Values.{GivesEncodings, GivesWants, HasBadEncodings, HasBadWants};
+ghost use Rattle.rfb.specs.command.Values.{GivesEncodings, GivesWants};
+ghost use Rattle.rfb.specs.command.Values.{HasBadEncodings, HasBadWants};
 ghost use Rattle.rfb.specs.command.Values.{GivesFormat, GivesNumber, GivesOr, HasBadFormat};
 ghost use Rattle.rfb.specs.command.Values.{HasNoWords, HasWords, IsAbsent, IsFlagged, IsThere};
 ghost use Rattle.rfb.specs.command.Values.{MayGiveNumber, NamesWord};

@@ -34,6 +34,20 @@ pub struct Word<'a> {
     pub help: &'a str,
 }
 
+// A word that begins with two hyphens and its name: what follows it, and what it is for.
+macro_rules! long {
+    ($name:expr, $takes:expr, $help:expr) => {
+        Word {
+            name: $name,
+            mark: Mark::Long,
+            takes: $takes,
+            help: $help,
+        }
+    };
+}
+
+pub(crate) use long;
+
 /// How a word begins.
 pub enum Mark {
     /// With two hyphens and its name.

@@ -9,7 +9,7 @@ use crate::help::Topic;
 use crate::options::BadValue;
 use crate::options::common::{FORMAT, INPUT, OUTPUT, PARTIAL};
 use crate::options::given::{format_in, is_given, number_given};
-use crate::options::usage::{Mark, Takes, Usage, Word};
+use crate::options::usage::{Mark, Takes, Usage, Word, long};
 use crate::play::PlayOptions;
 use clap::ArgMatches;
 
@@ -20,12 +20,11 @@ pub const PLAY: &Usage<'static> = &Usage {
     topic: Topic::Recordings,
     words: &[
         FORMAT,
-        Word {
-            name: "updates",
-            mark: Mark::Long,
-            takes: Takes::Number("U", u32::MAX),
-            help: "The updates after which it ends, 1 to 4294967295; without it, all are played",
-        },
+        long!(
+            "updates",
+            Takes::Number("U", u32::MAX),
+            "The updates after which it ends, 1 to 4294967295; without it, all are played"
+        ),
         PARTIAL,
         INPUT,
         OUTPUT,

@@ -13,7 +13,7 @@ use crate::options::common::{
     VIEWERS,
 };
 use crate::options::given::{number_given, wants_in};
-use crate::options::usage::{Mark, Takes, Usage, Word};
+use crate::options::usage::{Mark, Takes, Usage, Word, long};
 use crate::script::Wants;
 use crate::sharing::hosting::{Hosting, hosting_in};
 use clap::ArgMatches;
@@ -43,28 +43,25 @@ pub const RELAY: &Usage<'static> = &Usage {
         PORT,
         LISTEN,
         VIEWERS,
-        Word {
-            name: "name",
-            mark: Mark::Long,
-            takes: Takes::Text("TEXT"),
-            help: "The name that viewers get, 255 bytes at most; the server's own without it",
-        },
+        long!(
+            "name",
+            Takes::Text("TEXT"),
+            "The name that viewers get, 255 bytes at most; the server's own without it"
+        ),
         UNTIL_IDLE,
         HANDSHAKE,
         PATIENCE,
-        Word {
-            name: "retry",
-            mark: Mark::Long,
-            takes: Takes::Number("S", u32::MAX),
-            help: "The seconds after which a server that went away is called again, 1 to 4294967295",
-        },
+        long!(
+            "retry",
+            Takes::Number("S", u32::MAX),
+            "The seconds after which a server that went away is called again, 1 to 4294967295"
+        ),
         ALWAYS_SHARED,
-        Word {
-            name: "view-only",
-            mark: Mark::Long,
-            takes: Takes::Nothing,
-            help: "Passes on and reports no key, pointer or text of a viewer's",
-        },
+        long!(
+            "view-only",
+            Takes::Nothing,
+            "Passes on and reports no key, pointer or text of a viewer's"
+        ),
         QUIET,
         FORMAT,
         ALL_ENCODINGS,

@@ -3,7 +3,7 @@
 ghost use Rattle.std.specs.Prelude.{◌≡◌, option_map, take};
 ghost use Rattle.rfb.specs.Relay.{IsSetupOf};
 
-use crate::defaults::viewer_setup;
+use crate::defaults::{HOLD_SECONDS, viewer_setup};
 use crate::relaying::RelayOptions;
 use crate::sharing::hosting::rules_of;
 use crate::sharing::setup::NAME_MAX;
@@ -12,16 +12,13 @@ use rfb_session::relay::RelaySetup;
 // How many bytes of each text of a viewer's are passed on at most.
 const TEXT_MOST: u32 = 65_536;
 
-// How many seconds an update of the server's may take before what has come of it is shown.
-const HOLD: u32 = 1;
-
 /// The setup that options ask for. Their numbers are seconds, and its are milliseconds.
 pub fn setup_of<'a>(options: RelayOptions<'a>) -> RelaySetup<'a>
     ensures { IsSetupOf options.entry result }
 {
     RelaySetup {
         name: name_of(options.name),
-        rules: rules_of(&options.hosting, TEXT_MOST, HOLD, options.retry),
+        rules: rules_of(&options.hosting, TEXT_MOST, HOLD_SECONDS, options.retry),
         viewer: viewer_setup(options.wants.format, options.wants.encodings),
     }
 }

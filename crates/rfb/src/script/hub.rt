@@ -21,14 +21,12 @@ ghost use Rattle.rfb.specs.HubScript.{AreHubScript, BeginHub, StopsReadingHub};
 ghost use Rattle.rfb.specs.Script.{lines_of};
 
 use crate::fault::Failure;
-use crate::script::cause::tell_bad_hub_line;
 use crate::script::hub::hub_line::{read_hub, read_hub_step, read_show};
 use crate::script::hub::hub_step::{HubNumbered, HubStep};
 use crate::script::parting::lines_in;
 use rfb_session::language::Screen;
 pub use slot::{SHARED, SOLE};
 use std::alloc::Global;
-use std::io::Write;
 
 mod hub_line;
 pub mod hub_step;
@@ -45,23 +43,6 @@ pub struct HubScript {
     pub shown: u8,
 }
 
-/// Reads a whole script of a hub, and `notes` say why a line is bad.
-pub fn read_hub_explained<N: Write>(
-    alloc: Global,
-    text: &[u8],
-    notes: &mut N,
-) -> Result<HubScript, Failure>
-    ensures read { IfOk result (λ script.
-        AreHubScript (lines_of text.now) script.screen script.steps.items script.shown) }
-    ensures stopped { IfErr result (StopsReadingHub (lines_of text.now)) }
-{
-    let read = read_hub_script(alloc, text);
-    if let Err(Failure::BadLine(number)) = &read {
-        tell_bad_hub_line(text, *number, notes);
-    }
-    read
-}
-
 /// Whether the first line that is not empty is one of a hub.
 pub fn begins_hub(text: &[u8]) -> bool
     ensures { (result ≡ true) ↔ BeginHub (lines_of text.now) }
@@ -74,9 +55,9 @@ pub fn begins_hub(text: &[u8]) -> bool
     false
 }
 
-// Reads a whole script of a hub. It fails at the first bad line, or where memory is refused. A
-// text that names no slot to be shown is bad at the line after its last one.
-fn read_hub_script(alloc: Global, text: &[u8]) -> Result<HubScript, Failure>
+/// Reads a whole script of a hub. It fails at the first bad line, or where memory is refused. A
+/// text that names no slot to be shown is bad at the line after its last one.
+pub fn read_hub_script(alloc: Global, text: &[u8]) -> Result<HubScript, Failure>
     ensures read { IfOk result (λ script.
         AreHubScript (lines_of text.now) script.screen script.steps.items script.shown) }
     ensures stopped { IfErr result (StopsReadingHub (lines_of text.now)) }

@@ -15,9 +15,10 @@ use crate::fault::{Failure, Fault};
 use crate::help::Topic;
 use crate::options::common::{INPUT, OUTPUT};
 use crate::options::usage::Usage;
+use crate::script::cause::tell_bad_hub_line;
 use crate::script::run_hub::run_hub;
 use crate::script::steps::{fresh_world, play};
-use crate::script::{Numbered, Script, begins_hub, read_explained, read_hub_explained};
+use crate::script::{Numbered, Script, begins_hub, read_explained, read_hub_script};
 use crate::writing::write_ppm;
 use rfb_session::{HubFault, Refused, World};
 use std::alloc::Global;
@@ -52,7 +53,11 @@ pub fn script<P: AllocGlobal, R: Read, W: Write, E: Write>(
     let lines = text.as_slice();
     let notes = &mut Notes::new(context.errors, context.explains);
     if begins_hub(lines) {
-        let hub = read_hub_explained(alloc, lines, notes)?;
+        let read = read_hub_script(alloc, lines);
+        if let Err(Failure::BadLine(number)) = &read {
+            tell_bad_hub_line(lines, *number, notes);
+        }
+        let hub = read?;
         run_hub(context, &hub)?;
         return Ok(());
     }

@@ -6,13 +6,14 @@ ghost use Rattle.rfb.specs.command.Values.{GivesOr, NamesHost};
 ghost use Rattle.rfb.specs.command.ServeWords.{GivesConnections, GivesScreen, GivesServeOptions};
 ghost use Rattle.rfb.specs.command.ServeWords.{HasBadConnections, HasBadScreen, HasBadServe};
 
+use crate::defaults::LOOPBACK;
 use crate::help::Topic;
 use crate::options::BadValue;
 use crate::options::common::{LISTEN, PORT};
 use crate::options::given::{
     is_given, is_there, number_given, number_in, number_or, word_in, word_or,
 };
-use crate::options::usage::{Mark, Takes, Usage, Word};
+use crate::options::usage::{Mark, Takes, Usage, Word, long};
 use clap::ArgMatches;
 use rfb_session::language::{MAX_SIDE, Screen};
 
@@ -43,8 +44,6 @@ pub enum ScreenChoice<'a> {
 /// many: at a million a second they would take half a million years.
 pub const FOREVER: u64 = u64::MAX;
 
-const LOOPBACK: &str = "127.0.0.1";
-
 // The places of a side that is not given.
 const SIDE: u16 = 64;
 
@@ -55,42 +54,36 @@ pub const SERVE: &Usage<'static> = &Usage {
     topic: Topic::Viewers,
     words: &[
         PORT,
-        Word {
-            name: "width",
-            mark: Mark::Long,
-            takes: Takes::Number("N", MAX_SIDE as u32),
-            help: "The pixels of a row of the screen, 1 to 4096; 64 without it",
-        },
-        Word {
-            name: "height",
-            mark: Mark::Long,
-            takes: Takes::Number("N", MAX_SIDE as u32),
-            help: "The rows of the screen, 1 to 4096; 64 without it",
-        },
-        Word {
-            name: "picture",
-            mark: Mark::Long,
-            takes: Takes::Text("FILE"),
-            help: "Shows the picture of this PPM, in place of the test picture",
-        },
-        Word {
-            name: "connections",
-            mark: Mark::Long,
-            takes: Takes::Number("K", u16::MAX as u32),
-            help: "How many connections are served, 1 to 65535; 1 without it",
-        },
-        Word {
-            name: "forever",
-            mark: Mark::Long,
-            takes: Takes::Nothing,
-            help: "Serves one connection after another until it is ended from outside",
-        },
-        Word {
-            name: "timeout",
-            mark: Mark::Long,
-            takes: Takes::Number("S", u32::MAX),
-            help: "The seconds without a byte after which a viewer is let go, 1 to 4294967295",
-        },
+        long!(
+            "width",
+            Takes::Number("N", MAX_SIDE as u32),
+            "The pixels of a row of the screen, 1 to 4096; 64 without it"
+        ),
+        long!(
+            "height",
+            Takes::Number("N", MAX_SIDE as u32),
+            "The rows of the screen, 1 to 4096; 64 without it"
+        ),
+        long!(
+            "picture",
+            Takes::Text("FILE"),
+            "Shows the picture of this PPM, in place of the test picture"
+        ),
+        long!(
+            "connections",
+            Takes::Number("K", u16::MAX as u32),
+            "How many connections are served, 1 to 65535; 1 without it"
+        ),
+        long!(
+            "forever",
+            Takes::Nothing,
+            "Serves one connection after another until it is ended from outside"
+        ),
+        long!(
+            "timeout",
+            Takes::Number("S", u32::MAX),
+            "The seconds without a byte after which a viewer is let go, 1 to 4294967295"
+        ),
         LISTEN,
     ],
 };

@@ -5,7 +5,8 @@ ghost use Rattle.clap.specs.Words.{found_of, rows_of};
 ghost use Rattle.rfb.specs.Hosting.{IsHosted};
 ghost use Rattle.rfb.specs.command.HostingWords.{GivesHosting};
 
-use crate::options::common::{HANDSHAKE_SECONDS, MOST_VIEWERS};
+use crate::defaults::HANDSHAKE_SECONDS;
+use crate::options::common::MOST_VIEWERS;
 use crate::options::given::{count_or, is_given, number_given, number_in};
 use crate::serving::listen_in;
 use clap::ArgMatches;

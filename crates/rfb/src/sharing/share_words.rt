@@ -5,12 +5,13 @@ ghost use Rattle.clap.specs.Words.{first_of, found_of, rows_of};
 ghost use Rattle.rfb.specs.command.Values.{NamesWord};
 ghost use Rattle.rfb.specs.Options.{GivesShareOptions};
 
+use crate::defaults::HOLD_SECONDS;
 use crate::help::Topic;
 use crate::options::common::{
     ALWAYS_SHARED, HANDSHAKE, LISTEN, PATIENCE, PORT, QUIET, UNTIL_IDLE, VIEWERS,
 };
 use crate::options::given::{count_or, word_or};
-use crate::options::usage::{Mark, Takes, Usage, Word};
+use crate::options::usage::{Mark, Takes, Usage, Word, long};
 use crate::sharing::hosting::{Hosting, hosting_in};
 use clap::ArgMatches;
 
@@ -26,9 +27,6 @@ pub struct ShareOptions<'a> {
 
 const NAME: &str = "rfb";
 
-// The seconds that a scene has where no number is given.
-const HOLD: u32 = 1;
-
 /// What `share` is called with.
 pub const SHARE: &Usage<'static> = &Usage {
     name: "share",
@@ -38,28 +36,25 @@ pub const SHARE: &Usage<'static> = &Usage {
         PORT,
         LISTEN,
         VIEWERS,
-        Word {
-            name: "name",
-            mark: Mark::Long,
-            takes: Takes::TextOr("TEXT", NAME),
-            help: "The screen's name, of which viewers get 255 bytes at most",
-        },
+        long!(
+            "name",
+            Takes::TextOr("TEXT", NAME),
+            "The screen's name, of which viewers get 255 bytes at most"
+        ),
         UNTIL_IDLE,
         HANDSHAKE,
         PATIENCE,
-        Word {
-            name: "hold",
-            mark: Mark::Long,
-            takes: Takes::NumberOr("S", u32::MAX, "1"),
-            help: "The seconds that a scene may take, 1 to 4294967295",
-        },
+        long!(
+            "hold",
+            Takes::NumberOr("S", u32::MAX, "1"),
+            "The seconds that a scene may take, 1 to 4294967295"
+        ),
         ALWAYS_SHARED,
-        Word {
-            name: "view-only",
-            mark: Mark::Long,
-            takes: Takes::Nothing,
-            help: "Reports no key, pointer or text of a viewer's",
-        },
+        long!(
+            "view-only",
+            Takes::Nothing,
+            "Reports no key, pointer or text of a viewer's"
+        ),
         QUIET,
     ],
 };
@@ -71,7 +66,7 @@ pub fn share_options_in<'a>(given: &ArgMatches<'a>) -> ShareOptions<'a>
     ShareOptions {
         hosting: hosting_in(given),
         name: name_in(given),
-        hold: count_or(given, "hold", HOLD),
+        hold: count_or(given, "hold", HOLD_SECONDS),
     }
 }
 

@@ -24,9 +24,9 @@ pub struct Streams {
     pub errors: bool,
 }
 
-/// Which standard streams are open, and whether sentences are said: where they are not unwanted, and
-/// standard error is open. It fails where standard output is closed, and says so. It is asked before
-/// anything is opened, since what is opened then takes the place of a stream that is not.
+/// Which standard streams are open, and whether sentences are said. They are where standard error
+/// is open, unless it is to be quiet. It fails where standard output is closed, and says so. It is
+/// asked before anything is opened, since what is opened takes the place of a stream that is not.
 pub fn streams_for<E: Write>(errors: &mut E, is_quiet: bool) -> Result<(Streams, bool), Failure> {
     let streams = open_streams();
     let says = streams.errors && !is_quiet;

@@ -12,7 +12,7 @@ use crate::options::BadValue;
 use crate::options::address::{ANY_PORT, HOST, SERVER, peer_in};
 use crate::options::common::{FORMAT, OUTPUT, PARTIAL};
 use crate::options::given::{count_or, is_given, is_there, wants_in};
-use crate::options::usage::{Mark, Takes, Usage, Word};
+use crate::options::usage::{Mark, Takes, Usage, Word, long};
 use crate::viewing::follow_words::MOST_RATE;
 use crate::viewing::{Sight, ViewOptions};
 use clap::ArgMatches;
@@ -26,43 +26,37 @@ pub const VIEW: &Usage<'static> = &Usage {
         SERVER,
         HOST,
         ANY_PORT,
-        Word {
-            name: "updates",
-            mark: Mark::Long,
-            takes: Takes::Number("U", u32::MAX),
-            help: "The updates that are viewed, 1 to 4294967295; 1 without it, with --follow all",
-        },
-        Word {
-            name: "follow",
-            mark: Mark::Long,
-            takes: Takes::Nothing,
-            help: "Writes the picture after each update, one after another, until the server ends",
-        },
-        Word {
-            name: "fps",
-            mark: Mark::Long,
-            takes: Takes::Number("N", MOST_RATE as u32),
-            help: "The pictures of --follow in a second at most, 1 to 1000; 30 without it",
-        },
+        long!(
+            "updates",
+            Takes::Number("U", u32::MAX),
+            "The updates that are viewed, 1 to 4294967295; 1 without it, with --follow all"
+        ),
+        long!(
+            "follow",
+            Takes::Nothing,
+            "Writes the picture after each update, one after another, until the server ends"
+        ),
+        long!(
+            "fps",
+            Takes::Number("N", MOST_RATE as u32),
+            "The pictures of --follow in a second at most, 1 to 1000; 30 without it"
+        ),
         FORMAT,
-        Word {
-            name: "encodings",
-            mark: Mark::Long,
-            takes: Takes::TextOr("E", "raw"),
-            help: "One to four of raw, copyrect, rre and hextile with commas, the best first",
-        },
-        Word {
-            name: "record",
-            mark: Mark::Long,
-            takes: Takes::Nothing,
-            help: "Writes the server's bytes as they come, in place of the picture",
-        },
-        Word {
-            name: "timeout",
-            mark: Mark::Long,
-            takes: Takes::Number("S", u32::MAX),
-            help: "The seconds after which it ends, 1 to 4294967295; without it, it waits",
-        },
+        long!(
+            "encodings",
+            Takes::TextOr("E", "raw"),
+            "One to four of raw, copyrect, rre and hextile with commas, the best first"
+        ),
+        long!(
+            "record",
+            Takes::Nothing,
+            "Writes the server's bytes as they come, in place of the picture"
+        ),
+        long!(
+            "timeout",
+            Takes::Number("S", u32::MAX),
+            "The seconds after which it ends, 1 to 4294967295; without it, it waits"
+        ),
         PARTIAL,
         OUTPUT,
     ],

@@ -1,4 +1,4 @@
-use Rattle.std.proofs.Common.{◌≡◌, inl, inr, IfSome, Option, Some, None, List, ℕ, [], ◌++◌}
+use Rattle.std.proofs.Common.{◌≡◌, refl, inl, inr, IfSome, Option, Some, None, List, ℕ, [], ◌++◌}
 use Rattle.std.proofs.lemmas.Result.{err_from_is_err_and}
 use Rattle.rfb_pixel.specs.declared.colour.Colour.{Colour}
 use Rattle.rfb_picture.specs.Grid.{Grid}
@@ -14,6 +14,7 @@ use Rattle.rfb_session.proofs.WrittenLaws.{on_err}
 use Rattle.rfb.specs.HubScript.{AreHubScript, StopsReadingHub}
 use Rattle.rfb.proofs.HubScriptingLemmas.{fails_any, hub_left, hub_plays, stops_hub, stops_plain}
 use Rattle.rfb.proofs.MadeLemmas.{made}
+use Rattle.rfb.proofs.script.run.script.Goals.{in-Err-BadLine, in-Err+in-Fault-1, in-Ok-1}
 use Rattle.rfb.proofs.script.run.script.Goals as goal
 
 -- what was read after nothing is what there was to read
@@ -77,26 +78,38 @@ returns-clause-done g c =
 pub returns-in_err-run_hub-clause-left : goal.returns-in_err-run_hub-clause-left
 returns-in_err-run_hub-clause-left g c =
     let hub = c.in_ok-hub.hub in
+    let same : g.W.Write.contents c.match-read.context.output.now ≡ g.W.Write.contents c.args.context.now.output.now =
+    elim c.match-read.branch [
+      | in-Err-BadLine w ↦ rw w.context-is refl
+      | in-Err+in-Fault-1 w ↦ rw w.context-is refl
+      | in-Ok-1 w ↦ rw w.context-is refl
+    ] in
     let said : AreHubScript (lines_of c.read_to_end.new.buf.items) hub.screen hub.steps.items hub.shown =
-    rw c.as_slice-lines.ensures.value at c.in_ok-hub.ensures.read in
-    on_err _ _
+    rw c.as_slice-lines.ensures.value at (rw c.in_ok-hub.was at c.read_hub_script-read.ensures.read) in
+    rw (← same) (on_err _ _
     (hub_left (g.R.Read.remaining c.args.context.now.input.now) _ _ c.new-text.result.items c.read_to_end.new.buf.items
     hub.screen hub.steps.items hub.shown c.new-text.ensures.items c.in_ok-read_to_end.ensures.bytes said
-    c.in_err-run_hub.ensures.left)
+    c.in_err-run_hub.ensures.left))
 
 pub returns-then-begins_hub-clause-done : goal.returns-then-begins_hub-clause-done
 returns-then-begins_hub-clause-done g c =
     let hub = c.in_ok-hub.hub in
+    let same : g.W.Write.contents c.match-read.context.output.now ≡ g.W.Write.contents c.args.context.now.output.now =
+    elim c.match-read.branch [
+      | in-Err-BadLine w ↦ rw w.context-is refl
+      | in-Err+in-Fault-1 w ↦ rw w.context-is refl
+      | in-Ok-1 w ↦ rw w.context-is refl
+    ] in
     let said : AreHubScript (lines_of c.read_to_end.new.buf.items) hub.screen hub.steps.items hub.shown =
-    rw c.as_slice-lines.ensures.value at c.in_ok-hub.ensures.read in
-    hub_plays (g.R.Read.remaining c.args.context.now.input.now) _ _ c.new-text.result.items c.read_to_end.new.buf.items
-    hub.screen hub.steps.items hub.shown c.new-text.ensures.items c.in_ok-read_to_end.ensures.bytes
-    said c.in_ok-run_hub.ensures.done
+    rw c.as_slice-lines.ensures.value at (rw c.in_ok-hub.was at c.read_hub_script-read.ensures.read) in
+    rw (← same) (hub_plays (g.R.Read.remaining c.args.context.now.input.now) _ _ c.new-text.result.items
+    c.read_to_end.new.buf.items hub.screen hub.steps.items hub.shown c.new-text.ensures.items
+    c.in_ok-read_to_end.ensures.bytes said c.in_ok-run_hub.ensures.done)
 
 pub returns-in_err-hub-clause-stopped : goal.returns-in_err-hub-clause-stopped
 returns-in_err-hub-clause-stopped g c =
     let stops : StopsReadingHub (lines_of c.read_to_end.new.buf.items) c.in_err-hub.field-0.0 =
-    rw c.as_slice-lines.ensures.value at c.in_err-hub.ensures.stopped in
+    rw c.as_slice-lines.ensures.value at (rw c.in_err-hub.was at c.read_hub_script-read.ensures.stopped) in
     let p = err_from_is_err_and c.from_residual-in_err-hub.result c.from_residual-in_err-hub.ensures.1 in
     rw (p.1, p.2)
     (fails_any (g.R.Read.remaining c.args.context.now.input.now) c.new-text.result.items
