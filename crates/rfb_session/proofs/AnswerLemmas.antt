@@ -180,7 +180,7 @@ answers_read e c item rest made (Held p m s) queue =
     absurd (none_first item rest (sym s.none ∙ queue))
 answers_read e c item rest made (Sent p m s) queue =
     answers_as (viewer_side e) c.session.point c.to_server item item refl m.viewer_at refl
-    (update_answers e _ p item)
+    (update_answers e (past_all (to_server_stream e) c.session.point c.to_server) p item)
 
 -- ---- the server's answers
 
@@ -230,7 +230,8 @@ RepliesAfter e c item = AnswersPast (server_side e) c.viewer.point c.to_viewer c
 ready_replies : (e : Ends) (c : Core) (item : FromClient) → c.session.point ≡ Second tt →
     RepliesAfter e c item
 ready_replies e c item at =
-    answers_as (server_side e) c.viewer.point c.to_viewer item item refl at refl (message_replies e _ item)
+    answers_as (server_side e) c.viewer.point c.to_viewer item item refl at refl
+    (message_replies e (past_all (to_viewer_stream e) c.viewer.point c.to_viewer) item)
 
 pub replies_read : (e : Ends) (c : Core) (item : FromClient) (rest : List FromClient) → AreMade e →
     Phase e c → c.to_server ≡ item ∷ rest → RepliesAfter e c item

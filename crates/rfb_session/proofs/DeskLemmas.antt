@@ -118,8 +118,8 @@ composes_next n old mid new tries wants more none given clear rests before one =
 parts_not : (k set : ℕ) (old new : Desk) → Parts old set new → has_bit set k ≡ false →
     guest_at new k ≡ guest_at old k
 parts_not k set old new parts none = elim (leb_tells 8 k) [
-  | inl far ↦ parts.later k far.1
-  | inr near ↦ parts.guests k (omega (arith, near.1))
+  | inl far ↦ parts.forgets.later k far.1
+  | inr near ↦ parts.forgets.guests k (omega (arith, near.1))
       ∙ ap (λ (b : Bool). cond b nobody (guest_at old k)) none
 ]
 
@@ -140,19 +140,19 @@ tells_of_is old mid told new k heard parts tells counts = record {
       (tells.told ∙ ap (λ (g : Guest). g.told) (parts_not k heard.ended old mid parts none))
       ∙ ap (λ (n : ℕ). counted_on (guest_at old k).told n)
       (longer_by (lines_of mid) (lines_of told) (told_line mid.rules.view_only k heard.event) tells.lines)
-      ∙ ap (λ (r : Rules). told_after r.view_only k heard.event (guest_at old k).told) parts.rules.rules;
-  others = λ j within other. counts.others j other ∙ tells.others j other ∙ parts.guests j within;
+      ∙ ap (λ (r : Rules). told_after r.view_only k heard.event (guest_at old k).told) parts.forgets.rules.rules;
+  others = λ j within other. counts.others j other ∙ tells.others j other ∙ parts.forgets.guests j within;
   lines = counts.lines ∙ tells.lines
-      ∙ ap (λ (l : List ℕ). l ++ told_line mid.rules.view_only k heard.event) parts.lines
+      ∙ ap (λ (l : List ℕ). l ++ told_line mid.rules.view_only k heard.event) parts.forgets.lines
       ∙ append_assoc (lines_of old) (leave_lines (tells_in old heard.ended) 8)
       (told_line mid.rules.view_only k heard.event)
       ∙ ap (λ (r : Rules). lines_of old
       ++ (leave_lines (tells_in old heard.ended) 8 ++ told_line r.view_only k heard.event))
-      parts.rules.rules;
+      parts.forgets.rules.rules;
   rules = record {
-    rules = counts.rules.rules ∙ tells.rules.rules ∙ parts.rules.rules;
-    hold = counts.rules.hold ∙ tells.rules.hold ∙ parts.rules.hold;
-    first = counts.rules.first ∙ tells.rules.first ∙ parts.rules.first;
+    rules = counts.rules.rules ∙ tells.rules.rules ∙ parts.forgets.rules.rules;
+    hold = counts.rules.hold ∙ tells.rules.hold ∙ parts.forgets.rules.hold;
+    first = counts.rules.first ∙ tells.rules.first ∙ parts.forgets.rules.first;
   };
 }
 
@@ -233,9 +233,9 @@ module _ (old mid heard_by new : Desk) (k : ℕ) (bytes : List ℕ) (stirs : Sti
       (record {
         line = λ going.
             let told_now : told ≡ true = over ∙ ap (λ (b : Bool). not b) going in
-            let line = fails.line told_now in
+            let line = fails.lines.line told_now in
             (line.0, line.1, line.2 ∙ ap (λ (l : List ℕ). l ++ line.0) same);
-        none = λ gone. fails.none (over ∙ ap (λ (b : Bool). not b) gone) ∙ same;
+        none = λ gone. fails.lines.none (over ∙ ap (λ (b : Bool). not b) gone) ∙ same;
       })
       (fails.progress ∙ ap (λ (p : Progress). cond told Failing p) was
       ∙ ap (λ (b : Bool). cond b Failing (guest_at old k).progress) over

@@ -63,7 +63,7 @@ module _ (old released begins stays shows : Desk) (now slow stuck late : ℕ) (h
       ∙ ap (λ (b : Bool). is_slow old.rules now (guest_then old now k) || b) (stuck_then k within)
 
   guest_shown : (k : ℕ) → k < 8 → guest_at shows k ≡ cond (is_late old now k) nobody (guest_then old now k)
-  guest_shown k within = stills.guests k ∙ goes.guests k within
+  guest_shown k within = stills.guests k ∙ goes.forgets.guests k within
       ∙ ap (λ (b : Bool). cond b nobody (guest_at begins k)) (late_then k within)
       ∙ ap (λ (g : Guest). cond (is_late old now k) nobody g) (begun k within)
 
@@ -74,7 +74,7 @@ module _ (old released begins stays shows : Desk) (now slow stuck late : ℕ) (h
       ∙ ap (λ (o : Option ShareSeat). cond (is_late old now k) None o) (releases.seats k within)
 
   lines_shown : lines_of shows ≡ lines_of old ++ leave_lines (tells_late old now) 8
-  lines_shown = stills.lines ∙ goes.lines
+  lines_shown = stills.lines ∙ goes.forgets.lines
       ∙ ap (λ (l : List ℕ). l ++ leave_lines (tells_in begins late) 8) (stamps.lines ∙ releases.lines)
       ∙ ap (λ (l : List ℕ). lines_of old ++ l) (leave_lines_below (tells_in begins late) (tells_late old now) 8
       (λ k within. ap (λ (b : Bool). b && not (is_over (guest_at begins k).progress)) (late_then k within)
@@ -93,10 +93,10 @@ module _ (old released begins stays shows : Desk) (now slow stuck late : ℕ) (h
   }
 
   rules_stay : stays.rules ≡ old.rules
-  rules_stay = goes.rules.rules ∙ rules_begin
+  rules_stay = goes.forgets.rules.rules ∙ rules_begin
 
   hold_stays : stays.hold ≡ old.hold
-  hold_stays = goes.rules.hold ∙ stamps.rules.hold ∙ releases.rules.hold
+  hold_stays = goes.forgets.rules.hold ∙ stamps.rules.hold ∙ releases.rules.hold
 
   held_then : held ≡ holds_at old.rules.hold now old.hold
   held_then = stills.held_is ∙ ap (λ (r : Rules). holds_at r.hold now stays.hold) rules_stay
@@ -107,7 +107,7 @@ module _ (old released begins stays shows : Desk) (now slow stuck late : ℕ) (h
       ∙ ap (λ (h : Hold). hold_after old.rules.hold now h) hold_stays
 
   first_shown : shows.first ≡ old.first
-  first_shown = stills.first ∙ goes.rules.first ∙ stamps.rules.first ∙ releases.rules.first
+  first_shown = stills.first ∙ goes.forgets.rules.first ∙ stamps.rules.first ∙ releases.rules.first
 
   -- and then they are, or they are held back
   pub turns_so : (composed rounds new : Desk) (wants : Bool) (last : Option ℕ) →

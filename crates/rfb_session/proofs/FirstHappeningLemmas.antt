@@ -1,7 +1,7 @@
 -- The first of all that happens, and what comes after it.
 use Rattle.std.proofs.Common.{◌≡◌, ◌≢◌, ◌++◌, ℕ, List, [], ◌∷◌, refl, subst}
 use Rattle.rfb_session.specs.doors.Events.{Stepping, came, left}
-use Rattle.rfb_session.specs.doors.Tenants.{Happening, Told, Opened, Declined, IsKept, Goes, events_in}
+use Rattle.rfb_session.specs.doors.Tenants.{Happening, Told, Opened, Declined, IsKept, Meets, Goes, events_in}
 use Rattle.rfb_session.specs.doors.Lives.{Opening, Declining}
 use Rattle.rfb_session.specs.console.History.{left_in}
 use Rattle.rfb_session.proofs.ConsoleMoveLemmas.{came_in}
@@ -20,27 +20,12 @@ kept_first d (Opened door from) more kept = kept
 kept_first d (Declined from) more kept = (tt, kept)
 
 module _ {C : Type 0} (steps : Stepping C) (opens : Opening C) (declines : Declining C) where
-  -- one thing happened to a core
-  abbrev pub HappensBy : C → Happening → C → Type 0
-  HappensBy old (Told event) new = steps old event new
-  HappensBy old (Opened door from) new = opens old door from new
-  HappensBy old (Declined from) new = declines old from new
-
-  -- the first happened, and then the rest
-  pub first_of : (old new : C) (h : Happening) (more : List Happening) →
-      Goes steps opens declines old (h ∷ more) new →
-      (mid : C) × HappensBy old h mid × Goes steps opens declines mid more new
-  first_of old new (Told event) more goes = goes
-  first_of old new (Opened door from) more goes = goes
-  first_of old new (Declined from) more goes = goes
-
   -- what was so before each thing, if it is so after it, was so before all of them, if it is so after them
   pub so_before : (P : C → Type 0) →
-      ((old : C) (h : Happening) (new : C) → HappensBy old h new → P new → P old) →
+      ((old : C) (h : Happening) (new : C) → Meets steps opens declines old h new → P new → P old) →
       (old new : C) (happenings : List Happening) → Goes steps opens declines old happenings new → P new → P old
   so_before P back old new [] goes is = subst P goes is
-  so_before P back old new (h ∷ more) goes is =
-      let one = first_of old new h more goes in
+  so_before P back old new (h ∷ more) one is =
       back old h one.0 one.1 (so_before P back one.0 new more one.2 is)
 
 -- the bytes that came and left are those of the first, and those that came and left after it

@@ -201,7 +201,7 @@ relay_never e old new bytes fault has to_server to_viewer later m some is fails 
     (one_viewer (viewer_of old) r.viewer fails.was r.is_there fails.was_there) r.fed.stands in
     viewer_good e l
     (record { viewer_has = r.fed.has; viewer_gets = to_viewer; server_has = has; server_gets = to_server })
-    bytes later fault r.fed.flies is (fails.fails.refused some e.viewing l.viewer r.fed.has stands)
+    bytes later fault r.fed.flies is (fails.fails.ends.refused some e.viewing l.viewer r.fed.has stands)
 
 -- ---- another server
 

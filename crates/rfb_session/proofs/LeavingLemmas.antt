@@ -119,7 +119,7 @@ module _ {F : Type 0} {event : ℕ → Event} {queue : Link → List ℕ}
 
 -- an end to which bytes are lost stays as it was
 session_stays : (a b : Link) (k : ℕ) → LosesToServer a k b → server_fault_of b ≡ server_fault_of a
-session_stays a b k one = ap (λ (end : Session). session_fault end) one.session
+session_stays a b k one = ap (λ (end : Session). session_fault end) one.beside.session
 
 viewer_stays : (a b : Link) (k : ℕ) → LosesToViewer a k b → viewer_fault_of b ≡ viewer_fault_of a
 viewer_stays a b k one = ap (λ (end : Viewer). fault_of end) one.viewer

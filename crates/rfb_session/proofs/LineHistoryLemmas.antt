@@ -20,7 +20,7 @@ use Rattle.rfb_session.specs.declared.share.event.SeatEvent.{SeatEvent}
 use Rattle.rfb_session.specs.console.Viewers.{HearsAt, Took, Refused, MakesRoom}
 use Rattle.rfb_session.specs.console.Turns.{tells_late}
 use Rattle.rfb_session.specs.console.Console.{IsFreshConsole, Stays, HearsOwner, Ignored, Heard, ObeysSome, Obeys}
-use Rattle.rfb_session.specs.console.Console.{DeclinesAs, OpensAs, Steps, lines_on}
+use Rattle.rfb_session.specs.console.Console.{lines_on}
 use Rattle.rfb_session.specs.console.History.{Happens, Lasts, HasRead, left_in, TellsEach, TellsAll, joined}
 use Rattle.rfb_session.specs.console.History.{Reads, Part, Line, Deed, Obeyed, Met, orders_in}
 use Rattle.rfb_session.specs.console.History.{but_owners}
@@ -30,7 +30,7 @@ use Rattle.rfb_session.proofs.ConsoleMoveLemmas.{Alike, Draws, Goes, Loses, Hold
 use Rattle.rfb_session.proofs.ConsoleMoveLemmas.{Turns, Comes, Refuses, if_other}
 use Rattle.rfb_session.proofs.ConsoleStepLemmas.{moves_so, read_on, stays_so, went_on, lasts_on, IsBeside}
 use Rattle.rfb_session.proofs.ConsoleStepLemmas.{kept_so, kept_read, heard_read, left_over}
-use Rattle.rfb_session.proofs.FirstHappeningLemmas.{first_of, bytes_first}
+use Rattle.rfb_session.proofs.FirstHappeningLemmas.{bytes_first}
 
 -- ---- lines
 
@@ -77,8 +77,8 @@ move_tells h a b (Draws stroke done silent draws) = tells_none h _ _ (silent_9 h
 move_tells h a b (Goes k taken silent lets) =
     tells_more h (lines_of a) (lines_of b) (cond taken (leave_line k) []) (silent_9 h silent) lets.lines
 move_tells h a b (Loses k true silent lets) =
-    let line = lets.line refl in tells_more h (lines_of a) (lines_of b) line.0 (silent_9 h silent) line.2
-move_tells h a b (Loses k false silent lets) = tells_none h _ _ (silent_9 h silent) (lets.none refl)
+    let line = lets.lines.line refl in tells_more h (lines_of a) (lines_of b) line.0 (silent_9 h silent) line.2
+move_tells h a b (Loses k false silent lets) = tells_none h _ _ (silent_9 h silent) (lets.lines.none refl)
 move_tells h a b (Holds silent holds) = tells_none h _ _ (silent_9 h silent) holds.lines
 move_tells h a b (Shows silent shows) =
     tells_none h _ _ (silent_9 h silent) (shows.composes.beside.lines ∙ shows.holds.lines)
@@ -150,8 +150,7 @@ module _ {S : Type 0} where
     each = lasts;
     order = ap (λ (c : Console S). lines_on c.desk) lasts ∙ sym (append-nil (lines_on old.desk));
   }
-  tells_all old new (h ∷ more) part read goes lasts =
-      let one = first_of Steps OpensAs DeclinesAs old new h more lasts in
+  tells_all old new (h ∷ more) part read goes one =
       let on = lasts_on one.0 new more one.2 goes in
       let was = went_on old one.0 (stays_so h old one.0 one.1) on in
       let next = read_on old one.0 h part read was on one.1 in

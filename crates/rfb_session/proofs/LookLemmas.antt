@@ -138,7 +138,7 @@ module _ {D : Type 0} (writing : Writing D) (joins : Joins writing) where
         Appends-trans blank k stops.kept.0 was.fed stops.fed was.looks.kept stops.kept.1,
         subst (λ (n : ℕ). KeepsLast stops.kept.0 copied stops.slice n failed) same stops.kept.2,
       ) in
-      search (all_parts bytes was.fed rest stops.fed stops.slice was.bytes_are stops.bytes_are,
+      search (all_parts bytes was.fed rest stops.fed stops.slice was.bytes_are stops.read,
       turn_then old last stops.last was.fed was.looks.sent stops.fed stops.sent was.looks.updates stops.updates None
       (open_turn old last was.fed was.looks.sent was.looks.updates mid some was.looks.runs) stops.runs,
       joins.then before w after was.looks.sent stops.sent was.looks.wrote stops.wrote, kept, stops.ends)

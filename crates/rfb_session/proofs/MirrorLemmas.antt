@@ -239,14 +239,10 @@ pub fails_at : (old new : Viewer) (bytes : List ℕ) (result : Result (Fed Viewe
     IfErr result (λ fault. FailsAt old bytes fault new)
 fails_at old new bytes (Ok fed) fails again refused wants picture damage moved reason counted made = tt
 fails_at old new bytes (Err fault) fails again refused wants picture damage moved reason counted made = record {
-  fails = fails;
+  ends = record { fails = fails; refused = refused; starved = wants; picture = picture; reason = reason };
   again = λ before is. let same = (again before is).0 in (cc, (again before is).1);
-  refused = refused;
-  wants = wants;
-  picture = picture;
   damage = damage;
   moved = moved;
-  reason = reason;
   counted = counted;
   made = made;
 }

@@ -155,14 +155,16 @@ pub reading_until : (unread mid left : Option (List ℕ)) (old : Viewer) (reads 
 reading_until unread mid left old reads told last bytes fault new was more ends = record {
   fed = was.fed ++ ends.fed;
   slice = ends.slice;
-  sent = was.sent ++ ends.sent;
-  updates = was.updates + ends.updates;
   last = ends.last;
-  read = subst (λ (l : List ℕ). Consumes unread left l)
+  bytes_are = subst (λ (l : List ℕ). Consumes unread left l)
       (ap (λ (l : List ℕ). was.fed ++ l) ends.bytes_are ∙ sym (append_assoc was.fed ends.fed ends.slice))
       (Consumes-trans unread mid left was.fed bytes was.read more);
-  runs = ran_then viewer_driven old last ends.last was.fed was.sent ends.fed ends.sent was.updates
-      ends.updates was.runs ends.runs;
+  runs = (
+    was.sent ++ ends.runs.0,
+    was.updates + ends.runs.1,
+    ran_then viewer_driven old last ends.last was.fed was.sent ends.fed ends.runs.0 was.updates
+        ends.runs.1 was.runs ends.runs.2,
+  );
   ends = ends.ends;
 }
 

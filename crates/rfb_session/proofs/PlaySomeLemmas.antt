@@ -84,7 +84,7 @@ some_first old bytes before rest told mid used new now enough was call few many 
       sent = was.sent;
       updates = was.updates;
       mid = mid;
-      bytes_are = was.bytes_are
+      read = was.bytes_are
           ∙ ap (λ (l : List ℕ). was.fed ++ l) (sym (take-append-drop used rest))
           ∙ sym (append_assoc was.fed (take used rest) (drop used rest));
       runs = was.runs;
@@ -165,11 +165,9 @@ pub some_until : (old : Viewer) (bytes : List ℕ) (before : ℕ) (rest : List �
 some_until old bytes before rest told last fault new was ends = record {
   fed = was.fed;
   slice = rest;
-  sent = was.sent;
-  updates = was.updates;
   last = last;
   bytes_are = was.bytes_are;
-  runs = was.runs;
+  runs = (was.sent, was.updates, was.runs);
   ends = ends;
 }
 
@@ -191,7 +189,7 @@ reading_first unread mid left old reads told last bytes enough new was more few 
   updates = was.updates + watched.updates;
   mid = watched.mid;
   read = subst (λ (l : List ℕ). Consumes unread left l)
-      (ap (λ (l : List ℕ). was.fed ++ l) watched.bytes_are
+      (ap (λ (l : List ℕ). was.fed ++ l) watched.read
       ∙ sym (append_assoc was.fed (watched.fed ++ watched.ending) watched.later)
       ∙ ap (λ (l : List ℕ). l ++ watched.later)
       (sym (append_assoc was.fed watched.fed watched.ending)))

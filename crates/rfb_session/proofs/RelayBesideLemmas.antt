@@ -84,7 +84,7 @@ module _ {S : Type 0} where
 
   pub rooms_still : (mid new : Relay S) → KeepsAllButRooms mid new → Still mid new
   rooms_still mid new keeps = record {
-    coming = keeps.server.coming;
+    coming = keeps.server.beside.noted.coming;
     presence = keeps.server.presence;
     desk = λ a there. same_seen a mid.console.desk new.console.desk there keeps.console.desk;
   }
@@ -92,7 +92,7 @@ module _ {S : Type 0} where
   pub rooms_wait : (old mid new : Relay S) (sent more : List Sent) → KeepsAllButRooms mid new →
       Waits old sent more mid → Waits old sent more new
   rooms_wait old mid new sent more keeps w = record {
-    waits = keeps.server.waits ∙ w.waits;
+    waits = keeps.server.beside.waits ∙ w.waits;
     viewer = w.viewer;
     shown = w.shown;
     state = w.state;
@@ -105,8 +105,8 @@ module _ {S : Type 0} where
   pub server_gone : (mid new : Relay S) → KeepsServer mid new → HasGone mid → HasGone new
   server_gone mid new keeps gone = record {
     gone = ap (λ (p : Presence). is_gone p) keeps.presence ∙ gone.gone;
-    coming = keeps.coming ∙ gone.coming;
-    waits = keeps.waits ∙ gone.waits;
+    coming = keeps.beside.noted.coming ∙ gone.coming;
+    waits = keeps.beside.waits ∙ gone.waits;
   }
 
   -- ---- at the seats' side
@@ -114,13 +114,13 @@ module _ {S : Type 0} where
   pub beside_waits : (old new : Relay S) (sent : List Sent) → HasSent old sent → KeepsServer old new →
       ((a : Desk) → old.console.desk ≡ Some a → KeepsSeen a new.console.desk) → Waits old sent [] new
   beside_waits old new sent has keeps desk = record {
-    waits = keeps.waits ∙ sym (append-nil old.to_server);
+    waits = keeps.beside.waits ∙ sym (append-nil old.to_server);
     viewer = has.viewer;
     shown = has.shown;
     state = has.state;
     prefix = has.prefix;
     here = still_has old new has.viewer has.shown
-        (record { coming = keeps.coming; presence = keeps.presence; desk = desk }) has.here;
+        (record { coming = keeps.beside.noted.coming; presence = keeps.presence; desk = desk }) has.here;
     stands = has.stands;
     order = subst
         (λ (l : List Sent).

@@ -135,13 +135,13 @@ module _ {S : Type 0} where
           IsInOrder old.console.rules.view_only true t.point t.outstanding (sent ++ Updated ∷ []) →
           AfterBytes old sent part new
       opens is (Opened desk none there share over presence beside) order =
-          opened desk is there share.viewer_is presence beside.coming beside.waits order
+          opened desk is there share.viewer_is presence beside.noted.coming beside.waits order
       opens is (OpenedAgain a m b there shows tells now_there outcome presence beside) order =
           opened b is now_there (ap (λ (s : Share). viewer_of s) tells.share ∙ shows.share.is_there) presence
-          beside.coming beside.waits order
+          beside.noted.coming beside.waits order
       opens is (OpenedOther share made (OpenedAnew a m b there begins tells now_there outcome presence beside)) order =
           opened b is now_there (ap (λ (s : Share). viewer_of s) (tells.share ∙ begins.share_is) ∙ made.viewer_is)
-          presence beside.coming beside.waits order
+          presence beside.noted.coming beside.waits order
       opens is (OpenedOther share made (NoRoomForLines ran)) order = absurd (none_some new.console.outcome _ goes ran)
       opens is (NoPicture how between kept loses) order =
           Leaves (loses_gone between how new

@@ -15,7 +15,7 @@ use Rattle.rfb_session.specs.relay.Relay.{ForViewer, OpensRelay, DeclinesRelay}
 use Rattle.rfb_session.specs.relay.Server.{LosesServer}
 use Rattle.rfb_session.proofs.ConsoleMoveLemmas.{AtDoor, AtOwner, AtSeat, AtLines, AtOther, at_door, if_other}
 use Rattle.rfb_session.proofs.ConsoleStepLemmas.{went_on}
-use Rattle.rfb_session.proofs.FirstHappeningLemmas.{IsKeptBy, first_of, kept_first, bytes_first, so_before}
+use Rattle.rfb_session.proofs.FirstHappeningLemmas.{IsKeptBy, kept_first, bytes_first, so_before}
 use Rattle.rfb_session.proofs.RelayBesideLemmas.{of_door, server_gone, take_none, drop_none}
 use Rattle.rfb_session.proofs.RelayHearLemmas.{hears_gone}
 use Rattle.rfb_session.proofs.RelayPassLemmas.{heard_gone}
@@ -119,8 +119,7 @@ module _ {S : Type 0} where
       new.console.outcome ≡ None → Lasts old happenings new →
       HasGone new × (left 0 (events_in happenings) ≡ [])
   stays_gone old new [] gone kept goes lasts = (subst (λ (r : Relay S). HasGone r) (sym lasts) gone, refl)
-  stays_gone old new (h ∷ more) gone kept goes lasts =
-      let one = first_of RelaySteps OpensRelay DeclinesRelay old new h more lasts in
+  stays_gone old new (h ∷ more) gone kept goes one =
       let keeps = kept_first 0 h more kept in
       let on = lasts_on one.0 new more one.2 goes in
       let next = happens_gone old one.0 h (on_before h old one.0 one.1 on) on keeps.0 gone one.1 in

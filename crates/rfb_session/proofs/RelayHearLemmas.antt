@@ -108,12 +108,12 @@ module _ {S : Type 0} where
               part_is = part_is ∙ ap (λ (n : ℕ). take n bytes) used_is;
               event_is = refl;
             }) refl)
-            (keeps.waits ∙ taken.waits ∙ sym (append-nil old.to_server)
+            (keeps.beside.waits ∙ taken.waits ∙ sym (append-nil old.to_server)
             ∙ ap (λ (l : List ℕ). old.to_server ++ l) (sym (updates_bytes fed.event)))
             on.relays.now true one.0 one.1
             (record {
               presence = keeps.presence ∙ taken.presence ∙ here.presence;
-              coming = keeps.coming ∙ taken.taken;
+              coming = keeps.beside.noted.coming ∙ taken.taken;
               desk = b;
               desk_is = now;
               seen = ap (λ (x : Share). viewer_of x) (told_share m _ b tells) ∙ on.relays.is_there;
@@ -173,8 +173,8 @@ module _ {S : Type 0} where
       keeps_gone : (x : Relay S) → KeepsServer mid x → HasGone x
       keeps_gone x keeps = record {
         gone = ap (λ (p : Presence). is_gone p) keeps.presence ∙ still.gone;
-        coming = keeps.coming ∙ still.coming;
-        waits = keeps.waits ∙ still.waits;
+        coming = keeps.beside.noted.coming ∙ still.coming;
+        waits = keeps.beside.waits ∙ still.waits;
       }
 
       by : HearsShown mid bytes used new → HasGone new

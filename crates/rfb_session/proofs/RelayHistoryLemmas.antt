@@ -13,14 +13,13 @@ use Rattle.rfb_session.specs.declared.relay.presence.Presence.TheVariants.{Comin
 use Rattle.rfb_session.specs.doors.Events.{left}
 use Rattle.rfb_session.specs.doors.Tenants.{Happening, IsKept, events_in}
 use Rattle.rfb_session.specs.console.History.{left_in}
-use Rattle.rfb_session.specs.relay.History.{Happens, Lasts, HasSent, HasGone, SendsEach, SendsAll}
+use Rattle.rfb_session.specs.relay.History.{Lasts, HasSent, HasGone, SendsEach, SendsAll}
 use Rattle.rfb_session.specs.relay.Sent.{Sent, all_bytes, all_sent}
 use Rattle.rfb_session.specs.relay.Presence.{is_gone}
-use Rattle.rfb_session.specs.relay.Relay.{DeclinesRelay, OpensRelay, OpensFor, ForServer, ForViewer, IsCalledAgain}
-use Rattle.rfb_session.specs.relay.Relay.{RelaySteps}
+use Rattle.rfb_session.specs.relay.Relay.{OpensRelay, OpensFor, ForServer, ForViewer, IsCalledAgain}
 use Rattle.rfb_session.specs.relay.Server.{IsFreshRelay}
 use Rattle.rfb_session.specs.relay.Setup.{viewing_by}
-use Rattle.rfb_session.proofs.FirstHappeningLemmas.{IsKeptBy, first_of, kept_first, bytes_first}
+use Rattle.rfb_session.proofs.FirstHappeningLemmas.{IsKeptBy, kept_first, bytes_first}
 use Rattle.rfb_session.proofs.RelayBesideLemmas.{Moves, GoesOn, GoesAway}
 use Rattle.rfb_session.proofs.RelayHappenLemmas.{moved_so}
 use Rattle.rfb_session.proofs.RelayOrderLemmas.{not_gone}
@@ -110,13 +109,10 @@ module _ {S : Type 0} where
     since = subst (λ (l : List Sent). HasSent new l) (sym (append-nil before))
         (subst (λ (r : Relay S). HasSent r before) (sym lasts) has);
   }
-  sends_all old new (h ∷ more) before has kept goes there lasts =
+  sends_all old new (h ∷ more) before has kept goes there one =
       by (moved_so old mid before has was on h keeps.0 one.1)
       (λ sent since. sends_all mid new more (before ++ sent) since keeps.1 goes there one.2)
     where
-      one : (mid : Relay S) × Happens old h mid × Lasts mid more new
-      one = first_of RelaySteps OpensRelay DeclinesRelay old new h more lasts
-
       mid : Relay S
       mid = one.0
 
@@ -152,8 +148,7 @@ module _ {S : Type 0} where
   forgets old new [] before has kept goes gone lasts =
       absurd (let one = not_gone old has.viewer has.shown has.here in
       let two = ap (λ (r : Relay S). is_gone r.presence) (sym lasts) ∙ gone in cc)
-  forgets old new (h ∷ more) before has kept goes gone lasts =
-      let one = first_of RelaySteps OpensRelay DeclinesRelay old new h more lasts in
+  forgets old new (h ∷ more) before has kept goes gone one =
       let keeps = kept_first 0 h more kept in
       let on = lasts_on one.0 new more one.2 goes in
       one_forgets old one.0 new before h more keeps.1 goes one.2

@@ -13,7 +13,7 @@ use Rattle.rfb_session.specs.declared.console.Console.{Console}
 use Rattle.rfb_session.specs.relay.Doors.{KeepsBeside, KeepsHere, KeepsServer}
 use Rattle.rfb_session.specs.relay.Server.{NoPicture, NoRoomForLines, NoRoomToShow, Opened, OpenedAgain, OpenedAnew}
 use Rattle.rfb_session.specs.relay.Server.{OpenedOther, Opens, OpensAnew, TellsUp}
-use Rattle.rfb_session.proofs.RelayStepLemmas.{side_same, side_then}
+use Rattle.rfb_session.proofs.RelayStepLemmas.{beside_then, side_same, side_then}
 
 -- a share that is made with a name is one of the viewer's by what that name is
 pub share_named : (viewer : Viewer) (name named : List ℕ) (text_limit : ℕ) (share : Share) →
@@ -28,19 +28,6 @@ share_named viewer name named text_limit share is empty made same = record {
 }
 
 module _ {S : Type 0} where
-  beside_then : (old mid new : Relay S) → KeepsBeside old mid → KeepsBeside mid new → KeepsBeside old new
-  beside_then old mid new first second = record {
-    coming = second.coming ∙ first.coming;
-    waits = second.waits ∙ first.waits;
-    name = second.name ∙ first.name;
-    passed = second.passed ∙ first.passed;
-  }
-
-  -- the same, but for whether its server is there
-  beside_same : {old new : Relay S} → KeepsServer old new → KeepsBeside old new
-  beside_same keeps =
-      record { coming = keeps.coming; waits = keeps.waits; name = keeps.name; passed = keeps.passed }
-
   -- what follows of a desk that was told that its server is there, and of no memory for that, follows
   pub ups_so : {X : Type 0} (old mid : Relay S) (m : Desk) (new : Relay S) → mid.console.desk ≡ Some m →
       mid.console.outcome ≡ old.console.outcome → KeepsBeside old mid → TellsUp mid new →
@@ -48,7 +35,7 @@ module _ {S : Type 0} where
       new.console.outcome ≡ old.console.outcome → KeepsBeside old new → X) →
       (new.console.outcome ≡ Some NoMemory → X) → X
   ups_so old mid m new there outcome beside ups told ran = elim (ups.told m there) [
-    | inl one ↦ told one.0 one.1 (rw (sym beside.name) one.2) (one.3 ∙ outcome)
+    | inl one ↦ told one.0 one.1 (rw (sym beside.noted.name) one.2) (one.3 ∙ outcome)
         (beside_then old mid new beside ups.keeps)
     | inr none ↦ ran none
   ]
@@ -71,37 +58,36 @@ module _ {S : Type 0} where
     outcome = second.outcome ∙ first.outcome;
     side = side_then old.console mid.console new.console first.side second.side;
     server = record {
-      coming = second.server.coming ∙ first.server.coming;
-      waits = second.server.waits ∙ first.server.waits;
       presence = second.server.presence ∙ first.server.presence;
-      name = second.server.name ∙ first.server.name;
-      passed = second.server.passed ∙ first.server.passed;
+      beside = beside_then old mid new first.server.beside second.server.beside;
     };
   }
 
   beside_here : (old mid new : Relay S) → KeepsHere old mid → KeepsBeside mid new → KeepsBeside old new
-  beside_here old mid new here beside = beside_then old mid new (beside_same here.server) beside
+  beside_here old mid new here beside = beside_then old mid new here.server.beside beside
 
   -- the same from where nothing had changed yet
   pub anew_kept : (old mid : Relay S) (share : Share) (new : Relay S) → KeepsHere old mid →
       OpensAnew mid share new →
       OpensAnew old share new
   anew_kept old mid share new here (OpenedAnew a m b is begins tells there outcome presence beside) =
-      OpenedAnew a m b (sym here.desk ∙ is) begins (rw (← here.server.name) tells) there (outcome ∙ here.outcome)
-      presence (beside_here old mid new here beside)
+      OpenedAnew a m b (sym here.desk ∙ is) begins (rw (← here.server.beside.noted.name) tells) there
+      (outcome ∙ here.outcome) presence (beside_here old mid new here beside)
   anew_kept old mid share new here (NoRoomForLines ran) = NoRoomForLines ran
 
   pub opens_kept : (old mid : Relay S) (now : Viewer) (new : Relay S) → KeepsHere old mid →
       mid.given ≡ old.given →
       Opens mid now new → Opens old now new
   opens_kept old mid now new here given (Opened desk none there share over presence beside) =
-      Opened desk (sym here.desk ∙ none) there (rw (← given, ← here.server.name, ← here.side.stays.rules) share)
-      (rw (← here.server.name, ← here.side.stays.rules) over) presence (beside_here old mid new here beside)
+      Opened desk (sym here.desk ∙ none) there
+      (rw (← given, ← here.server.beside.noted.name, ← here.side.stays.rules) share)
+      (rw (← here.server.beside.noted.name, ← here.side.stays.rules) over) presence
+      (beside_here old mid new here beside)
   opens_kept old mid now new here given (OpenedAgain a m b is shows tells there outcome presence beside) =
-      OpenedAgain a m b (sym here.desk ∙ is) shows (rw (← here.server.name) tells) there (outcome ∙ here.outcome)
-      presence (beside_here old mid new here beside)
+      OpenedAgain a m b (sym here.desk ∙ is) shows (rw (← here.server.beside.noted.name) tells) there
+      (outcome ∙ here.outcome) presence (beside_here old mid new here beside)
   opens_kept old mid now new here given (OpenedOther share is opens) =
-      OpenedOther share (rw (← given, ← here.server.name, ← here.side.stays.rules) is)
+      OpenedOther share (rw (← given, ← here.server.beside.noted.name, ← here.side.stays.rules) is)
       (anew_kept old mid share new here opens)
   opens_kept old mid now new here given (NoPicture how gone kept loses) =
       NoPicture how gone (here_then old mid gone here kept) loses

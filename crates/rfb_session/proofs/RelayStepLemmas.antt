@@ -28,7 +28,7 @@ use Rattle.rfb_session.specs.console.Time.{IsBy}
 use Rattle.rfb_session.specs.relay.Presence.{is_gone, is_shown, call_time, planned, WakesToCall}
 use Rattle.rfb_session.specs.declared.relay.presence.Presence.{Presence}
 use Rattle.rfb_session.specs.declared.relay.presence.Presence.TheVariants.{Coming, Shown, Gone as Lost}
-use Rattle.rfb_session.specs.relay.Doors.{CountsPassed, KeepsAllButRooms, TakesViewer}
+use Rattle.rfb_session.specs.relay.Doors.{CountsPassed, KeepsAllButRooms, KeepsBeside, TakesViewer}
 use Rattle.rfb_session.specs.relay.Doors.{KeepsServer, OpensDoors, SparesUpTo, passed_at, room_of_server}
 use Rattle.rfb_session.specs.relay.Doors.{space_at_door}
 use Rattle.rfb_session.specs.relay.Server.{EndsFor, Fed_on, HearsShown, Heeds, IsToldGone}
@@ -184,8 +184,10 @@ module _ {S : Type 0} where
   pub server_same : {old new : Relay S} → new.coming ≡ old.coming → new.to_server ≡ old.to_server →
       new.presence ≡ old.presence → new.server_name ≡ old.server_name → new.passed ≡ old.passed →
       KeepsServer old new
-  server_same coming waits presence name passed =
-      record { coming = coming; waits = waits; presence = presence; name = name; passed = passed }
+  server_same coming waits presence name passed = record {
+    beside = record { noted = record { coming = coming; name = name; passed = passed }; waits = waits };
+    presence = presence;
+  }
 
   -- the server's viewer was taken, and all else is as it was
   pub viewer_taken : {old new : Relay S} → new.coming ≡ None → new.console ≡ old.console →
@@ -222,7 +224,7 @@ module _ {S : Type 0} where
         server = spares.server ∙ server ∙ sym (rw (gone, outcome) refl);
         viewers = λ k within. spares.rooms k within
             ∙ ap (λ (n : ℕ). cond (nat_lt (passed_at opened k) 4096) n 0) (others k ∙ rooms.seats k within)
-            ∙ sym (rw (spares.keeps.server.passed, outcome, desk) refl);
+            ∙ sym (rw (spares.keeps.server.beside.noted.passed, outcome, desk) refl);
       }
 
   -- planning a call changes none of them
@@ -234,7 +236,7 @@ module _ {S : Type 0} where
       let outcome = plans.console.outcome in
       record {
         server = rw (rooms, gone, outcome) opens.server;
-        viewers = λ k within. rw (rooms, plans.beside.passed, desk, outcome) (opens.viewers k within);
+        viewers = λ k within. rw (rooms, plans.beside.noted.passed, desk, outcome) (opens.viewers k within);
       }
 
 -- and whether it has gone stays so
@@ -264,6 +266,16 @@ wakes_so (Some pause) (Some ended) q t next is by = tt
 wakes_so (Some pause) None q t next is by = subst (λ (x : Option ℕ). WakesToCall x next) is (wakes t next by)
 
 module _ {S : Type 0} where
+  pub beside_then : (old mid new : Relay S) → KeepsBeside old mid → KeepsBeside mid new → KeepsBeside old new
+  beside_then old mid new first second = record {
+    noted = record {
+      coming = second.noted.coming ∙ first.noted.coming;
+      name = second.noted.name ∙ first.noted.name;
+      passed = second.noted.passed ∙ first.noted.passed;
+    };
+    waits = second.waits ∙ first.waits;
+  }
+
   -- ---- bytes of a server whose picture is shown
 
   pub shown_so : (old mid : Relay S) (a m : Desk) (bytes : List ℕ) (fed : Fed ViewerEvent) (new : Relay S) →
@@ -276,11 +288,8 @@ module _ {S : Type 0} where
           × (new.console.outcome ≡ mid.console.outcome)) ⊎ (new.console.outcome ≡ Some NoMemory) →
           HearsShown old bytes fed.used new
       by (inl one) = Fed_on a m one.0 fed is refl feeds one.2 one.1 (one.3 ∙ outcome) (record {
-        coming = heeds.server.coming ∙ keeps.coming;
-        waits = heeds.server.waits ∙ keeps.waits;
         presence = heeds.server.presence ∙ keeps.presence;
-        name = heeds.server.name ∙ keeps.name;
-        passed = heeds.server.passed ∙ keeps.passed;
+        beside = beside_then old mid new keeps.beside heeds.server.beside;
       })
       by (inr ran) = NoRoomToTell ran
 

@@ -11,7 +11,7 @@ use Rattle.rfb_session.specs.doors.Tenants.{Happening, IsKept, events_in}
 use Rattle.rfb_session.specs.Rounds.{is_left}
 use Rattle.rfb_session.specs.Share.{serving_in, waits_at}
 use Rattle.rfb_session.specs.ShareSteps.{WritesAs}
-use Rattle.rfb_session.specs.console.Console.{DeclinesAs, OpensAs, Steps}
+use Rattle.rfb_session.specs.console.Console.{OpensAs}
 use Rattle.rfb_session.specs.console.Viewers.{HearsAt}
 use Rattle.rfb_session.specs.console.Turns.{is_done, is_late}
 use Rattle.rfb_session.specs.console.History.{Lasts, HasRead, left_in, SeatLives, IsEmptySeat}
@@ -20,7 +20,7 @@ use Rattle.rfb_session.proofs.ConsoleMoveLemmas.{Moves, None_yet, Begun, Moved, 
 use Rattle.rfb_session.proofs.ConsoleMoveLemmas.{Draws, Goes, Loses, Holds, Shows, Hears, Writes, WritesOut, Turns}
 use Rattle.rfb_session.proofs.ConsoleMoveLemmas.{Comes, Refuses, if_other}
 use Rattle.rfb_session.proofs.ConsoleStepLemmas.{moves_so, read_on, stays_so, went_on, lasts_on}
-use Rattle.rfb_session.proofs.FirstHappeningLemmas.{IsKeptBy, first_of, kept_first, bytes_first}
+use Rattle.rfb_session.proofs.FirstHappeningLemmas.{IsKeptBy, kept_first, bytes_first}
 use Rattle.rfb_session.proofs.SeatLifeLemmas.{GoesOn, lives_then, stayed, same_share, go_on, left_by_one, served_on}
 use Rattle.rfb_session.proofs.SeatLifeLemmas.{turned_on}
 use Rattle.rfb_session.proofs.SeatLifeLemmas.{hears_here, hears_beside, comes_beside, refuses_all, drawn_on, written_on}
@@ -146,8 +146,7 @@ module _ (serving : Serving) (k : ℕ) (within : k < 8) where
           inl (rw (lasts, append-nil heard, append-nil taken) lives);
       gone = λ none. subst (λ (c : Console S). IsEmptySeat c.desk k) (sym lasts) none;
     }
-    lives_on old new (h ∷ more) part read goes kept lasts =
-        let one = first_of Steps OpensAs DeclinesAs old new h more lasts in
+    lives_on old new (h ∷ more) part read goes kept one =
         let keeps = kept_first (k + 1) h more kept in
         let bytes = bytes_first (k + 1) h more in
         let on = lasts_on one.0 new more one.2 goes in

@@ -176,16 +176,18 @@ hearing_fails unread mid left before w after old reads told last bytes fr fs st 
     more same none stops = record {
       fed = was.fed ++ stops.fed;
       slice = stops.slice;
-      sent = was.sent ++ stops.sent;
-      updates = was.updates + 0;
       last = stops.last;
-      read =
+      bytes_are =
           subst (λ (l : List ℕ). Consumes unread left l)
           (joined_after was.fed bytes stops.fed stops.slice stops.bytes_are)
           (Consumes-trans unread mid left was.fed bytes was.read more);
-      runs = idle_then old last stops.last was.fed was.sent stops.fed stops.sent was.updates 0 was.runs
-          (hears_runs last stops.last stops.fed stops.sent stops.hears);
-      wrote = Appends-trans before w after was.sent stops.sent was.wrote stops.wrote;
+      runs = (
+        was.sent ++ stops.sent,
+        was.updates + 0,
+        idle_then old last stops.last was.fed was.sent stops.fed stops.sent was.updates 0 was.runs
+            (hears_runs last stops.last stops.fed stops.sent stops.hears),
+        Appends-trans before w after was.sent stops.sent was.wrote stops.wrote,
+      );
       ends = stops.ends;
     }
 hearing_fails unread mid left before w after old reads told last bytes fr fs st fm failed Device
@@ -292,7 +294,7 @@ front_stops unread left r s start before after v w x front old Device new wrote 
 front_stops unread left r s start before after v w x front old EngineNoMemory new wrote same stops =
     front_some unread left start before after front old new wrote stops
 front_stops unread left r s start before after v w x front old (ServerEnded fault) new wrote same stops =
-    search (stops, Appends-trans start before after front stops.sent wrote stops.wrote)
+    search (stops, Appends-trans start before after front stops.runs.0 wrote stops.runs.3)
 front_stops unread left r s start before after v w x front old (ViewerEnded fault) new wrote same stops = stops
 
 -- the greeting was not written whole

@@ -239,12 +239,12 @@ judged_fault unread left old fault new until enough bytes known =
     λ viewing s first items verdict v.
     let m = viewer viewing in
     let g = server_bytes viewing.form viewing.hello in
-    let r = until.runs viewing s [] first in
-    let c = came_ran viewing s until.last until.fed until.sent until.updates r in
+    let r = until.runs.2 viewing s [] first in
+    let c = came_ran viewing s until.last until.fed until.runs.0 until.runs.1 r in
     let refused = until.ends.refused enough viewing r.state r.rest r.stands in
     let there = acts m s c.items in
     let later = some_consumed left bytes (until.fed ++ until.slice)
-    (subst (λ (u : Option (List ℕ)). Consumes u left (until.fed ++ until.slice)) known until.read) in
+    (subst (λ (u : Option (List ℕ)). Consumes u left (until.fed ++ until.slice)) known until.bytes_are) in
     let reads : ReadsAll g s.point (until.fed ++ until.slice) (c.items ++ refused.items) refused.rest =
     reads_then m (viewer_machine viewing) s there [] r.rest until.fed until.slice refused.rest c.items refused.items
     refl c.reads

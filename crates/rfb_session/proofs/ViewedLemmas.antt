@@ -172,7 +172,7 @@ looking_fails unread mid left before w after blank k copied old reads asked stil
       Appends-trans blank k stops.kept.0 was.fed stops.fed was.looks.kept stops.kept.1,
       kept_as stops.kept.0 copied stops.slice fb failed fa af same counted stops.kept.2,
     ) in
-    search (whole_read unread mid left was.fed bytes stops.fed stops.slice was.read more stops.bytes_are,
+    search (whole_read unread mid left was.fed bytes stops.fed stops.slice was.read more stops.read,
     turn_then old last stops.last was.fed was.looks.sent stops.fed stops.sent was.looks.updates stops.updates None
     (open_turn old last was.fed was.looks.sent was.looks.updates still was.going was.looks.runs) stops.runs,
     Appends-trans before w after was.looks.sent stops.sent was.looks.wrote stops.wrote, kept, stops.ends)

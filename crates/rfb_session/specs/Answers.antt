@@ -3,7 +3,7 @@
 use Rattle.std.specs.Prelude.{zero, suc, List, [], ◌∷◌, ◌++◌, map}
 use Rattle.rfb_wire.specs.Encoding.{number_of}
 use Rattle.rfb_wire.specs.ClientMessage.{SetPixelFormat, SetEncodings}
-use Rattle.rfb_wire.specs.stream.Sequel.{First, Second}
+use Rattle.rfb_wire.specs.stream.Sequel.{Stage, First, Second}
 use Rattle.rfb_hello.specs.Version.{lower}
 use Rattle.rfb_hello.specs.ClientHandshake.{ClientPoint, AwaitsVersion as AwaitsClientVersion}
 use Rattle.rfb_hello.specs.ClientHandshake.{AwaitsChoice, AwaitsInit as AwaitsClientInit}
@@ -19,6 +19,19 @@ use Rattle.rfb_server.specs.ClientBytes.{ClientAt, FromClient}
 use Rattle.rfb_server.specs.Server.{Serving, ServerState, serves}
 use Rattle.rfb_viewer.specs.ServerBytes.{ServerAt, FromServer}
 use Rattle.rfb_viewer.specs.Viewer.{Viewing, ViewerState, shows}
+
+-- ---- in turn
+
+-- of two streams one after the other, an item of the first is answered so where the first goes on, and
+-- nothing else is answered
+abbrev pub answers_of_first : {P Q I J A : Type 0} → (P → I → List A) → Stage P Q → Stage I J → List A
+answers_of_first answers (First point) (First item) = answers point item
+answers_of_first answers point item = []
+
+-- the answers to items one after another, each to the state that those before it made
+abbrev pub replies_by : {S I A : Type 0} → (S → I → List A) → (S → I → S) → S → List I → List A
+replies_by answers makes s [] = []
+replies_by answers makes s (item ∷ items) = answers s item ++ replies_by answers makes (makes s item) items
 
 -- ---- the viewer's
 
@@ -46,16 +59,11 @@ answers_to_step viewing point step = []
 
 -- to an item where the server's bytes stand at a point
 abbrev pub viewer_answers : Viewing → ServerAt → FromServer → List FromClient
-viewer_answers viewing (First point) (First step) = answers_to_step viewing point step
-viewer_answers viewing (First point) (Second item) = []
-viewer_answers viewing (Second p) (First step) = []
-viewer_answers viewing (Second p) (Second item) = []
+viewer_answers viewing at item = answers_of_first (λ point step. answers_to_step viewing point step) at item
 
 -- to items one after another
 abbrev pub viewer_replies : Viewing → ViewerState → List FromServer → List FromClient
-viewer_replies viewing s [] = []
-viewer_replies viewing s (item ∷ items) =
-    viewer_answers viewing s.point item ++ viewer_replies viewing (shows viewing s item) items
+viewer_replies viewing s items = replies_by (λ t item. viewer_answers viewing t.point item) (shows viewing) s items
 
 -- ---- the server's
 
@@ -71,13 +79,8 @@ answers_to_client serving point step = []
 
 -- to an item where the client's bytes stand at a point
 abbrev pub server_answers : Serving → ClientAt → FromClient → List FromServer
-server_answers serving (First point) (First step) = answers_to_client serving point step
-server_answers serving (First point) (Second message) = []
-server_answers serving (Second between) (First step) = []
-server_answers serving (Second between) (Second message) = []
+server_answers serving at item = answers_of_first (λ point step. answers_to_client serving point step) at item
 
 -- to items one after another
 abbrev pub server_replies : Serving → ServerState → List FromClient → List FromServer
-server_replies serving s [] = []
-server_replies serving s (item ∷ items) =
-    server_answers serving s.point item ++ server_replies serving (serves serving s item) items
+server_replies serving s items = replies_by (λ t item. server_answers serving t.point item) (serves serving) s items

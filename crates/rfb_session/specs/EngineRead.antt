@@ -11,8 +11,8 @@ use Rattle.rfb_session.specs.declared.engine.fault.EngineFault.TheVariants.{Serv
 use Rattle.rfb_session.specs.declared.engine.fault.EngineFault.TheVariants.{Device, NoMemory}
 use Rattle.rfb_session.specs.Devices.{AppendsBeginning}
 use Rattle.rfb_session.specs.EngineRun.{Did}
-use Rattle.rfb_session.specs.ViewerActs.{ViewerAct, Asks, viewer_sends, ends_told, WasFed, EndsBy}
-use Rattle.rfb_session.specs.ViewEngine.{is_incremental, RunsInTurn, KeepsFirst, KeepsUntil}
+use Rattle.rfb_session.specs.ViewerActs.{ViewerAct, Asks, viewer_sends, ends_told, WasFed}
+use Rattle.rfb_session.specs.ViewEngine.{is_incremental, RunsInTurn, KeepsFirst, ViewsUntil}
 use Rattle.rfb_session.specs.Wire.{Writing}
 
 -- a request for the whole screen, made or passed over between two items, and what is sent for it
@@ -101,19 +101,10 @@ module _ {D : Type 0} where
     pub first : KeepsFirst writing old fed before after blank copied
 
   -- some were fed, all answers were written, and the viewer ended at the others
-  pub record IsLookEnded (writing : Writing D) (old : Viewer) (bytes : List ℕ) (before after : D)
-      (blank copied : Option (List ℕ)) (failing failed : ℕ) (fault : ViewerFault)
-      (new : Viewer) : Type 0 where
-    pub fed : List ℕ
-    pub slice : List ℕ
-    pub sent : List ℕ
-    pub updates : ℕ
-    pub last : Viewer
-    pub bytes_are : bytes ≡ fed ++ slice
-    pub runs : RunsInTurn old fed sent updates None last
-    pub wrote : writing.all before after sent
-    pub kept : KeepsUntil blank copied fed slice failing failed
-    pub ends : EndsBy fault last slice new
+  abbrev pub IsLookEnded : Writing D → Viewer → List ℕ → D → D → Option (List ℕ) →
+      Option (List ℕ) → ℕ → ℕ → ViewerFault → Viewer → Type 0
+  IsLookEnded writing old bytes before after blank copied failing failed fault new =
+      ViewsUntil (λ all. bytes ≡ all) writing old before after blank copied failing failed fault new
 
   abbrev pub StopsLooking : Writing D → Viewer → List ℕ → D → D → Option (List ℕ) →
       Option (List ℕ) → ℕ → ℕ → EngineFault → Viewer → Type 0

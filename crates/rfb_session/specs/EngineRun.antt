@@ -34,6 +34,17 @@ module _ {E A : Type 0} where
   AreFed (Did act ∷ before) = ⊥
 
 module _ {V C S P I F E A : Type 0} where
+  -- an end of all of these
+  abbrev pub driven : (C → Machine S P I F E) → (C → V → S → List ℕ → Type 0) →
+      (S → A → S → Type 0) → (Step E A → List ℕ) → (Step E A → ℕ) → Driven V C S P I F E A
+  driven machine stands does sends updates = record {
+    machine = machine;
+    stands = stands;
+    does = does;
+    sends = sends;
+    updates = updates;
+  }
+
   -- one step, from a state and the bytes that came of the next item to others
   abbrev pub StepsTo : Driven V C S P I F E A → C → S → List ℕ → Step E A → S → List ℕ → Type 0
   StepsTo d made s prefix (Fed bytes event) t rest =
@@ -82,6 +93,17 @@ module _ {V C S P I F E A : Type 0} where
       (r : Ran d made s prefix new fed sent updates) × AreFed r.steps
 
 module _ {V : Type 0} where
+  -- an end was fed the first of some bytes, of which that is known, and went on so to `last`; and it ended at
+  -- the bytes after them
+  pub record EndsAmong (known : List ℕ → Type 0) (goes : List ℕ → V → Type 0)
+      (ends_at : V → List ℕ → Type 0) : Type 0 where
+    pub fed : List ℕ
+    pub slice : List ℕ
+    pub last : V
+    pub bytes_are : known (fed ++ slice)
+    pub runs : goes fed last
+    pub ends : ends_at last slice
+
   -- an end that had failed before took no byte, sent none and told of nothing
   pub record TakesNone (old : V) (fed sent : List ℕ) (told : ℕ) (new : V) : Type 0 where
     pub unfed : fed ≡ []

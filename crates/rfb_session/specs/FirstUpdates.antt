@@ -16,33 +16,29 @@ pub record WasCounted (old : Viewer) (bytes : List ℕ) (before told : ℕ) (new
   pub fed : WasFed old bytes event new
   pub told_is : told ≡ min (before + ends_told event) (2 ^ 64 - 1)
 
--- of some bytes the first were fed; the last of these end an update, with which there are enough
-pub record IsWatchedFirst (old : Viewer) (bytes : List ℕ) (before enough : ℕ) (new : Viewer)
-    : Type 0 where
+-- of some bytes, of which that is known, the first were fed. The last of these end an update, and it is known
+-- how many had ended before
+pub record EndsAnUpdate (known : List ℕ → Type 0) (counts : ℕ → Type 0) (old new : Viewer) : Type 0 where
   pub fed : List ℕ
   pub ending : List ℕ
   pub later : List ℕ
   pub sent : List ℕ
   pub updates : ℕ
   pub mid : Viewer
-  pub bytes_are : bytes ≡ (fed ++ ending) ++ later
+  pub read : known ((fed ++ ending) ++ later)
   pub runs : ViewerRuns old fed sent updates mid
   pub ends : WasFed mid ending (Some UpdateDone) new
-  pub enough_is : enough ≡ before + updates + 1
+  pub enough_is : counts updates
+
+-- so it is of these bytes, and with that update and those before there are enough
+abbrev pub IsWatchedFirst : Viewer → List ℕ → ℕ → ℕ → Viewer → Type 0
+IsWatchedFirst old bytes before enough new =
+    EndsAnUpdate (λ all. bytes ≡ all) (λ updates. enough ≡ before + updates + 1) old new
 
 -- the same of what was read
-pub record PlayedFirst (unread left : Option (List ℕ)) (old : Viewer) (enough : ℕ) (new : Viewer)
-    : Type 0 where
-  pub fed : List ℕ
-  pub ending : List ℕ
-  pub later : List ℕ
-  pub sent : List ℕ
-  pub updates : ℕ
-  pub mid : Viewer
-  pub read : Consumes unread left ((fed ++ ending) ++ later)
-  pub runs : ViewerRuns old fed sent updates mid
-  pub ends : WasFed mid ending (Some UpdateDone) new
-  pub enough_is : enough ≡ updates + 1
+abbrev pub PlayedFirst : Option (List ℕ) → Option (List ℕ) → Viewer → ℕ → Viewer → Type 0
+PlayedFirst unread left old enough new =
+    EndsAnUpdate (λ all. Consumes unread left all) (λ updates. enough ≡ updates + 1) old new
 
 -- why it stops: fewer updates ended, and then the bytes where they must not; a read failed, which
 -- was counted; or the viewer ended

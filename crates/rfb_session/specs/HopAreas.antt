@@ -18,7 +18,7 @@ use Rattle.rfb_viewer.specs.declared.viewer.Viewer.{Viewer}
 use Rattle.rfb_session.specs.declared.relay.Relay.{Relay}
 use Rattle.rfb_session.specs.declared.share.Share.{Share}
 use Rattle.rfb_session.specs.HopEnds.{GoesFed, OpensAs, RenewsAs, Becomes}
-use Rattle.rfb_session.specs.Hops.{Moment, Once, IsBetween, IsFresh, IsAnswered}
+use Rattle.rfb_session.specs.Hops.{Moment, IsFresh, IsAnswered, ShowsBy, PassesOnBy}
 use Rattle.rfb_session.specs.Link.{Ends, Composing, LinkState}
 use Rattle.rfb_session.specs.Network.{Network, Steps, Strokes}
 
@@ -127,12 +127,7 @@ ShowsAllTwice first second (Some picture) =
 -- the same as `ShowsThrough` and `IsPassedOn` say, of all of the server's screen
 abbrev pub ShowsAllThrough : Composing → Option (Grid Colour) → Moment → Moment → List Moment →
     Type 0
-ShowsAllThrough second due now m earlier =
-    (first : Composing) × (m.above.link.latest ≡ Some first) × ShowsAllTwice first second due
-    × IsFresh now first
+ShowsAllThrough second due now m earlier = ShowsBy ShowsAllTwice second due now m earlier
 
-pub record IsAllPassedOn (second : Composing) (due : Option (Grid Colour)) (m : Moment)
-    (earlier : List Moment) : Type 0 where
-  pub screen : second.screen ≡ m.screen
-  pub shows : IsBetween m →
-      Once (m ∷ earlier) (λ at before. ShowsAllThrough second due m at before)
+abbrev pub IsAllPassedOn : Composing → Option (Grid Colour) → Moment → List Moment → Type 0
+IsAllPassedOn second due m earlier = PassesOnBy ShowsAllTwice second due m earlier

@@ -115,16 +115,25 @@ ShowsTwice first second (Some picture) =
     at_or picture x y d
     ≡ seen_through second.form (seen_through first.form (at_or first.screen x y black))
 
--- the server had composed an update, and with one that the relay composes now the picture shows
--- both
-abbrev pub ShowsThrough : Composing → Option (Grid Colour) → Moment → Moment → List Moment → Type 0
-ShowsThrough second due now m earlier =
-    (first : Composing) × (m.above.link.latest ≡ Some first) × ShowsTwice first second due
+-- the server had composed an update, its latest then. Of it, of one that the relay composes now and
+-- of the picture that is due this is so
+abbrev pub ShowsBy : (Composing → Composing → Option (Grid Colour) → Type 0) → Composing →
+    Option (Grid Colour) → Moment → Moment → List Moment → Type 0
+ShowsBy twice second due now m earlier =
+    (first : Composing) × (m.above.link.latest ≡ Some first) × twice first second due
     × IsFresh now first
 
 -- an update was composed of the relay's screen at that moment; and where the relay's viewer stood
 -- between two messages then, the server had composed one before of which that screen was
-pub record IsPassedOn (second : Composing) (due : Option (Grid Colour)) (m : Moment)
-    (earlier : List Moment) : Type 0 where
+pub record PassesOnBy (twice : Composing → Composing → Option (Grid Colour) → Type 0)
+    (second : Composing) (due : Option (Grid Colour)) (m : Moment) (earlier : List Moment)
+    : Type 0 where
   pub screen : second.screen ≡ m.screen
-  pub shows : IsBetween m → Once (m ∷ earlier) (λ at before. ShowsThrough second due m at before)
+  pub shows : IsBetween m → Once (m ∷ earlier) (λ at before. ShowsBy twice second due m at before)
+
+-- the picture shows both, over the area that both answered
+abbrev pub ShowsThrough : Composing → Option (Grid Colour) → Moment → Moment → List Moment → Type 0
+ShowsThrough second due now m earlier = ShowsBy ShowsTwice second due now m earlier
+
+abbrev pub IsPassedOn : Composing → Option (Grid Colour) → Moment → List Moment → Type 0
+IsPassedOn second due m earlier = PassesOnBy ShowsTwice second due m earlier

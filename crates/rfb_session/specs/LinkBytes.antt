@@ -37,7 +37,7 @@ use Rattle.rfb_session.specs.declared.link.Link.{Link}
 use Rattle.rfb_session.specs.declared.told.Told.{Told}
 use Rattle.rfb_session.specs.Told.{refused_as}
 use Rattle.rfb_session.specs.Latest.{composing_in}
-use Rattle.rfb_session.specs.EngineRun.{Step, Fed, Did, Driven, FeedsOn, TakesNone}
+use Rattle.rfb_session.specs.EngineRun.{Step, Fed, Did, Driven, driven, FeedsOn, TakesNone}
 use Rattle.rfb_session.specs.ViewerActs.{ViewerFeeds, EndsBy}
 use Rattle.rfb_session.specs.ServeEngine.{ServerAct, Serves, server_sends}
 
@@ -92,7 +92,7 @@ MovesNone link (ToServer count) = min (length link.to_server) count ≡ 0
 MovesNone link (ToViewer count) = min (length link.to_viewer) count ≡ 0
 MovesNone link event = ⊥
 
--- ---- bytes that reach the session
+-- ---- what an end hears
 
 -- how often a client of which this is reported asks for the screen alone: once, by a ClientInit
 -- with shared-flag 0, RFC 6143 section 7.3.1
@@ -117,13 +117,9 @@ pub record IsSole (sole : Bool) (soles : ℕ) : Type 0 where
 -- a session over a screen, as it is run
 abbrev pub session_driven : Grid Colour →
     Driven Session Serving ServerState ClientAt FromClient ServerFault ServerTold ServerAct
-session_driven screen = record {
-  machine = server;
-  stands = λ serving session s prefix. SessionStandsFor serving screen session s prefix;
-  does = Serves;
-  sends = server_sends;
-  updates = soles_in;
-}
+session_driven screen =
+    driven server (λ serving session s prefix. SessionStandsFor serving screen session s prefix) Serves
+    server_sends soles_in
 
 -- it was fed these bytes, over whatever screen, and nothing else was done with it; those are its
 -- answers, and so often its client asked for the screen alone
@@ -139,30 +135,6 @@ pub record SessionEndsBy (old : Session) (slice : List ℕ) (new : Session) : Ty
   pub ends : EndsAs old slice fault new
   pub failed : session_fault old ≢ None → new ≡ old
 
--- the first bytes in flight left the channel. The session was fed them, all or those before the
--- ones that it ended at, and its answers joined the bytes to the viewer; nothing else has changed.
--- One that had failed before took none of them, and its client asked for nothing
-pub record ReachesSession (old : Link) (count : ℕ) (new : Link) : Type 0 where
-  pub fed : List ℕ
-  pub later : List ℕ
-  pub sent : List ℕ
-  pub soles : ℕ
-  pub last : Session
-  pub bytes_are : take count old.to_server ≡ fed ++ later
-  pub hears : HearsOver old.session fed sent soles last
-  pub failed : session_fault old.session ≢ None → TakesNone old.session fed sent soles last
-  pub ends : ((later ≡ []) × (new.session ≡ last)) ⊎ SessionEndsBy last later new.session
-  pub gone : new.to_server ≡ drop count old.to_server
-  pub answered : new.to_viewer ≡ old.to_viewer ++ sent
-  pub viewer : new.viewer ≡ old.viewer
-  pub latest : new.latest ≡ old.latest
-
--- of bytes that reached it, whether its client asked for the screen alone among them
-abbrev pub TellsSole : Link → ℕ → Bool → Link → Type 0
-TellsSole old count sole new = (r : ReachesSession old count new) × IsSole sole r.soles
-
--- ---- bytes that reach the viewer
-
 -- the same of a viewer
 pub record ViewerEndsBy (old : Viewer) (slice : List ℕ) (new : Viewer) : Type 0 where
   pub fault : ViewerFault
@@ -170,20 +142,68 @@ pub record ViewerEndsBy (old : Viewer) (slice : List ℕ) (new : Viewer) : Type 
   pub ends : EndsBy fault old slice new
   pub failed : fault_of old ≢ None → new ≡ old
 
-pub record ReachesViewer (old : Link) (count : ℕ) (new : Link) : Type 0 where
-  pub fed : List ℕ
-  pub later : List ℕ
-  pub sent : List ℕ
-  pub updates : ℕ
-  pub last : Viewer
-  pub bytes_are : take count old.to_viewer ≡ fed ++ later
-  pub watches : ViewerFeeds old.viewer fed sent updates last
-  pub failed : fault_of old.viewer ≢ None → TakesNone old.viewer fed sent updates last
-  pub ends : ((later ≡ []) × (new.viewer ≡ last)) ⊎ ViewerEndsBy last later new.viewer
-  pub gone : new.to_viewer ≡ drop count old.to_viewer
-  pub answered : new.to_server ≡ old.to_server ++ sent
+-- ---- bytes that reach an end
+
+module _ {V : Type 0} where
+  -- an end was fed all that there was, and is what it became by that
+  abbrev pub IsFedAll : V → List ℕ → V → Type 0
+  IsFedAll last later new = (later ≡ []) × (new ≡ last)
+
+  -- or it ended at the bytes that it was not fed
+  abbrev pub IsFedOrEnds : (V → List ℕ → V → Type 0) → V → List ℕ → V → Type 0
+  IsFedOrEnds ends_at last later new = IsFedAll last later new ⊎ ends_at last later new
+
+  -- the first bytes in flight to an end left the channel. The end was fed them, or the first of them, and
+  -- became `last`; what came of the later ones is said by `ends_at`. Its answers joined the bytes the other
+  -- way, and it told so often of something. One that had failed before took none of them, and told nothing.
+  -- Nothing else has changed
+  pub record ReachesBy (end : Link → V) (comes goes : Link → List ℕ)
+      (feeds : V → List ℕ → List ℕ → ℕ → V → Type 0) (has_failed : V → Type 0)
+      (keeps : Link → Link → Type 0) (ends_at : V → List ℕ → V → Type 0) (old : Link) (count : ℕ)
+      (new : Link) : Type 0 where
+    pub fed : List ℕ
+    pub later : List ℕ
+    pub sent : List ℕ
+    pub told : ℕ
+    pub last : V
+    pub bytes_are : take count (comes old) ≡ fed ++ later
+    pub hears : feeds (end old) fed sent told last
+    pub failed : has_failed (end old) → TakesNone (end old) fed sent told last
+    pub ends : ends_at last later (end new)
+    pub gone : comes new ≡ drop count (comes old)
+    pub answered : goes new ≡ goes old ++ sent
+    pub beside : keeps old new
+
+-- but for the session and the bytes in flight all is as it was
+pub record IsBesideSession (old new : Link) : Type 0 where
+  pub viewer : new.viewer ≡ old.viewer
+  pub latest : new.latest ≡ old.latest
+
+pub record IsBesideViewer (old new : Link) : Type 0 where
   pub session : new.session ≡ old.session
   pub latest : new.latest ≡ old.latest
+
+-- bytes in flight reach the session, and at those that it was not fed this happened; or the viewer
+abbrev pub ReachesSessionBy : (Session → List ℕ → Session → Type 0) → Link → ℕ → Link → Type 0
+ReachesSessionBy ends_at old count new =
+    ReachesBy (λ link. link.session) (λ link. link.to_server) (λ link. link.to_viewer) HearsOver
+    (λ session. session_fault session ≢ None) IsBesideSession ends_at old count new
+
+abbrev pub ReachesViewerBy : (Viewer → List ℕ → Viewer → Type 0) → Link → ℕ → Link → Type 0
+ReachesViewerBy ends_at old count new =
+    ReachesBy (λ link. link.viewer) (λ link. link.to_viewer) (λ link. link.to_server) ViewerFeeds
+    (λ viewer. fault_of viewer ≢ None) IsBesideViewer ends_at old count new
+
+-- they reach the session, all or those before the ones that it ended at; or the viewer
+abbrev pub ReachesSession : Link → ℕ → Link → Type 0
+ReachesSession old count new = ReachesSessionBy (IsFedOrEnds SessionEndsBy) old count new
+
+abbrev pub ReachesViewer : Link → ℕ → Link → Type 0
+ReachesViewer old count new = ReachesViewerBy (IsFedOrEnds ViewerEndsBy) old count new
+
+-- of bytes that reached the session, whether its client asked for the screen alone among them
+abbrev pub TellsSole : Link → ℕ → Bool → Link → Type 0
+TellsSole old count sole new = (r : ReachesSession old count new) × IsSole sole r.told
 
 -- ---- composing
 

@@ -100,6 +100,11 @@ pub record ChangesSession (old new : Link) : Type 0 where
   pub to_viewer : new.to_viewer ≡ old.to_viewer
   pub latest : new.latest ≡ old.latest
 
+-- whatever screen the session followed, it still does
+abbrev pub FollowsStill : Link → Link → Type 0
+FollowsStill old new = (screen : Grid Colour) →
+    Follows screen old.session → Follows screen new.session
+
 -- all but the bytes in flight to the session is as it was
 pub record IsBesideToServer (old new : Link) : Type 0 where
   pub session : new.session ≡ old.session
@@ -107,22 +112,14 @@ pub record IsBesideToServer (old new : Link) : Type 0 where
   pub to_viewer : new.to_viewer ≡ old.to_viewer
   pub latest : new.latest ≡ old.latest
 
--- whatever screen the session followed, it still does
-abbrev pub FollowsStill : Link → Link → Type 0
-FollowsStill old new = (screen : Grid Colour) →
-    Follows screen old.session → Follows screen new.session
-
 -- `count` bytes leave the channel to an end that has failed, and nothing else changes
+pub record LosesToServer (old : Link) (count : ℕ) (new : Link) : Type 0 where
+  pub to_server : new.to_server ≡ drop count old.to_server
+  pub beside : IsBesideToServer old new
+
 pub record LosesToViewer (old : Link) (count : ℕ) (new : Link) : Type 0 where
   pub to_viewer : new.to_viewer ≡ drop count old.to_viewer
   pub to_server : new.to_server ≡ old.to_server
-  pub viewer : new.viewer ≡ old.viewer
-  pub session : new.session ≡ old.session
-  pub latest : new.latest ≡ old.latest
-
-pub record LosesToServer (old : Link) (count : ℕ) (new : Link) : Type 0 where
-  pub to_server : new.to_server ≡ drop count old.to_server
-  pub to_viewer : new.to_viewer ≡ old.to_viewer
   pub viewer : new.viewer ≡ old.viewer
   pub session : new.session ≡ old.session
   pub latest : new.latest ≡ old.latest

@@ -12,12 +12,11 @@ use Rattle.rfb_wire.specs.ClientMessage.{ClientMessage, SetPixelFormat}
 use Rattle.rfb_wire.specs.ClientMessage.{SetEncodings as EncodingsMessage, FramebufferUpdateRequest}
 use Rattle.rfb_wire.specs.ClientMessage.{KeyEvent, PointerEvent, ClientCutText}
 use Rattle.rfb_wire.specs.ServerMessage.{FramebufferUpdate}
-use Rattle.rfb_wire.specs.stream.Grammar.{sizes, IsWithinFirst}
+use Rattle.rfb_wire.specs.stream.Grammar.{Grammar, sizes, IsWithinFirst}
 use Rattle.rfb_wire.specs.stream.Sequel.{First, Second}
 use Rattle.rfb_wire.specs.stream.End.{acts}
 use Rattle.rfb_codec.specs.UpdateStream.{Message}
 use Rattle.rfb_codec.specs.WholeUpdate.{update_of}
-use Rattle.rfb_server.specs.ClientBytes.{FromClient}
 use Rattle.rfb_server.specs.Server.{server}
 use Rattle.rfb_server.specs.Composition.{Part, sent_as, Composes, IsDue}
 use Rattle.rfb_viewer.specs.declared.fault.CallFault.{CallFault}
@@ -96,37 +95,40 @@ flight_to_viewer e l = sizes (viewer_stream e) l.to_viewer - l.at_viewer
 abbrev pub flight_to_server : Ends → LinkState → ℕ
 flight_to_server e l = sizes (server_stream e) l.to_server - l.at_server
 
+module _ {P I F : Type 0} where
+  -- `n` bytes of a queue reach their end, of whose first item `moved` bytes had before. The items that
+  -- are whole with them are done, and of the first that is left `at` bytes have reached it. The link
+  -- becomes what is made of these
+  pub record MovesBy (stream : Grammar P I F) (waiting : List I) (moved n : ℕ)
+      (becomes : List I → List I → ℕ → LinkState) (new : LinkState) : Type 0 where
+    pub done : List I
+    pub left : List I
+    pub at : ℕ
+    pub queue : waiting ≡ done ++ left
+    pub count : moved + n ≡ sizes stream done + at
+    pub within : IsWithinFirst stream at left
+    pub result : new ≡ becomes done left at
+
 -- `n` bytes reach the viewer: the items that are whole act, one after another, and their answers
 -- join those in flight to the server; the rest is a part of the next item
-pub record MovesToViewer (e : Ends) (old : LinkState) (n : ℕ) (new : LinkState) : Type 0 where
-  pub done : List FromServer
-  pub left : List FromServer
-  pub at : ℕ
-  pub queue : old.to_viewer ≡ done ++ left
-  pub count : old.at_viewer + n ≡ sizes (viewer_stream e) done + at
-  pub within : IsWithinFirst (viewer_stream e) at left
-  pub result : new ≡ record old {
-    viewer = acts (viewer e.viewing) old.viewer done;
-    to_viewer = left;
-    at_viewer = at;
-    to_server = old.to_server ++ viewer_replies e.viewing old.viewer done;
-  }
+abbrev pub MovesToViewer : Ends → LinkState → ℕ → LinkState → Type 0
+MovesToViewer e old n new =
+    MovesBy (viewer_stream e) old.to_viewer old.at_viewer n (λ done left at. record old {
+      viewer = acts (viewer e.viewing) old.viewer done;
+      to_viewer = left;
+      at_viewer = at;
+      to_server = old.to_server ++ viewer_replies e.viewing old.viewer done;
+    }) new
 
 -- `n` bytes reach the server
-pub record MovesToServer (e : Ends) (screen : Grid Colour) (old : LinkState) (n : ℕ)
-    (new : LinkState) : Type 0 where
-  pub done : List FromClient
-  pub left : List FromClient
-  pub at : ℕ
-  pub queue : old.to_server ≡ done ++ left
-  pub count : old.at_server + n ≡ sizes (server_stream e) done + at
-  pub within : IsWithinFirst (server_stream e) at left
-  pub result : new ≡ record old {
-    session = session_of (acts (server e.serving) (server_of screen old.session) done);
-    to_server = left;
-    at_server = at;
-    to_viewer = old.to_viewer ++ server_replies e.serving (server_of screen old.session) done;
-  }
+abbrev pub MovesToServer : Ends → Grid Colour → LinkState → ℕ → LinkState → Type 0
+MovesToServer e screen old n new =
+    MovesBy (server_stream e) old.to_server old.at_server n (λ done left at. record old {
+      session = session_of (acts (server e.serving) (server_of screen old.session) done);
+      to_server = left;
+      at_server = at;
+      to_viewer = old.to_viewer ++ server_replies e.serving (server_of screen old.session) done;
+    }) new
 
 -- ---- one step
 

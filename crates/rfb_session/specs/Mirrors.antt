@@ -6,7 +6,7 @@ use Rattle.rfb_pixel.specs.declared.colour.Colour.{Colour}
 use Rattle.rfb_picture.specs.Grid.{Grid, uniform}
 use Rattle.rfb_server.specs.Server.{black}
 use Rattle.rfb_wire.specs.ClientMessage.{SpellsClientMessage}
-use Rattle.rfb_wire.specs.stream.End.{FedBy, RefusedBy, RunsOutBy}
+use Rattle.rfb_wire.specs.stream.End.{FedBy}
 use Rattle.rfb_wire.specs.stream.FaultPlace.{counted_on}
 use Rattle.rfb_hello.specs.declared.fed.Fed.{Fed}
 use Rattle.rfb_viewer.specs.declared.call.Call.{Call}
@@ -15,17 +15,16 @@ use Rattle.rfb_viewer.specs.declared.fault.AppendFault.TheVariants.{Refused}
 use Rattle.rfb_viewer.specs.declared.fault.CallFault.TheVariants.{NotReady}
 use Rattle.rfb_viewer.specs.declared.event.ViewerEvent.{ViewerEvent}
 use Rattle.rfb_viewer.specs.declared.fault.ViewerFault.{ViewerFault}
-use Rattle.rfb_viewer.specs.declared.fault.ViewerFault.TheVariants.{NoMemory}
 use Rattle.rfb_viewer.specs.declared.viewer.Viewer.{Viewer}
 use Rattle.rfb_viewer.specs.Call.{append_refusal_of, called, is_noted, message_bytes, message_of, refusal_for}
 use Rattle.rfb_viewer.specs.Call.{refused_by}
 use Rattle.rfb_viewer.specs.Counted.{CountsTo}
 use Rattle.rfb_viewer.specs.Damage.{damage_of, ended_of, damaging, IsDamaged, KeepsDamage}
-use Rattle.rfb_viewer.specs.Failed.{KeepsPicture, KeepsReason}
 use Rattle.rfb_viewer.specs.Moved.{moved_of, moving, HasMoved, KeepsMoved}
 use Rattle.rfb_viewer.specs.Model.{StandsFor, KeepsRest, fault_of, picture_of, making_of, taken_of}
 use Rattle.rfb_viewer.specs.Told.{seen}
-use Rattle.rfb_viewer.specs.Viewer.{Viewing, ViewerState, AsksMemory, viewer as viewer_end}
+use Rattle.rfb_viewer.specs.Viewer.{Viewing, ViewerState, viewer as viewer_end}
+use Rattle.rfb_session.specs.ViewerActs.{EndsBy}
 
 -- without a picture nothing is shown
 abbrev pub shown_of : Option (Grid Colour) → Grid Colour
@@ -66,16 +65,10 @@ pub record TakesBytes (old : Viewer) (bytes : List ℕ) (fed : Fed ViewerEvent) 
 
 -- they came to a fault, which stays; of one that had failed nothing has changed
 pub record FailsAt (old : Viewer) (bytes : List ℕ) (fault : ViewerFault) (new : Viewer) : Type 0 where
-  pub fails : fault_of new ≡ Some fault
+  pub ends : EndsBy fault old bytes new
   pub again : (before : ViewerFault) → fault_of old ≡ Some before → (fault ≡ before) × (new ≡ old)
-  pub refused : fault ≢ NoMemory → (viewing : Viewing) →
-      RefusedBy (viewer_end viewing) (StandsFor viewing) old bytes fault
-  pub wants : fault ≡ NoMemory → (viewing : Viewing) →
-      RunsOutBy (viewer_end viewing) (AsksMemory viewing) (StandsFor viewing) old bytes
-  pub picture : fault_of old ≡ None → KeepsPicture fault old bytes new
   pub damage : fault_of old ≡ None → KeepsDamage fault old bytes new
   pub moved : fault_of old ≡ None → KeepsMoved fault old bytes new
-  pub reason : fault_of old ≡ None → KeepsReason fault old bytes new
   pub counted : fault_of old ≡ None → CountsTo fault old bytes new
   pub made : making_of new ≡ making_of old
 

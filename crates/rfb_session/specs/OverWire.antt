@@ -21,6 +21,14 @@ abbrev pub StaysUnfedOver : {A V F : Type 0} → (F → EngineFault) → Result 
 StaysUnfedOver told ended failed before after old result new =
     StaysUnfed told ended failed before.unread after.unread old result new
 
+-- what is said of what was read and of failed reads, and of what was written and of failed writes,
+-- each before and after, is said of a wire
+abbrev pub over_wire : {Said : Type 1} → (Option (List ℕ) → Option (List ℕ) → ℕ → ℕ →
+    Option (List ℕ) → Option (List ℕ) → ℕ → ℕ → Said) → Known → Known → Said
+over_wire said before after =
+    said before.unread after.unread before.failed_reads after.failed_reads
+    before.written after.written before.failed_writes after.failed_writes
+
 -- ---- a server
 
 -- a server was fed all that came, and all that it sent was written after the front
@@ -31,8 +39,7 @@ AllServedOver before after front old told new =
 -- why serving stops, after that front
 abbrev pub StopsServingOver : Known → Known → List ℕ → Server → EngineFault → Server → Type 0
 StopsServingOver before after front old fault new =
-    StopsServing before.unread after.unread before.failed_reads after.failed_reads
-    before.written after.written before.failed_writes after.failed_writes front old fault new
+    over_wire StopsServing before after front old fault new
 
 module _ {X : Type 0} where
   -- turns over all that was read
@@ -51,17 +58,13 @@ module _ {X : Type 0} where
   abbrev pub StopsInTurnOver : Showing X → Known → Known → Server → X → EngineFault → Server → X →
       Type 0
   StopsInTurnOver shows before after old scene fault new last =
-      StopsInTurn shows before.unread after.unread before.failed_reads after.failed_reads
-      before.written after.written before.failed_writes after.failed_writes
-      old scene fault new last
+      over_wire (StopsInTurn shows) before after old scene fault new last
 
   -- it stops at the greeting, in a turn, or after turns that end too early
   abbrev pub StopsByTurnsOver : Showing X → Known → Known → Server → X → EngineFault → Server → X →
       Type 0
   StopsByTurnsOver shows before after old scene fault new last =
-      StopsByTurns shows before.unread after.unread before.failed_reads after.failed_reads
-      before.written after.written before.failed_writes after.failed_writes
-      old scene fault new last
+      over_wire (StopsByTurns shows) before after old scene fault new last
 
 -- ---- a viewer
 

@@ -1,12 +1,13 @@
 -- Recorded bytes of a server that are played to a viewer.
-use Rattle.std.specs.Prelude.{◌≡◌, ℕ, ◌<◌, ◌+◌, ◌-◌, ◌^◌, min, false, List, ◌++◌, length, Option, Some}
+use Rattle.std.specs.Prelude.{◌≡◌, ℕ, ◌<◌, ◌+◌, ◌-◌, ◌^◌, min, false, List, length}
+use Rattle.std.specs.Prelude.{Option, Some}
 use Rattle.std.specs.Io.KnownBytes.{Consumes, IsAtEnd}
 use Rattle.rfb_viewer.specs.declared.fault.ViewerFault.{ViewerFault}
 use Rattle.rfb_viewer.specs.declared.viewer.Viewer.{Viewer}
 use Rattle.rfb_session.specs.declared.engine.fault.EngineFault.{EngineFault}
 use Rattle.rfb_session.specs.declared.engine.fault.EngineFault.TheVariants.{Server, Viewer as ViewerEnded, Truncated}
 use Rattle.rfb_session.specs.declared.engine.fault.EngineFault.TheVariants.{Device, NoMemory}
-use Rattle.rfb_session.specs.ViewerActs.{ViewerRuns, EndsBy, StandsBetween}
+use Rattle.rfb_session.specs.ViewerActs.{ViewerRuns, EndsAfter, StandsBetween}
 
 -- a count stays at the greatest 64-bit number
 abbrev pub most : ℕ → ℕ
@@ -29,16 +30,8 @@ pub record AllPlayed (unread left : Option (List ℕ)) (old : Viewer) (told : �
   pub ended : (bytes : List ℕ) → unread ≡ Some bytes → length bytes < 2 ^ 64 - 1 → IsAtEnd left
 
 -- the viewer was fed the first bytes of what was read, and ended at the next ones
-pub record PlayedUntil (unread left : Option (List ℕ)) (old : Viewer) (fault : ViewerFault)
-    (new : Viewer) : Type 0 where
-  pub fed : List ℕ
-  pub slice : List ℕ
-  pub sent : List ℕ
-  pub updates : ℕ
-  pub last : Viewer
-  pub read : Consumes unread left (fed ++ slice)
-  pub runs : ViewerRuns old fed sent updates last
-  pub ends : EndsBy fault last slice new
+abbrev pub PlayedUntil : Option (List ℕ) → Option (List ℕ) → Viewer → ViewerFault → Viewer → Type 0
+PlayedUntil unread left old fault new = EndsAfter (λ all. Consumes unread left all) old fault new
 
 -- why it stops: the bytes ended where they must not; a read failed, which was counted; or the
 -- viewer ended

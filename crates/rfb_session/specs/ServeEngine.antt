@@ -22,7 +22,7 @@ use Rattle.rfb_session.specs.declared.engine.fault.EngineFault.TheVariants.{Devi
 use Rattle.rfb_session.specs.Devices.{AppendsBeginning}
 use Rattle.rfb_session.specs.InFlight.{server_reply}
 use Rattle.rfb_session.specs.Playback.{most}
-use Rattle.rfb_session.specs.EngineRun.{Step, Fed, Did, Driven, Ran, RunsOn, FeedsOn}
+use Rattle.rfb_session.specs.EngineRun.{Step, Fed, Did, Driven, driven, Ran, RunsOn, FeedsOn, EndsAmong}
 use Rattle.rfb_session.specs.Wire.{Writing, by_bytes}
 
 -- an update was composed, which has these bytes; or the screen was drawn on, and looks so
@@ -50,13 +50,7 @@ updates_composed (Did (Drawn screen)) = 0
 -- a server as engines run it
 abbrev pub server_driven :
     Driven Server Serving ServerState ClientAt FromClient ServerFault ServerTold ServerAct
-server_driven = record {
-  machine = server;
-  stands = StandsFor;
-  does = Serves;
-  sends = server_sends;
-  updates = updates_composed;
-}
+server_driven = driven server StandsFor Serves server_sends updates_composed
 
 -- it was fed these bytes, these are sent, `updates` updates were composed, and it became that one
 abbrev pub ServerRuns : Server → List ℕ → List ℕ → ℕ → Server → Type 0
@@ -200,17 +194,12 @@ pub record ServedSome (unread left before after : Option (List ℕ)) (front : Li
 
 -- it was fed the first bytes of what was read, all that it sent was written, and it ended at the
 -- next
-pub record ServedUntil (unread left before after : Option (List ℕ)) (front : List ℕ)
-    (old : Server) (fault : ServerFault) (new : Server) : Type 0 where
-  pub fed : List ℕ
-  pub slice : List ℕ
-  pub sent : List ℕ
-  pub updates : ℕ
-  pub last : Server
-  pub read : Consumes unread left (fed ++ slice)
-  pub runs : RunsFromIdle old fed sent updates last
-  pub wrote : Appends before after (front ++ sent)
-  pub ends : ServerEndsBy fault last slice new
+abbrev pub ServedUntil : Option (List ℕ) → Option (List ℕ) → Option (List ℕ) → Option (List ℕ) →
+    List ℕ → Server → ServerFault → Server → Type 0
+ServedUntil unread left before after front old fault new =
+    EndsAmong (λ all. Consumes unread left all) (λ fed last. (sent : List ℕ) × (updates : ℕ)
+    × RunsFromIdle old fed sent updates last × Appends before after (front ++ sent))
+    (λ last slice. ServerEndsBy fault last slice new)
 
 -- a server's greeting, whatever it stands for
 abbrev pub IsGreeting : Server → List ℕ → Type 0

@@ -132,20 +132,27 @@ abbrev pub KeepsUntil : Option (List ℕ) → Option (List ℕ) → List ℕ →
 KeepsUntil blank copied fed slice failing failed =
     (mid : Option (List ℕ)) × Appends blank mid fed × KeepsLast mid copied slice failing failed
 
--- it was fed the first bytes of what was read, all that is sent was written, and it ended at the
--- next
-pub record ViewedUntil (unread left before after blank copied : Option (List ℕ))
-    (failing failed : ℕ) (old : Viewer) (fault : ViewerFault) (new : Viewer) : Type 0 where
-  pub fed : List ℕ
-  pub slice : List ℕ
-  pub sent : List ℕ
-  pub updates : ℕ
-  pub last : Viewer
-  pub read : Consumes unread left (fed ++ slice)
-  pub runs : RunsInTurn old fed sent updates None last
-  pub wrote : Appends before after sent
-  pub kept : KeepsUntil blank copied fed slice failing failed
-  pub ends : EndsBy fault last slice new
+module _ {D : Type 0} where
+  -- it was fed the first of some bytes, of which that is known, all that is sent was written, and it ended at
+  -- the others
+  pub record ViewsUntil (known : List ℕ → Type 0) (writing : Writing D) (old : Viewer) (before after : D)
+      (blank copied : Option (List ℕ)) (failing failed : ℕ) (fault : ViewerFault) (new : Viewer) : Type 0 where
+    pub fed : List ℕ
+    pub slice : List ℕ
+    pub sent : List ℕ
+    pub updates : ℕ
+    pub last : Viewer
+    pub read : known (fed ++ slice)
+    pub runs : RunsInTurn old fed sent updates None last
+    pub wrote : writing.all before after sent
+    pub kept : KeepsUntil blank copied fed slice failing failed
+    pub ends : EndsBy fault last slice new
+
+-- the same of what was read
+abbrev pub ViewedUntil : Option (List ℕ) → Option (List ℕ) → Option (List ℕ) → Option (List ℕ) →
+    Option (List ℕ) → Option (List ℕ) → ℕ → ℕ → Viewer → ViewerFault → Viewer → Type 0
+ViewedUntil unread left before after blank copied failing failed old fault new =
+    ViewsUntil (λ all. Consumes unread left all) by_bytes old before after blank copied failing failed fault new
 
 -- the bytes ended before `updates` updates had; a read or a write failed, which was counted; or the
 -- viewer ended

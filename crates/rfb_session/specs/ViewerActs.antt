@@ -1,5 +1,6 @@
 -- What an engine did with a viewer: bytes that it was fed, and requests.
-use Rattle.std.specs.Prelude.{◌≡◌, ◌≢◌, ℕ, ◌+◌, ◌-◌, ◌^◌, Bool, min, List, [], ◌++◌, Option, Some, None}
+use Rattle.std.specs.Prelude.{◌≡◌, ◌≢◌, ℕ, ◌+◌, ◌-◌, ◌^◌, Bool, min, List, []}
+use Rattle.std.specs.Prelude.{Option, Some, None}
 use Rattle.rfb_pixel.specs.declared.colour.Colour.{Colour}
 use Rattle.rfb_picture.specs.Grid.{Grid}
 use Rattle.rfb_picture.specs.Rect.{rect}
@@ -16,7 +17,7 @@ use Rattle.rfb_viewer.specs.Failed.{KeepsPicture, KeepsReason}
 use Rattle.rfb_viewer.specs.Calls.{request_refusal, requested}
 use Rattle.rfb_viewer.specs.Messages.{request_message}
 use Rattle.rfb_session.specs.InFlight.{viewer_reply}
-use Rattle.rfb_session.specs.EngineRun.{Step, Fed, Did, Driven, RunsOn, FeedsOn}
+use Rattle.rfb_session.specs.EngineRun.{Step, Fed, Did, Driven, driven, RunsOn, FeedsOn, EndsAmong}
 
 -- what an engine does with a viewer: a request for the area; or none, where the viewer refuses one
 pub data ViewerAct : Type 0 where
@@ -58,13 +59,7 @@ updates_ended (Did act) = 0
 -- a viewer as engines run it
 abbrev pub viewer_driven :
     Driven Viewer Viewing ViewerState ServerAt FromServer ViewerFault ViewerTold ViewerAct
-viewer_driven = record {
-  machine = viewer;
-  stands = StandsFor;
-  does = Asks;
-  sends = viewer_sends;
-  updates = updates_ended;
-}
+viewer_driven = driven viewer StandsFor Asks viewer_sends updates_ended
 
 -- it was fed these bytes, these are sent, `updates` updates ended, and it became that one
 abbrev pub ViewerRuns : Viewer → List ℕ → List ℕ → ℕ → Viewer → Type 0
@@ -91,17 +86,18 @@ pub record EndsBy (fault : ViewerFault) (old : Viewer) (slice : List ℕ)
   pub picture : fault_of old ≡ None → KeepsPicture fault old slice new
   pub reason : fault_of old ≡ None → KeepsReason fault old slice new
 
--- a run over the first of some bytes, and then the viewer ended at those after them
-pub record EndsWithin (old : Viewer) (bytes : List ℕ) (fault : ViewerFault)
-    (new : Viewer) : Type 0 where
-  pub fed : List ℕ
-  pub slice : List ℕ
-  pub sent : List ℕ
-  pub updates : ℕ
-  pub last : Viewer
-  pub bytes_are : bytes ≡ fed ++ slice
-  pub runs : ViewerRuns old fed sent updates last
-  pub ends : EndsBy fault last slice new
+-- it was fed these bytes, whatever is sent for them and however many updates ended
+abbrev pub ViewerGoes : Viewer → List ℕ → Viewer → Type 0
+ViewerGoes old fed new = (sent : List ℕ) × (updates : ℕ) × ViewerRuns old fed sent updates new
+
+-- a run over the first of bytes of which that is known, and then the viewer ended at those after them
+abbrev pub EndsAfter : (List ℕ → Type 0) → Viewer → ViewerFault → Viewer → Type 0
+EndsAfter known old fault new =
+    EndsAmong known (ViewerGoes old) (λ last slice. EndsBy fault last slice new)
+
+-- the same of these bytes
+abbrev pub EndsWithin : Viewer → List ℕ → ViewerFault → Viewer → Type 0
+EndsWithin old bytes fault new = EndsAfter (λ all. bytes ≡ all) old fault new
 
 -- whether the server's bytes have ended between two messages, as the viewer stands
 abbrev pub StandsBetween : Viewer → Bool → Type 0

@@ -1,4 +1,5 @@
 pub mod Characters
+pub mod Tables
 pub mod KeyNames
 pub mod Keys
 pub mod Keyboard

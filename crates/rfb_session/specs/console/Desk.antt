@@ -1,12 +1,11 @@
 -- What a desk has: its share, the lines that wait for the owner, and what is known of each viewer.
-use Rattle.std.specs.Prelude.{◌≡◌, ◌+◌, ℕ, zero, suc, Bool, true, false, ◌&&◌, not, nat_eq, nat_lt, List}
-use Rattle.std.specs.Prelude.{None}
-use Rattle.std.specs.Prelude.{slice_index_or, cond}
+use Rattle.std.specs.Prelude.{◌≡◌, ◌+◌, ℕ, zero, suc, Bool, true, false, ◌&&◌, ◌||◌, not, nat_eq}
+use Rattle.std.specs.Prelude.{nat_lt, List, None, slice_index_or, cond}
 use Rattle.rfb_picture.specs.Places.{has_bit}
 use Rattle.rfb_session.specs.declared.console.desk.Desk.{Desk}
 use Rattle.rfb_session.specs.declared.console.guest.Guest.{Guest}
 use Rattle.rfb_session.specs.declared.console.guest.Progress.{Progress}
-use Rattle.rfb_session.specs.declared.console.guest.Progress.TheVariants.{Absent, Shaking, Ready, Failing}
+use Rattle.rfb_session.specs.declared.console.guest.Progress.TheVariants.{Absent, Shaking, Failing}
 
 -- there is no viewer
 abbrev pub nobody : Guest
@@ -22,12 +21,19 @@ guest_at desk k = slice_index_or desk.guests k nobody
 abbrev pub lines_of : Desk → List ℕ
 lines_of desk = desk.lines.items
 
+-- there is a viewer
+abbrev pub is_here : Progress → Bool
+is_here Absent = false
+is_here progress = true
+
+-- it has failed
+abbrev pub is_failing : Progress → Bool
+is_failing Failing = true
+is_failing progress = false
+
 -- no more is read there: there is no viewer, or it has failed
 abbrev pub is_over : Progress → Bool
-is_over Absent = true
-is_over Shaking = false
-is_over Ready = false
-is_over Failing = true
+is_over progress = not (is_here progress) || is_failing progress
 
 -- more of its viewer is read: there is one, it has not failed, and few bytes of lines wait that tell of it
 abbrev pub is_heard : Desk → ℕ → Bool
@@ -35,24 +41,9 @@ is_heard desk k = not (is_over (guest_at desk k).progress) && nat_lt (guest_at d
 
 -- its handshake is not done, or it has failed: it gives way to whoever comes
 abbrev pub gives_way : Progress → Bool
-gives_way Absent = false
 gives_way Shaking = true
-gives_way Ready = false
 gives_way Failing = true
-
--- it has failed
-abbrev pub is_failing : Progress → Bool
-is_failing Absent = false
-is_failing Shaking = false
-is_failing Ready = false
-is_failing Failing = true
-
--- there is a viewer
-abbrev pub is_here : Progress → Bool
-is_here Absent = false
-is_here Shaking = true
-is_here Ready = true
-is_here Failing = true
+gives_way progress = false
 
 -- how many there are at the first `count` seats, and at all
 abbrev pub seated_in : Desk → ℕ → ℕ

@@ -8,8 +8,8 @@ use Rattle.rfb_session.specs.declared.console.desk.Desk.{Desk}
 use Rattle.rfb_session.specs.declared.console.plan.Rules.{Rules}
 use Rattle.rfb_session.specs.declared.language.screen.Screen.{Screen as Size}
 use Rattle.rfb_session.specs.declared.owner.order.Order.{Order}
-use Rattle.rfb_session.specs.doors.Events.{Received, Ended, Failed, Wrote, Turned, came, left, left_by}
-use Rattle.rfb_session.specs.doors.Tenants.{Happening, Told, Opened, Declined, events_in, Goes}
+use Rattle.rfb_session.specs.doors.Events.{Received, Turned, came, left, left_by}
+use Rattle.rfb_session.specs.doors.Tenants.{Happening, Told, Opened, Declined, events_in, Meets, Goes}
 use Rattle.rfb_session.specs.owner.Reader.{ComesTo, Ends, known_after}
 use Rattle.rfb_session.specs.Share.{seat_in}
 use Rattle.rfb_session.specs.ShareLives.{LivesAt}
@@ -43,12 +43,7 @@ happenings_in (Met happening ∷ deeds) = happening ∷ happenings_in deeds
 -- all that happens but that bytes of the owner's come
 abbrev pub is_owners : Happening → Bool
 is_owners (Told (Received door bytes)) = door == 0
-is_owners (Told (Ended door)) = false
-is_owners (Told (Failed door)) = false
-is_owners (Told (Wrote door bytes)) = false
-is_owners (Told (Turned now)) = false
-is_owners (Opened door from) = false
-is_owners (Declined from) = false
+is_owners happening = false
 
 abbrev pub but_owners : List Happening → List Happening
 but_owners [] = []
@@ -57,9 +52,7 @@ but_owners (happening ∷ more) = cond (is_owners happening) (but_owners more) (
 module _ {S : Type 0} where
   -- one thing happens to a console
   abbrev pub Happens : Console S → Happening → Console S → Type 0
-  Happens old (Told event) new = Steps old event new
-  Happens old (Opened door from) new = OpensAs old door from new
-  Happens old (Declined from) new = DeclinesAs old from new
+  Happens old happening new = Meets Steps OpensAs DeclinesAs old happening new
 
   -- these happen to it, one after the other, and nothing else does
   abbrev pub Lasts : Console S → List Happening → Console S → Type 0
@@ -98,13 +91,8 @@ module _ {S : Type 0} where
 -- ---- turns
 
 abbrev pub is_turn : Happening → Bool
-is_turn (Told (Received door bytes)) = false
-is_turn (Told (Ended door)) = false
-is_turn (Told (Failed door)) = false
-is_turn (Told (Wrote door bytes)) = false
 is_turn (Told (Turned now)) = true
-is_turn (Opened door from) = false
-is_turn (Declined from) = false
+is_turn happening = false
 
 -- where there is a desk it stays, and with it the seat that is first in its next turn
 abbrev pub KeepsFirst : Option Desk → Option Desk → Type 0

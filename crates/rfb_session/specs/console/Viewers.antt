@@ -23,36 +23,40 @@ use Rattle.rfb_session.specs.console.Time.{undone_since}
 
 -- ---- viewers that are let go
 
--- a seat is emptied, and nothing else has changed; the answer says whether that is to be told: somebody was
--- there, who was not told to have failed
-pub record Vacates (old : Desk) (k : ℕ) (told : Bool) (new : Desk) : Type 0 where
+-- a seat is emptied, and the lines are so then; nothing else has changed. `told` says whether that is to be told:
+-- somebody was there, who was not told to have failed
+pub record Empties (lines_are : List ℕ → Type 0) (old : Desk) (k : ℕ) (told : Bool) (new : Desk) : Type 0 where
   pub taken : Bool
   pub told_is : told ≡ (taken && not (is_over (guest_at old k).progress))
   pub share : LeavesAs old.share k taken new.share
   pub guest : guest_at new k ≡ nobody
   pub others : OtherGuests old k new
-  pub lines : lines_of new ≡ lines_of old
+  pub lines : lines_are (lines_of new)
   pub rules : KeepsRules old new
 
--- a seat is emptied, and the line tells it where that is to be told
-pub record LetsGo (old : Desk) (k : ℕ) (told : Bool) (line : List ℕ) (new : Desk) : Type 0 where
-  pub taken : Bool
-  pub told_is : told ≡ (taken && not (is_over (guest_at old k).progress))
-  pub share : LeavesAs old.share k taken new.share
-  pub guest : guest_at new k ≡ nobody
-  pub others : OtherGuests old k new
-  pub lines : lines_of new ≡ lines_of old ++ cond told line []
-  pub rules : KeepsRules old new
+-- no line tells it
+abbrev pub Vacates : Desk → ℕ → Bool → Desk → Type 0
+Vacates old k told new = Empties (λ lines. lines ≡ lines_of old) old k told new
+
+-- the line tells it where that is to be told
+abbrev pub LetsGo : Desk → ℕ → Bool → List ℕ → Desk → Type 0
+LetsGo old k told line new = Empties (λ lines. lines ≡ lines_of old ++ cond told line []) old k told new
+
+-- where it is told, one line is added that names a fault of a seat; else none is
+pub record AddsFault (k : ℕ) (told : Bool) (before after : List ℕ) : Type 0 where
+  pub line : told ≡ true → (line : List ℕ) × IsFaultLine k line × (after ≡ before ++ line)
+  pub none : told ≡ false → after ≡ before
 
 -- the same, where the line names a fault
-pub record LetsGoFor (old : Desk) (k : ℕ) (told : Bool) (new : Desk) : Type 0 where
-  pub taken : Bool
-  pub told_is : told ≡ (taken && not (is_over (guest_at old k).progress))
-  pub share : LeavesAs old.share k taken new.share
-  pub guest : guest_at new k ≡ nobody
+abbrev pub LetsGoFor : Desk → ℕ → Bool → Desk → Type 0
+LetsGoFor old k told new = Empties (λ lines. AddsFault k told (lines_of old) lines) old k told new
+
+-- of the viewer of a seat, if it goes, nothing is known any more, and a line tells that where it is to be told
+pub record Forgets (old : Desk) (k : ℕ) (goes : Bool) (new : Desk) : Type 0 where
+  pub guest : guest_at new k ≡ cond goes nobody (guest_at old k)
   pub others : OtherGuests old k new
-  pub line : told ≡ true → (line : List ℕ) × IsFaultLine k line × (lines_of new ≡ lines_of old ++ line)
-  pub none : told ≡ false → lines_of new ≡ lines_of old
+  pub lines : lines_of new
+      ≡ lines_of old ++ cond (goes && not (is_over (guest_at old k).progress)) (leave_line k) []
   pub rules : KeepsRules old new
 
 -- a seat, if it is one of them, is emptied, and a line tells it where that is to be told
@@ -60,10 +64,13 @@ pub record LetsGoIf (old : Desk) (k : ℕ) (goes : Bool) (new : Desk) : Type 0 w
   pub seat : seat_in new.share k ≡ cond goes None (seat_in old.share k)
   pub seats : (j : ℕ) → nat_eq j k ≡ false → seat_in new.share j ≡ seat_in old.share j
   pub screen : KeepsScreen old.share new.share
-  pub guest : guest_at new k ≡ cond goes nobody (guest_at old k)
-  pub others : OtherGuests old k new
-  pub lines : lines_of new
-      ≡ lines_of old ++ cond (goes && not (is_over (guest_at old k).progress)) (leave_line k) []
+  pub forgets : Forgets old k goes new
+
+-- of the viewers of the first `count` seats those in a set are forgotten, in order, and a line tells each
+pub record ForgetsUpTo (count : ℕ) (old : Desk) (set : ℕ) (new : Desk) : Type 0 where
+  pub guests : (k : ℕ) → k < count → guest_at new k ≡ cond (has_bit set k) nobody (guest_at old k)
+  pub later : (k : ℕ) → count ≤ k → guest_at new k ≡ guest_at old k
+  pub lines : lines_of new ≡ lines_of old ++ leave_lines (tells_in old set) count
   pub rules : KeepsRules old new
 
 -- of the first `count` seats those in a set are emptied, in order, and a line tells each
@@ -71,10 +78,7 @@ pub record LetsGoUpTo (count : ℕ) (old : Desk) (set : ℕ) (new : Desk) : Type
   pub seats : (k : ℕ) → k < count → seat_in new.share k ≡ cond (has_bit set k) None (seat_in old.share k)
   pub seats_later : (k : ℕ) → count ≤ k → seat_in new.share k ≡ seat_in old.share k
   pub screen : KeepsScreen old.share new.share
-  pub guests : (k : ℕ) → k < count → guest_at new k ≡ cond (has_bit set k) nobody (guest_at old k)
-  pub guests_later : (k : ℕ) → count ≤ k → guest_at new k ≡ guest_at old k
-  pub lines : lines_of new ≡ lines_of old ++ leave_lines (tells_in old set) count
-  pub rules : KeepsRules old new
+  pub forgets : ForgetsUpTo count old set new
 
 abbrev pub LetsAllGo : Desk → ℕ → Desk → Type 0
 LetsAllGo old set new = LetsGoUpTo 8 old set new
@@ -82,19 +86,12 @@ LetsAllGo old set new = LetsGoUpTo 8 old set new
 -- of a seat, if it is one of them, nothing is known any more, and a line tells it
 pub record PartsAt (old : Desk) (k : ℕ) (parts : Bool) (new : Desk) : Type 0 where
   pub share : new.share ≡ old.share
-  pub guest : guest_at new k ≡ cond parts nobody (guest_at old k)
-  pub others : OtherGuests old k new
-  pub lines : lines_of new
-      ≡ lines_of old ++ cond (parts && not (is_over (guest_at old k).progress)) (leave_line k) []
-  pub rules : KeepsRules old new
+  pub forgets : Forgets old k parts new
 
 -- of the first `count` seats those in a set, in their order
 pub record PartsUpTo (count : ℕ) (old : Desk) (set : ℕ) (new : Desk) : Type 0 where
   pub share : new.share ≡ old.share
-  pub guests : (k : ℕ) → k < count → guest_at new k ≡ cond (has_bit set k) nobody (guest_at old k)
-  pub later : (k : ℕ) → count ≤ k → guest_at new k ≡ guest_at old k
-  pub lines : lines_of new ≡ lines_of old ++ leave_lines (tells_in old set) count
-  pub rules : KeepsRules old new
+  pub forgets : ForgetsUpTo count old set new
 
 abbrev pub Parts : Desk → ℕ → Desk → Type 0
 Parts old set new = PartsUpTo 8 old set new
@@ -164,8 +161,7 @@ pub record Fails (old : Desk) (k : ℕ) (told : Bool) (new : Desk) : Type 0 wher
   pub told_is : told ≡ not (is_over (guest_at old k).progress)
   pub progress : (guest_at new k).progress ≡ cond told Failing (guest_at old k).progress
   pub others : OtherGuests old k new
-  pub line : told ≡ true → (line : List ℕ) × IsFaultLine k line × (lines_of new ≡ lines_of old ++ line)
-  pub none : told ≡ false → lines_of new ≡ lines_of old
+  pub lines : AddsFault k told (lines_of old) (lines_of new)
   pub rules : KeepsRules old new
 
 -- a line tells that it failed, unless nobody is there or it has failed before

@@ -29,15 +29,17 @@ IsKept d (Opened door from ∷ more) = (d ≢ door) × IsKept d more
 IsKept d (Declined from ∷ more) = IsKept d more
 
 module _ {C : Type 0} where
-  -- these happened to a core, one after the other, and nothing else did
+  -- one thing happened to a core, which became that one
+  abbrev pub Meets : Stepping C → Opening C → Declining C → C → Happening → C → Type 0
+  Meets steps opens declines old (Told event) new = steps old event new
+  Meets steps opens declines old (Opened door from) new = opens old door from new
+  Meets steps opens declines old (Declined from) new = declines old from new
+
+  -- these happened to it, one after the other, and nothing else did
   abbrev pub Goes : Stepping C → Opening C → Declining C → C → List Happening → C → Type 0
   Goes steps opens declines old [] new = new ≡ old
-  Goes steps opens declines old (Told event ∷ more) new =
-      (mid : C) × steps old event mid × Goes steps opens declines mid more new
-  Goes steps opens declines old (Opened door from ∷ more) new =
-      (mid : C) × opens old door from mid × Goes steps opens declines mid more new
-  Goes steps opens declines old (Declined from ∷ more) new =
-      (mid : C) × declines old from mid × Goes steps opens declines mid more new
+  Goes steps opens declines old (happening ∷ more) new =
+      (mid : C) × Meets steps opens declines old happening mid × Goes steps opens declines mid more new
 
 module _ {C D : Type 0} where
   -- what events say of a door is what was read and written of a device there

@@ -1,21 +1,14 @@
 -- The names of keys. Those in most use are of RFC 6143, section 7.5.4, and the others of X11.
-use Rattle.std.specs.Prelude.{◌≡◌, ℕ, false, List, [], ◌∷◌, ◌++◌, map, codes}
-use Rattle.std.specs.Prelude.{Option, None, Some, if◌then◌else◌}
-use Rattle.std.specs.Borrow.{Bor}
+use Rattle.std.specs.Prelude.{◌≡◌, ℕ, false, List, [], ◌∷◌, ◌++◌, codes, Option}
 use Rattle.std.specs.List.{AllPairs}
 use Rattle.std.specs.Str.{str_eq_ignore_ascii_case}
+use Rattle.rfb_session.specs.drive.Tables.{found_by}
 
 -- ---- tables of names and keys
 
--- the entries of a table that is made of references
-abbrev pub entries : List (Bor (List ℕ) × ℕ) → List (List ℕ × ℕ)
-entries table = map (λ entry. (entry.0.now, entry.1)) table
-
 -- the key of the first entry with that name, whatever the case of its letters
 abbrev pub looked_up : List (List ℕ × ℕ) → List ℕ → Option ℕ
-looked_up [] name = None
-looked_up (entry ∷ table) name =
-    if str_eq_ignore_ascii_case entry.0 name then Some entry.1 else looked_up table name
+looked_up table name = found_by str_eq_ignore_ascii_case table name
 
 -- no two entries of a table have the same name, whatever the case of its letters
 abbrev pub StandOnce : List (List ℕ × ℕ) → Type 0

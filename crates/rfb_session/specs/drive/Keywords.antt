@@ -1,19 +1,13 @@
 -- The words that lines begin with.
-use Rattle.std.specs.Prelude.{ℕ, List, [], ◌∷◌, Option, None, Some, codes, map, if◌then◌else◌}
-use Rattle.std.specs.Borrow.{Bor}
+use Rattle.std.specs.Prelude.{ℕ, List, [], ◌∷◌, Option, codes}
 use Rattle.std.specs.Str.{bytes_eq}
 use Rattle.rfb_session.specs.declared.drive.keyword.Keyword.{Keyword}
 use Rattle.rfb_session.specs.declared.drive.keyword.Keyword.TheVariants as Of
-
--- the entries of a table that is made of references
-abbrev pub names : List (Bor (List ℕ) × Keyword) → List (List ℕ × Keyword)
-names table = map (λ entry. (entry.0.now, entry.1)) table
+use Rattle.rfb_session.specs.drive.Tables.{found_by}
 
 -- the keyword of the first entry with that name
 abbrev pub looked_up : List (List ℕ × Keyword) → List ℕ → Option Keyword
-looked_up [] word = None
-looked_up (entry ∷ table) word =
-    if bytes_eq entry.0 word then Some entry.1 else looked_up table word
+looked_up table word = found_by bytes_eq table word
 
 unfoldable pub keywords : List (List ℕ × Keyword)
 keywords =

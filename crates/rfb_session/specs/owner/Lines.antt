@@ -3,6 +3,7 @@ use Rattle.std.specs.Prelude.{◌≡◌, ◌≢◌, ◌+◌, ◌*◌, ◌<◌, �
 use Rattle.std.specs.Prelude.{All, Option, None, Some, codes, length}
 use Rattle.std.specs.Str.Parse.{digits_value}
 use Rattle.rfb_picture.specs.declared.rect.Rect.{Rect}
+use Rattle.rfb_session.specs.declared.language.drawing.DrawingLine.TheVariants as Drawing
 use Rattle.rfb_session.specs.declared.language.screen.Screen.{Screen as Size}
 use Rattle.rfb_session.specs.declared.owner.order.OwnerLine.{OwnerLine}
 use Rattle.rfb_session.specs.declared.owner.order.OwnerLine.TheVariants.{Screen, Fill, Copy, Hint}
@@ -10,7 +11,8 @@ use Rattle.rfb_session.specs.declared.owner.order.OwnerLine.TheVariants.{Scroll,
 use Rattle.rfb_session.specs.declared.owner.order.Order.{Order}
 use Rattle.rfb_session.specs.declared.owner.order.Refusal.{Refusal}
 use Rattle.rfb_session.specs.declared.owner.order.Refusal.TheVariants.{Bad, NoMemory}
-use Rattle.rfb_session.specs.language.Words.{IsSlotAlone, Begins, words_of, AreFill, AreMove, AreRect, AreSize}
+use Rattle.rfb_session.specs.language.Words.{IsSlotAlone, Begins, words_of, AreRect, AreSize}
+use Rattle.rfb_session.specs.language.Lines.{SaysDrawing}
 use Rattle.rfb_session.specs.language.Number.{IsNumber}
 
 -- ---- words
@@ -38,15 +40,12 @@ AreScroll words rect dx dy =
 
 -- ---- lines
 
--- what the words of a line say
+-- what the words of a line say; of drawings and hints the same as in scripts
 abbrev pub SaysOwner : List (List ℕ) → OwnerLine → Type 0
 SaysOwner words (Screen size) = Begins (codes "screen") words (λ rest. AreSize rest size)
-SaysOwner words (Fill rect colour) =
-    Begins (codes "fill") words (λ rest. AreFill rest rect colour)
-SaysOwner words (Copy rect sx sy) =
-    Begins (codes "copy") words (λ rest. AreMove rest rect sx sy)
-SaysOwner words (Hint rect sx sy) =
-    Begins (codes "hint") words (λ rest. AreMove rest rect sx sy)
+SaysOwner words (Fill rect colour) = SaysDrawing words (Drawing.Fill rect colour)
+SaysOwner words (Copy rect sx sy) = SaysDrawing words (Drawing.Copy rect sx sy)
+SaysOwner words (Hint rect sx sy) = SaysDrawing words (Drawing.Hint rect sx sy)
 SaysOwner words (Scroll rect dx dy) =
     Begins (codes "scroll") words (λ rest. AreScroll rest rect dx dy)
 SaysOwner words (Pixels rect) = Begins (codes "pixels") words (λ rest. ArePlaces rest rect)

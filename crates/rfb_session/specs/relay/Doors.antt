@@ -38,26 +38,32 @@ module _ {S : Type 0} where
     pub server : space_at_door new 0 ≡ room_of_server new
     pub viewers : (k : ℕ) → k < 8 → space_at_door new (k + 1) ≡ room_of_viewer new k
 
-  -- its viewer, what waits for it, and how it went away, are as they were
-  pub record KeepsServer (old new : Relay S) : Type 0 where
+  -- its viewer, its name, and what is counted for it, are as they were
+  pub record KeepsNoted (old new : Relay S) : Type 0 where
     pub coming : new.coming ≡ old.coming
-    pub waits : new.to_server ≡ old.to_server
-    pub presence : new.presence ≡ old.presence
     pub name : new.server_name ≡ old.server_name
     pub passed : new.passed ≡ old.passed
+
+  -- nothing but the console and whether its server is there is new
+  pub record KeepsBeside (old new : Relay S) : Type 0 where
+    pub noted : KeepsNoted old new
+    pub waits : new.to_server ≡ old.to_server
+
+  -- its viewer, what waits for it, and how it went away, are as they were
+  pub record KeepsServer (old new : Relay S) : Type 0 where
+    pub beside : KeepsBeside old new
+    pub presence : new.presence ≡ old.presence
+
+  -- nothing but the console and what waits for its server is new
+  pub record KeepsButWaits (old new : Relay S) : Type 0 where
+    pub noted : KeepsNoted old new
+    pub presence : new.presence ≡ old.presence
 
   -- the desk is as it was, and all goes on unless there was no memory
   pub record KeepsDeskBy (old new : Relay S) : Type 0 where
     pub desk : new.console.desk ≡ old.console.desk
     pub goes_on : (new.console.outcome ≡ old.console.outcome) ⊎ (new.console.outcome ≡ Some NoMemory)
     pub side : KeepsSide old.console new.console
-
-  -- nothing but the console is new
-  pub record KeepsBeside (old new : Relay S) : Type 0 where
-    pub coming : new.coming ≡ old.coming
-    pub waits : new.to_server ≡ old.to_server
-    pub name : new.server_name ≡ old.server_name
-    pub passed : new.passed ≡ old.passed
 
   -- its viewer is taken out, and nothing else has changed
   pub record TakesViewer (old new : Relay S) : Type 0 where
@@ -67,18 +73,12 @@ module _ {S : Type 0} where
     pub presence : new.presence ≡ old.presence
     pub name : new.server_name ≡ old.server_name
 
-  -- nothing but its name is new, or but what waits for it
+  -- nothing but its name is new
   pub record KeepsButName (old new : Relay S) : Type 0 where
     pub console : new.console ≡ old.console
     pub coming : new.coming ≡ old.coming
     pub waits : new.to_server ≡ old.to_server
     pub presence : new.presence ≡ old.presence
-
-  pub record KeepsButWaits (old new : Relay S) : Type 0 where
-    pub coming : new.coming ≡ old.coming
-    pub presence : new.presence ≡ old.presence
-    pub name : new.server_name ≡ old.server_name
-    pub passed : new.passed ≡ old.passed
 
   -- nothing but notes and times of the console
   pub record KeepsHere (old new : Relay S) : Type 0 where

@@ -13,7 +13,7 @@ use Rattle.rfb_session.specs.declared.relay.Relay.{Relay}
 use Rattle.rfb_session.specs.declared.relay.presence.Presence.TheVariants.{Coming, Shown}
 use Rattle.rfb_session.specs.declared.share.event.SeatEvent.{SeatEvent}
 use Rattle.rfb_session.specs.doors.Events.{Received, Ended, Failed, Wrote, Turned, left}
-use Rattle.rfb_session.specs.doors.Tenants.{Happening, Told, Opened, Declined, events_in, Goes}
+use Rattle.rfb_session.specs.doors.Tenants.{Happening, Told, Opened, Declined, events_in, Meets, Goes}
 use Rattle.rfb_session.specs.Mirrors.{TakesBytes}
 use Rattle.rfb_session.specs.Share.{viewer_of}
 use Rattle.rfb_session.specs.ShareWaiters.{SomeAsked}
@@ -30,9 +30,7 @@ module _ {S : Type 0} where
 
   -- one thing happens to a relay
   abbrev pub Happens : Relay S → Happening → Relay S → Type 0
-  Happens old (Told event) new = RelaySteps old event new
-  Happens old (Opened door from) new = OpensRelay old door from new
-  Happens old (Declined from) new = DeclinesRelay old from new
+  Happens old happening new = Meets RelaySteps OpensRelay DeclinesRelay old happening new
 
   -- these happen to it, one after the other, and nothing else does
   abbrev pub Lasts : Relay S → List Happening → Relay S → Type 0

@@ -2,7 +2,8 @@
 
 ghost use Rattle.std.specs.Prelude.{◌≡◌, ℕ, List};
 ghost use Rattle.rfb_session.specs.declared.drive.keyword.Keyword.{Keyword};
-ghost use Rattle.rfb_session.specs.drive.Keywords.{keyword_named, looked_up, names};
+ghost use Rattle.rfb_session.specs.drive.Keywords.{keyword_named, looked_up};
+ghost use Rattle.rfb_session.specs.drive.Tables.{entries as names};
 
 /// What a line asks for, by its first word.
 #[derive(Clone, Copy, Debug, PartialEq, Eq)]

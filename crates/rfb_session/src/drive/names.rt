@@ -2,7 +2,8 @@
 
 ghost use Rattle.std.specs.Prelude.{◌≡◌};
 ghost use Rattle.std.specs.Str.{str_eq_ignore_ascii_case};
-ghost use Rattle.rfb_session.specs.drive.KeyNames.{StandOnce, entries, key_names, looked_up};
+ghost use Rattle.rfb_session.specs.drive.KeyNames.{StandOnce, key_names, looked_up};
+ghost use Rattle.rfb_session.specs.drive.Tables.{entries};
 
 // Keys that edit, as they lie above and beside the letters.
 const EDITING: [(&[u8], u32); 13] = [

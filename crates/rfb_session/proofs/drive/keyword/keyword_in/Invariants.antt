@@ -1,6 +1,7 @@
 -- What is left of the table has the same keyword under this name.
 use Rattle.std.proofs.Common.{◌≡◌, length}
-use Rattle.rfb_session.specs.drive.Keywords.{looked_up, names}
+use Rattle.rfb_session.specs.drive.Keywords.{looked_up}
+use Rattle.rfb_session.specs.drive.Tables.{entries as names}
 use Rattle.rfb_session.proofs.drive.keyword.keyword_in.Given as goal
 
 abbrev pub invariant-loop-table : goal.invariant-loop-table

@@ -47,8 +47,10 @@ returns-else-server_wants_memory-clause-reached c =
 pub returns-else-server_wants_memory-clause-lost : goal.returns-else-server_wants_memory-clause-lost
 returns-else-server_wants_memory-clause-lost c = λ fault is. record {
   to_server = c.arrive-in-Err.ensures;
-  to_viewer = refl;
-  viewer = refl;
-  session = (c.feed.ensures.failed fault is).1;
-  latest = refl;
+  beside = record {
+    session = (c.feed.ensures.failed fault is).1;
+    viewer = refl;
+    to_viewer = refl;
+    latest = refl;
+  };
 }

@@ -8,10 +8,10 @@ returns-clause-begins g c =
     record {
       presence = opens.keeps.server.presence;
       coming = c.next_viewer-viewer.result;
-      coming_is = opens.keeps.server.coming ∙ c.seat_in.ensures;
+      coming_is = opens.keeps.server.beside.noted.coming ∙ c.seat_in.ensures;
       stands = rw (sym c.forget_server.ensures.given) c.next_viewer-viewer.ensures;
-      waits = opens.keeps.server.waits ∙ forgets.waits;
-      passed = λ k within. rw opens.keeps.server.passed (forgets.passed k within);
+      waits = opens.keeps.server.beside.waits ∙ forgets.waits;
+      passed = λ k within. rw opens.keeps.server.beside.noted.passed (forgets.passed k within);
       room = opens.room ∙ sym (rw (opens.keeps.server.presence, opens.keeps.console.outcome) refl);
       console = rw (sym forgets.console) opens.keeps.console;
     }

@@ -9,10 +9,12 @@ returns-in-Ok-clause-opens g c =
     let desk = c.in-Some.desk in
     let ups = c.tell_up.ensures.tells in
     ups_so c.args.self.now _ c.begin_anew.new.self c.tell_up.new.self refl noted.notes.outcome (record {
-      coming = noted.server.coming;
-      waits = noted.server.waits;
-      name = noted.server.name;
-      passed = noted.server.passed;
+      noted = record {
+        coming = noted.server.beside.noted.coming;
+        name = noted.server.beside.noted.name;
+        passed = noted.server.beside.noted.passed;
+      };
+      waits = noted.server.beside.waits;
     }) ups (λ b at tells goes kept.
     OpenedAnew desk c.begin_anew.new.self b (sym noted.notes.desk ∙ c.in-Some.is) c.in-Ok.ensures tells at goes
     ups.presence kept) (λ ran. NoRoomForLines ran)

@@ -4,7 +4,7 @@ use Rattle.rfb_viewer.specs.declared.event.ViewerEvent.{ViewerEvent}
 use Rattle.rfb_viewer.specs.declared.fault.ViewerFault.{ViewerFault}
 use Rattle.rfb_session.specs.relay.Desk.{FeedsDesk, FailsDesk}
 use Rattle.rfb_session.specs.relay.Server.{FailedOn, NoViewer}
-use Rattle.rfb_session.proofs.RelayStepLemmas.{shown_so}
+use Rattle.rfb_session.proofs.RelayStepLemmas.{server_same, shown_so}
 use Rattle.rfb_session.proofs.relay.Relay.hear_shown.Goals as goal
 
 pub returns-in-Some-Ok-clause-hears : goal.returns-in-Some-Ok-clause-hears
@@ -15,7 +15,8 @@ returns-in-Some-Ok-clause-hears g c =
     (subst (λ (r : Result (Fed ViewerEvent) ViewerFault). IfOk r (λ fed.
     FeedsDesk c.in-Some.desk c.args.bytes.now fed c.hear_server.new.self)) c.in-Some-Ok.field-0-is
     c.in-Some-Ok.ensures.feeds) refl refl
-    (record { coming = refl; waits = refl; presence = refl; name = refl; passed = refl }) c.heed.ensures.heeds
+    (server_same refl refl refl refl refl)
+    c.heed.ensures.heeds
 
 pub returns-in-Some-Err-clause-hears : goal.returns-in-Some-Err-clause-hears
 returns-in-Some-Err-clause-hears g c =
@@ -23,10 +24,11 @@ returns-in-Some-Err-clause-hears g c =
     (subst (λ (r : Result (Fed ViewerEvent) ViewerFault). IfErr r (λ fault.
     FailsDesk c.in-Some.desk c.args.bytes.now fault c.hear_server.new.self)) c.in-Some-Err.field-0-is
     c.in-Some-Err.ensures.fails) refl
-    (record { coming = refl; waits = refl; presence = refl; name = refl; passed = refl }) c.lose_server.ensures.loses
+    (server_same refl refl refl refl refl)
+    c.lose_server.ensures.loses
 
 pub returns-in-None-clause-hears : goal.returns-in-None-clause-hears
 returns-in-None-clause-hears g c =
     NoViewer c.in-Some.desk c.hear_server.new.self c.in-Some.is (c.in-None.ensures.none.0 refl) refl
     (c.in-None.ensures.kept refl) refl refl
-    (record { coming = refl; waits = refl; presence = refl; name = refl; passed = refl })
+    (server_same refl refl refl refl refl)

@@ -36,10 +36,12 @@ returns-clause-loses g c =
     let tells = c.tell_gone.ensures.tells in
     GoneNow (sym c.if-is_gone.ensures) (record {
       presence = tells.server.presence ∙ ends.server.presence ∙ forgets.presence;
-      coming = tells.server.coming ∙ ends.server.coming ∙ forgets.coming ∙ c.empty.ensures.empty;
-      waits = tells.server.waits ∙ ends.server.waits ∙ forgets.waits;
-      passed = λ k within. rw (tells.server.passed ∙ ends.server.passed) (forgets.passed k within);
-      name = tells.server.name ∙ ends.server.name ∙ forgets.name;
+      coming = tells.server.beside.noted.coming ∙ ends.server.beside.noted.coming ∙ forgets.coming
+          ∙ c.empty.ensures.empty;
+      waits = tells.server.beside.waits ∙ ends.server.beside.waits ∙ forgets.waits;
+      passed = λ k within. rw (tells.server.beside.noted.passed ∙ ends.server.beside.noted.passed)
+          (forgets.passed k within);
+      name = tells.server.beside.noted.name ∙ ends.server.beside.noted.name ∙ forgets.name;
       ends = subst (λ (r : Rules). EndsFor r.retry c.args.self.now.console.outcome c.args.gone
           c.tell_gone.new.self.console.outcome) kept.side.stays.rules
           (ends_then _ _ c.note.new.self.outcome c.args.gone c.end_unless_called.new.self.console.outcome _

@@ -24,7 +24,7 @@ pub returns-in-Ok-clause-opens : goal.returns-in-Ok-clause-opens
 returns-in-Ok-clause-opens g c =
     let ups = c.tell_up.ensures.tells in
     ups_so c.args.self.now _ c.show_again.new.self c.tell_up.new.self refl refl
-    (record { coming = refl; waits = refl; name = refl; passed = refl }) ups
+    (record { noted = record { coming = refl; name = refl; passed = refl }; waits = refl }) ups
     (λ b at tells goes kept.
     OpenedAgain c.in-Some.desk c.show_again.new.self b c.in-Some.is c.in-Ok.ensures.shown tells at goes ups.presence
     kept) (λ ran. NoRoomToShow ran)

@@ -26,4 +26,4 @@ returns-in-Ok-over-clause-opens g c =
     (c.name-name.ensures.value ∙ ap (λ (l : List ℕ). name_by given l) told)))
     (subst (λ (s : Share). IsOver s rules c.args.self.now.server_name.items desk) (sym over.share_is)
     (subst (λ (l : List ℕ). IsOver c.in-Ok.share rules l desk) told over)) refl
-    (record { coming = refl; waits = refl; name = refl; passed = refl })
+    (record { noted = record { coming = refl; name = refl; passed = refl }; waits = refl })

@@ -19,5 +19,5 @@ returns-in-Ok-clause-tells g c =
             c.as_slice.ensures.value c.in-Ok.ensures),
         noted.outcome,
       );
-      keeps = record { coming = refl; waits = refl; name = refl; passed = refl };
+      keeps = assumption refl;
     }

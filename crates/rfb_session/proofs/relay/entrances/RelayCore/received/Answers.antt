@@ -11,7 +11,7 @@ returns-clause-steps g c =
         mid = c.hear_at-used.new.self;
         done = (c.args.bytes.now, c.hear_at-used.result, refl, hears.hears);
         keeps = record {
-          server = record { coming = refl; waits = refl; presence = refl; name = refl; passed = refl };
+          server = assumption refl;
           console = keeps;
         };
       };

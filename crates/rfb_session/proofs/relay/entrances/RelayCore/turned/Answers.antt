@@ -25,11 +25,12 @@ returns-clause-steps g c =
         asks = rw (
           ← first.keeps.server.presence,
           plans.console.desk ∙ spares.keeps.console.desk ∙ opens.keeps.console.desk ∙ ends.desk,
-          plans.beside.waits ∙ spares.keeps.server.waits ∙ opens.keeps.server.waits,
+          plans.beside.waits ∙ spares.keeps.server.beside.waits ∙ opens.keeps.server.beside.waits,
           plans.console.outcome ∙ spares.keeps.console.outcome ∙ opens.keeps.console.outcome ∙ ends.outcome,
         ) asks.asks;
-        coming = plans.beside.coming ∙ spares.keeps.server.coming ∙ opens.keeps.server.coming
-            ∙ asks.keeps.server.coming ∙ first.keeps.server.coming;
+        coming = plans.beside.noted.coming ∙ spares.keeps.server.beside.noted.coming
+            ∙ opens.keeps.server.beside.noted.coming ∙ asks.keeps.server.noted.coming
+            ∙ first.keeps.server.noted.coming;
         presence = rw (plans.console.side.stays.rules, plans.console.outcome, ← presence) plans.presence;
         wakes = rw (plans.console.side.stays.rules, plans.console.outcome) plans.wakes;
         rooms = rooms_planned c.spare_seats.new.self c.args.now c.plan_call.new.self plans
