@@ -71,10 +71,16 @@ phase_mere : (e : Ends) (c : Core) (message : ClientMessage) → Phase e c → I
     call_refusal c.viewer ≡ None → Phase e (sent c c.viewer message)
 phase_mere e c message phase mere open_now =
     past_handshake e c (λ vp at. not_ready c vp at open_now)
-    (λ p m s. Idling p (meets p m) (assumption (s, later_form c.session.form c.to_server message mere ∙ s.formed,
-    later_more c.to_server (Second message) s.later (mere_later (Second message) mere))))
-    (λ p m s. Asking p (meets p m) (assumption (s, later_form c.session.form c.to_server message mere ∙ s.formed,
-    ask_more c.to_server (Second message) s.once mere)))
+    (λ p m s. Idling p (meets p m) (assumption (
+      s,
+      later_form c.session.form c.to_server message mere ∙ s.formed,
+      later_more c.to_server (Second message) s.later (mere_later (Second message) mere),
+    )))
+    (λ p m s. Asking p (meets p m) (assumption (
+      s,
+      later_form c.session.form c.to_server message mere ∙ s.formed,
+      ask_more c.to_server (Second message) s.once mere,
+    )))
     (λ p m s. Held p (meets p m) (assumption (s, mere_more c.to_server (Second message) s.mere mere)))
     (λ p m s. Sent p (meets p m) (assumption (s, mere_more c.to_server (Second message) s.mere mere))) phase
   where

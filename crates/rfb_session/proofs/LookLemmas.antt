@@ -138,19 +138,25 @@ module _ {D : Type 0} (writing : Writing D) (joins : Joins writing) where
         Appends-trans blank k stops.kept.0 was.fed stops.fed was.looks.kept stops.kept.1,
         subst (λ (n : ℕ). KeepsLast stops.kept.0 copied stops.slice n failed) same stops.kept.2,
       ) in
-      search (all_parts bytes was.fed rest stops.fed stops.slice was.bytes_are stops.read,
-      turn_then old last stops.last was.fed was.looks.sent stops.fed stops.sent was.looks.updates stops.updates None
-      (open_turn old last was.fed was.looks.sent was.looks.updates mid some was.looks.runs) stops.runs,
-      joins.then before w after was.looks.sent stops.sent was.looks.wrote stops.wrote, kept, stops.ends)
+      search (
+        all_parts bytes was.fed rest stops.fed stops.slice was.bytes_are stops.read,
+        turn_then old last stops.last was.fed was.looks.sent stops.fed stops.sent was.looks.updates stops.updates None
+            (open_turn old last was.fed was.looks.sent was.looks.updates mid some was.looks.runs) stops.runs,
+        joins.then before w after was.looks.sent stops.sent was.looks.wrote stops.wrote,
+        kept,
+        stops.ends,
+      )
   looking_stops old bytes rest left mid before w after blank k copied last fb fm failed Device new was some same stops =
       let cut = stops.1 in (
         subst (λ (n : ℕ). failed ≡ n + 1) same stops.0,
-        search (all_parts bytes was.fed rest cut.fed cut.later was.bytes_are cut.bytes_are,
-            turn_then old last new was.fed was.looks.sent cut.fed cut.sent was.looks.updates cut.updates cut.asks
-            (open_turn old last was.fed was.looks.sent was.looks.updates mid some was.looks.runs) cut.runs,
-            joins.stops before w after was.looks.sent cut.sent was.looks.wrote cut.wrote,
-            begun_after blank k copied was.fed cut.fed was.looks.kept cut.kept,
-            first_then old last was.fed cut.fed left mid before w after blank k copied was.looks some cut.first),
+        search (
+          all_parts bytes was.fed rest cut.fed cut.later was.bytes_are cut.bytes_are,
+          turn_then old last new was.fed was.looks.sent cut.fed cut.sent was.looks.updates cut.updates cut.asks
+              (open_turn old last was.fed was.looks.sent was.looks.updates mid some was.looks.runs) cut.runs,
+          joins.stops before w after was.looks.sent cut.sent was.looks.wrote cut.wrote,
+          begun_after blank k copied was.fed cut.fed was.looks.kept cut.kept,
+          first_then old last was.fed cut.fed left mid before w after blank k copied was.looks some cut.first,
+        ),
       )
   looking_stops old bytes rest left mid before w after blank k copied last fb fm failed (ServerEnded fault) new was
       some same stops = absurd stops

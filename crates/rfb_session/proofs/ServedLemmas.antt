@@ -150,8 +150,12 @@ held_served : (e : Ends) (screen : Grid Colour) (c : Core) (p : UpdatePoint)
     AreMere (Second message ∷ rest) → Phase e (served e screen c (Second message) rest)
 held_served e screen c p message rest m i mere =
     Held p (served_after e screen c p message rest m)
-    (assumption (i, no_answer e c (Second message) m.session_at ∙ i.none, mere.1,
-    (mere_served e screen c.session message mere.0).0 ∙ i.formed))
+    (assumption (
+      i,
+      no_answer e c (Second message) m.session_at ∙ i.none,
+      mere.1,
+      (mere_served e screen c.session message mere.0).0 ∙ i.formed,
+    ))
 
 sent_served : (e : Ends) (screen : Grid Colour) (c : Core) (p : UpdatePoint)
     (message : ClientMessage) (rest : List FromClient) → Meets e c p → Sends c p →

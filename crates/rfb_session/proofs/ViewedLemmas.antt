@@ -172,21 +172,27 @@ looking_fails unread mid left before w after blank k copied old reads asked stil
       Appends-trans blank k stops.kept.0 was.fed stops.fed was.looks.kept stops.kept.1,
       kept_as stops.kept.0 copied stops.slice fb failed fa af same counted stops.kept.2,
     ) in
-    search (whole_read unread mid left was.fed bytes stops.fed stops.slice was.read more stops.read,
-    turn_then old last stops.last was.fed was.looks.sent stops.fed stops.sent was.looks.updates stops.updates None
-    (open_turn old last was.fed was.looks.sent was.looks.updates still was.going was.looks.runs) stops.runs,
-    Appends-trans before w after was.looks.sent stops.sent was.looks.wrote stops.wrote, kept, stops.ends)
+    search (
+      whole_read unread mid left was.fed bytes stops.fed stops.slice was.read more stops.read,
+      turn_then old last stops.last was.fed was.looks.sent stops.fed stops.sent was.looks.updates stops.updates None
+          (open_turn old last was.fed was.looks.sent was.looks.updates still was.going was.looks.runs) stops.runs,
+      Appends-trans before w after was.looks.sent stops.sent was.looks.wrote stops.wrote,
+      kept,
+      stops.ends,
+    )
 looking_fails unread mid left before w after blank k copied old reads asked still last bytes fb failed fa af Device
     new was more same counted stops =
     let cut = stops.1 in (
       counted stops.0,
-      search (whole_read unread mid left was.fed bytes cut.fed cut.later was.read more cut.bytes_are,
-          turn_then old last new was.fed was.looks.sent cut.fed cut.sent was.looks.updates cut.updates cut.asks
-          (open_turn old last was.fed was.looks.sent was.looks.updates still was.going was.looks.runs) cut.runs,
-          begun_after before w after was.looks.sent cut.sent was.looks.wrote cut.wrote,
-          begun_after blank k copied was.fed cut.fed was.looks.kept cut.kept,
-          first_then by_bytes bytes_join old last was.fed cut.fed asked still before w after blank k copied
-          was.looks was.going cut.first),
+      search (
+        whole_read unread mid left was.fed bytes cut.fed cut.later was.read more cut.bytes_are,
+        turn_then old last new was.fed was.looks.sent cut.fed cut.sent was.looks.updates cut.updates cut.asks
+            (open_turn old last was.fed was.looks.sent was.looks.updates still was.going was.looks.runs) cut.runs,
+        begun_after before w after was.looks.sent cut.sent was.looks.wrote cut.wrote,
+        begun_after blank k copied was.fed cut.fed was.looks.kept cut.kept,
+        first_then by_bytes bytes_join old last was.fed cut.fed asked still before w after blank k copied
+            was.looks was.going cut.first,
+      ),
     )
 looking_fails unread mid left before w after blank k copied old reads asked still last bytes fb failed fa af
     (ServerEnded fault) new was more same counted stops = absurd stops

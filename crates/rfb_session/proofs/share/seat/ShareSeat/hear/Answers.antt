@@ -15,8 +15,11 @@ use Rattle.rfb_session.proofs.share.seat.ShareSeat.hear.Goals.{in-Answers, in-Up
 pub invariant_of-self : goal.invariant_of-self
 invariant_of-self c =
     let s = c.args.self.now in
-    assumption (s, fits_refused s.session c.feed.new.self s.waiting c.in_err-fed.field-0.0 c.in_err-fed.ensures.fails
-    c.in_err-fed.ensures.refused s.roomy)
+    assumption (
+      s,
+      fits_refused s.session c.feed.new.self s.waiting c.in_err-fed.field-0.0 c.in_err-fed.ensures.fails
+          c.in_err-fed.ensures.refused s.roomy,
+    )
 
 pub returns-in_err-fed-clause-ended : goal.returns-in_err-fed-clause-ended
 returns-in_err-fed-clause-ended c =
@@ -74,14 +77,20 @@ invariant_of-self-in-Answers c =
 pub invariant_of-self-in-Update : goal.invariant_of-self-in-Update
 invariant_of-self-in-Update c =
     let s = c.args.self.now in
-    assumption (s, update_fits s c.feed.new.self _ _ _ c.feed.result c.in_ok-fed.fed c.feed.ensures.failed
-    c.in_ok-fed.was c.in_ok-fed.ensures.takes.fed (ap (λ (w : Waiting). holds_update w) c.in-Update.is))
+    assumption (
+      s,
+      update_fits s c.feed.new.self _ _ _ c.feed.result c.in_ok-fed.fed c.feed.ensures.failed
+          c.in_ok-fed.was c.in_ok-fed.ensures.takes.fed (ap (λ (w : Waiting). holds_update w) c.in-Update.is),
+    )
 
 pub invariant_of-self-in-Shared : goal.invariant_of-self-in-Shared
 invariant_of-self-in-Shared c =
     let s = c.args.self.now in
-    assumption (s, update_fits s c.feed.new.self _ _ _ c.feed.result c.in_ok-fed.fed c.feed.ensures.failed
-    c.in_ok-fed.was c.in_ok-fed.ensures.takes.fed (ap (λ (w : Waiting). holds_update w) c.in-Shared.is))
+    assumption (
+      s,
+      update_fits s c.feed.new.self _ _ _ c.feed.result c.in_ok-fed.fed c.feed.ensures.failed
+          c.in_ok-fed.was c.in_ok-fed.ensures.takes.fed (ap (λ (w : Waiting). holds_update w) c.in-Shared.is),
+    )
 
 pub returns-clause-heard : goal.returns-clause-heard
 returns-clause-heard c =
