@@ -1,5 +1,6 @@
 -- What the command that plays a script has read and written, of either kind.
-use Rattle.std.proofs.Common.{◌≡◌, ◌⊎◌, Bool, true, false, sym, ◌∙◌, inl, inr, IfSome, Option, Some, None, List, ℕ, []}
+use Rattle.std.proofs.Common.{◌≡◌, ◌⊎◌, Bool, true, false, sym, ◌∙◌, inl, inr, IfSome}
+use Rattle.std.proofs.Common.{Option, Some, None, List, ℕ, []}
 use Rattle.std.proofs.Common.{◌++◌}
 use Rattle.rfb_pixel.specs.declared.colour.Colour.{Colour}
 use Rattle.rfb_picture.specs.Grid.{Grid}
@@ -14,7 +15,8 @@ use Rattle.rfb.specs.declared.script.hub.hub_step.HubNumbered.{HubNumbered}
 use Rattle.rfb_session.specs.declared.language.screen.Screen.{Screen as Size}
 use Rattle.rfb.specs.CommandLine.{FailsAt, FailsAtAny, FailsIn, HubPlayedTo, LeavesScript, PlaysAny, PlaysScript}
 use Rattle.rfb.specs.HubRun.{hub_events}
-use Rattle.rfb.specs.HubScript.{AreHubScript, BeginHub, IsFirstBadInHub, IsWithoutShow, StopsReadingAny, StopsReadingHub}
+use Rattle.rfb.specs.HubScript.{AreHubScript, BeginHub, IsFirstBadInHub, IsWithoutShow}
+use Rattle.rfb.specs.HubScript.{StopsReadingAny, StopsReadingHub}
 use Rattle.rfb.specs.Script.{IsFirstBad, IsWithoutScreen, StopsAt, StopsReading, lines_of}
 
 -- where reading stops at bad lines alone, and at faults, what was read after nothing is what there was to read

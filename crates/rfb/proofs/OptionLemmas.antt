@@ -1,6 +1,8 @@
 -- What was given to options, from what the getters tell.
-use Rattle.std.proofs.Common.{◌≡◌, ◌<◌, ◌≤◌, ◌∙◌, arith, ap, ap₂, sym, refl, subst, codes, [], ℕ, Bool, true, false, not, ◌&&◌}
-use Rattle.std.proofs.Common.{List, Option, Some, None, Result, Ok, Err, MatchResult, option_map, IfSome, is_some, Bor}
+use Rattle.std.proofs.Common.{◌≡◌, ◌<◌, ◌≤◌, ◌∙◌, arith, ap, ap₂, sym, refl, subst, codes, []}
+use Rattle.std.proofs.Common.{ℕ, Bool, true, false, not, ◌&&◌}
+use Rattle.std.proofs.Common.{List, Option, Some, None, Result, Ok, Err, MatchResult}
+use Rattle.std.proofs.Common.{option_map, IfSome, is_some, Bor}
 use Rattle.std.proofs.Common.{◌+◌, ◌++◌, ◌∷◌, append_assoc, inl, length, map, slice_index_or, take}
 use Rattle.std.proofs.lemmas.List.{flat_map_more, map_more}
 use Rattle.std.proofs.lemmas.Option.{none-some, same_Some}

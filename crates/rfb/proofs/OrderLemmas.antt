@@ -1,6 +1,7 @@
 -- Lines, one after another: what one more makes of them.
 use Rattle.std.proofs.Common.{◌≡◌, ◌≢◌, ◌<◌, ◌+◌, ◌∙◌, ℕ, Option, Some, List, [], ◌∷◌, ◌++◌, Bor, suc, ap, sym, refl}
-use Rattle.std.proofs.Common.{length, take, drop, get_or, arith, append_assoc, length-append, take-append-drop, drop-cons}
+use Rattle.std.proofs.Common.{length, take, drop, get_or, arith, append_assoc}
+use Rattle.std.proofs.Common.{length-append, take-append-drop, drop-cons}
 use Rattle.std.specs.Iterator.{Yields}
 use Rattle.std.proofs.lemmas.Iterator.{YieldsList}
 use Rattle.std.proofs.lemmas.Iterator.Consumers.{YieldsList-turn, YieldsList-so_far}

@@ -1,5 +1,6 @@
 -- How a command that runs a core ends, by what happened to the core.
-use Rattle.std.proofs.Common.{◌≡◌, ℕ, List, [], Option, None, Result, Ok, Err, IfErr, IsErrAnd, OnOk, OnErr, refl, subst}
+use Rattle.std.proofs.Common.{◌≡◌, ℕ, List, [], Option, None, Result, Ok, Err, IfErr}
+use Rattle.std.proofs.Common.{IsErrAnd, OnOk, OnErr, refl, subst}
 use Rattle.std.proofs.Common.{inr, sym}
 use Rattle.rfb_session.specs.declared.console.Console.{Console}
 use Rattle.rfb_session.specs.declared.drive.driver.Driver.{Driver}
