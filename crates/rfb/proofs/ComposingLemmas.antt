@@ -16,15 +16,17 @@ updates_into old new empty update before after none wrote was = record {
   sent = λ serving s prefix stands.
       let one = was.sent serving s prefix stands in
       record {
-        due = one.due;
         resulting = one.resulting;
-        bytes = one.bytes;
-        copies = one.copies;
-        blocks = one.blocks;
-        appended = wrote ∙ ap (λ (b : List ℕ). before ++ b)
-            (one.appended ∙ ap (λ (b : List ℕ). b ++ one.bytes) none);
-        composes = one.composes;
-        used = one.used;
+        update = record {
+          due = one.update.due;
+          bytes = one.update.bytes;
+          copies = one.update.copies;
+          blocks = one.update.blocks;
+          appended = wrote ∙ ap (λ (b : List ℕ). before ++ b)
+              (one.update.appended ∙ ap (λ (b : List ℕ). b ++ one.update.bytes) none);
+          composes = one.update.composes;
+          used = one.update.used;
+        };
         stands = one.stands;
       };
 }

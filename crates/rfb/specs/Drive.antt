@@ -1,8 +1,8 @@
 -- What a drive of a server does, as far as its core tells it: all that happens to it is what its doors
 -- bring, and what leaves there.
-use Rattle.std.specs.Prelude.{◌≡◌, ⊤, true, ℕ, ◌*◌, List, Option, Some, None}
-use Rattle.rfb_hello.specs.declared.version.Version.TheVariants.{V38}
+use Rattle.std.specs.Prelude.{◌≡◌, ⊤, ℕ, ◌*◌, List, Option, Some, None}
 use Rattle.rfb_session.specs.doors.Tenants.{Goes}
+use Rattle.rfb_session.specs.relay.Setup.{viewing_by}
 use Rattle.rfb_session.specs.declared.drive.driver.Driver.{Driver}
 use Rattle.rfb_session.specs.declared.drive.driver.DriverSetup.{DriverSetup}
 use Rattle.rfb_session.specs.declared.drive.driver.outcome.DriveOutcome.{DriveOutcome}
@@ -12,6 +12,7 @@ use Rattle.rfb_session.specs.drive.driver.Steps.{DriverSteps, LetsIn, TurnsAway}
 use Rattle.rfb_session.specs.drive.driver.Rigs.{RigStep}
 use Rattle.rfb.specs.Outcomes.{HappensUntil, LeavesCore}
 use Rattle.rfb.specs.Ends.{engine_fault}
+use Rattle.rfb.specs.Recording.{viewing_of}
 use Rattle.rfb.specs.declared.driving.drive_words.DriveOptions.{DriveOptions}
 use Rattle.rfb.specs.declared.driving.rig.FileRig.{FileRig}
 use Rattle.rfb.specs.declared.fault.Failure.{Failure}
@@ -24,12 +25,7 @@ use Rattle.rfb.specs.declared.fault.Undone.TheVariants as undone
 pub record IsDriveSetup (options : DriveOptions) (setup : DriverSetup) : Type 0 where
   pub limit : setup.limit ≡ 1000 * options.timeout
   pub tells : setup.tells_changes ≡ options.tells_changes
-  pub format : setup.viewer.format ≡ options.wants.format
-  pub encodings : setup.viewer.encodings.items ≡ options.wants.encodings.items
-  pub version : setup.viewer.limit ≡ V38
-  pub shared : setup.viewer.shared ≡ true
-  pub max_places : setup.viewer.max_places ≡ 16777216
-  pub text_limit : setup.viewer.text_limit ≡ 1024
+  pub viewer : viewing_by setup.viewer ≡ viewing_of options.wants.format options.wants.encodings.items
 
 -- a driver that was told nothing, as options ask for it; P has the files
 abbrev pub IsDriverOf : (P : Type 0) → DriveOptions → Driver (FileRig P) → Type 0

@@ -1,16 +1,17 @@
 -- What a relay does, as far as its core tells it: all that happens to it is what its doors bring, and
 -- what leaves there.
-use Rattle.std.specs.Prelude.{◌≡◌, true, ℕ, ◌*◌, List, Option, option_map, take}
-use Rattle.rfb_hello.specs.declared.version.Version.TheVariants.{V38}
+use Rattle.std.specs.Prelude.{◌≡◌, ℕ, ◌*◌, List, Option, option_map, take}
 use Rattle.rfb_session.specs.declared.console.Outcome.{Outcome}
 use Rattle.rfb_session.specs.declared.relay.Relay.{Relay}
 use Rattle.rfb_session.specs.doors.Tenants.{Goes}
 use Rattle.rfb_session.specs.declared.relay.setup.RelaySetup.{RelaySetup}
 use Rattle.rfb_session.specs.relay.Server.{IsFreshRelay}
+use Rattle.rfb_session.specs.relay.Setup.{viewing_by}
 use Rattle.rfb_session.specs.relay.Relay.{DeclinesRelay, OpensRelay, RelaySteps}
 use Rattle.rfb.specs.Outcomes.{HappensUntil, LeavesCore}
 use Rattle.rfb.specs.Ends.{EndsWell, FailsFor, IsNoEnd}
 use Rattle.rfb.specs.Hosting.{IsHosted}
+use Rattle.rfb.specs.Recording.{viewing_of}
 use Rattle.rfb.specs.declared.fault.Failure.{Failure}
 use Rattle.rfb.specs.declared.relaying.relay_words.RelayOptions.{RelayOptions}
 use Rattle.rfb.specs.declared.sharing.speaker.Reporter.{Reporter}
@@ -23,12 +24,7 @@ pub record IsSetupOf (options : RelayOptions) (setup : RelaySetup) : Type 0 wher
   pub hosted : IsHosted options.hosting setup.rules
   pub hold : setup.rules.hold ≡ 1000
   pub retry : setup.rules.retry ≡ option_map (λ seconds. 1000 * seconds) options.retry
-  pub format : setup.viewer.format ≡ options.wants.format
-  pub encodings : setup.viewer.encodings.items ≡ options.wants.encodings.items
-  pub limit : setup.viewer.limit ≡ V38
-  pub shared : setup.viewer.shared ≡ true
-  pub max_places : setup.viewer.max_places ≡ 16777216
-  pub viewer_text_limit : setup.viewer.text_limit ≡ 1024
+  pub viewer : viewing_by setup.viewer ≡ viewing_of options.wants.format options.wants.encodings.items
 
 -- a relay that was told nothing, as options ask for it
 abbrev pub IsRelayOf : RelayOptions → Relay Reporter → Type 0

@@ -1,11 +1,11 @@
 //! What ends are made with where nothing else is said.
 
-ghost use Rattle.std.specs.Prelude.{◌≡◌, ◌∷◌, [], true, IfOk};
-ghost use Rattle.rfb_hello.specs.declared.version.Version.TheVariants.{V38};
+ghost use Rattle.std.specs.Prelude.{◌≡◌, ◌∷◌, [], IfOk};
 ghost use Rattle.rfb_wire.specs.declared.encoding.Encoding.TheVariants.{CopyRect, Hextile};
 ghost use Rattle.rfb_wire.specs.declared.encoding.Encoding.TheVariants.{Raw, Rre};
 ghost use Rattle.rfb.specs.ScriptRun.{IsFreshServer};
-ghost use Rattle.rfb.specs.Recording.{IsFresh};
+ghost use Rattle.rfb_session.specs.relay.Setup.{viewing_by};
+ghost use Rattle.rfb.specs.Recording.{IsFresh, viewing_of};
 
 use arrayvec::ArrayVec;
 use rfb_hello::Version;
@@ -57,12 +57,7 @@ pub fn fresh_viewer(alloc: Global, format: Format, encodings: ArrayVec<Encoding,
 
 /// What such a viewer is made with.
 pub fn viewer_setup(format: Format, encodings: ArrayVec<Encoding, 4>) -> ViewerSetup
-    ensures format { result.format ≡ format }
-    ensures encodings { result.encodings.items ≡ encodings.items }
-    ensures limit { result.limit ≡ V38 }
-    ensures shared { result.shared ≡ true }
-    ensures max_places { result.max_places ≡ 16777216 }
-    ensures text_limit { result.text_limit ≡ 1024 }
+    ensures { viewing_by result ≡ viewing_of format encodings.items }
 {
     ViewerSetup {
         format,

@@ -1,8 +1,8 @@
 //! A server that lines drive: keys, a pointer and texts go to it, and what its screen shows is
 //! waited for, compared and saved.
 //!
-//! The core of it is a `Driver`, which has no IO. It is behind the doors of a share: at the first of
-//! them the connection to the server, at the second the lines. Its `FileRig` has the files.
+//! The core of it is a `Driver`, which has no IO. It is behind the doors of a share: at the first
+//! of them the connection to the server, at the second the lines. Its `FileRig` has the files.
 
 ghost use Rattle.std.specs.Prelude.{OnOk, OnErr, IfErr};
 ghost use Rattle.rfb.specs.Context.{KeepsStreams};

@@ -20,8 +20,9 @@ use std::io::{IsTerminal, Read, Write};
 use std::net::Net;
 use std::time::Clock;
 
-/// Does what an order asks for. A file that is named is read in place of the input, and so are words
-/// that are lines. Where a file cannot be opened, or not be read or written whole, sentences say so.
+/// Does what an order asks for. A file that is named is read in place of the input, and so are
+/// words that are lines. Where a file cannot be opened, or not be read or written whole, sentences
+/// say so.
 pub fn work_through<P: AllocGlobal + Clock + Files + Net, R: Read, W: Write, E: Write>(
     context: &mut Context<P, R, W, E>,
     order: Order<'_>,

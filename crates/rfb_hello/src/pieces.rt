@@ -22,8 +22,8 @@ pub const WORD_PART: usize = WORD_SIZE - 1;
 
 pub const INIT_PART: usize = INIT_SIZE - 1;
 
-/// Takes bytes of a word, of which a part has come. Returns how many these were, and the word, if it
-/// is whole now.
+/// Takes bytes of a word, of which a part has come. Returns how many these were, and the word, if
+/// it is whole now.
 pub fn gather_word(part: &mut ArrayVec<u8, WORD_PART>, bytes: &[u8]) -> (usize, Option<u32>)
     requires some { 0 < length bytes.now }
     ensures used { (0 < result.0) × (result.0 ≤ length bytes.now) }

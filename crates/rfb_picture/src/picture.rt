@@ -1,7 +1,7 @@
 //! A picture of places, each with a value.
 
-ghost use Rattle.std.specs.Prelude.{◌≡◌, ℕ, ◌+◌, ◌*◌, ◌<◌, ◌≤◌, ◌↔◌, length, slice_index_or, false, IfOk};
-ghost use Rattle.std.specs.Prelude.{IsTrue};
+ghost use Rattle.std.specs.Prelude.{◌≡◌, ℕ, ◌+◌, ◌*◌, ◌<◌, ◌≤◌, ◌↔◌, length, slice_index_or, false};
+ghost use Rattle.std.specs.Prelude.{IfOk, IsTrue};
 ghost use Rattle.std.specs.Borrow.{sem};
 ghost use Rattle.rfb_picture.specs.inside.Lines.{AreInOrder, IsKept};
 ghost use Rattle.rfb_picture.specs.inside.Runs.{RowsPut, RunPut};
@@ -172,9 +172,9 @@ impl<T: Copy> Picture<T> {
         );
     }
 
-    /// The same by pieces of as many places as `piece` has, each of which is `value`, and which stays
-    /// the caller's: for a caller that knows the type of a place, and how many a row has at least.
-    /// It is compiled into its caller.
+    /// The same by pieces of as many places as `piece` has, each of which is `value`. It stays the
+    /// caller's, who knows the type of a place, and how many a row has at least. It is compiled
+    /// into its caller.
     #[inline(always)]
     pub fn fill_by<const N: usize>(&mut self, rect: Rect, value: T, piece: &[T; N])
         requires held { Holds self.old rect }
@@ -281,8 +281,8 @@ impl<T: Copy> Picture<T> {
     }
 }
 
-// Writes `rows`, one after the other, over the rectangle's, in lines of `width` places. Where no row
-// has moved its loop looks up no line.
+// Writes `rows`, one after the other, over the rectangle's, in lines of `width` places. Where no
+// row has moved its loop looks up no line.
 fn put_rows<T: Copy>(
     places: &mut [T],
     is_turned: bool,

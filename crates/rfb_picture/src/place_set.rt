@@ -1,6 +1,7 @@
 //! A set of the places of a picture.
 
-ghost use Rattle.std.specs.Prelude.{◌≡◌, ◌↔◌, ◌%◌, ◌<◌, ◌≤◌, ◌+◌, ◌*◌, ◌/◌, ◌&&◌, false, true, IfOk, IsTrue};
+ghost use Rattle.std.specs.Prelude.{◌≡◌, ◌↔◌, ◌%◌, ◌<◌, ◌≤◌, ◌+◌, ◌*◌, ◌/◌, ◌&&◌, false, true};
+ghost use Rattle.std.specs.Prelude.{IfOk, IsTrue};
 
 use crate::plane::Plane;
 use crate::rect::Rect;

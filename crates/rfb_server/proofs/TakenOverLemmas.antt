@@ -35,14 +35,13 @@ use Rattle.rfb_server.specs.inside.Ended.{progress_at}
 use Rattle.rfb_server.specs.Progress.{is_ready, is_idle, fault_in, ProgressStandsFor, IsHeadBegun}
 use Rattle.rfb_server.specs.Server.{Serving, ServerState}
 use Rattle.rfb_server.specs.Twins.{AreTwins, HasSentTwin}
-use Rattle.rfb_server.specs.UpdateCall.{HasSent, SendsUpdate}
+use Rattle.rfb_server.specs.UpdateCall.{HasSent, IsUpdate, SendsUpdate}
 use Rattle.rfb_server.specs.inside.Twins.{HasTakenOver}
-use Rattle.rfb_server.specs.inside.Composed.{IsUpdate}
 use Rattle.rfb_server.specs.inside.Sends.{state_of}
 use Rattle.rfb_server.proofs.ComposesLemmas.{all_cells}
 use Rattle.rfb_server.proofs.RecordLemmas.{same_values}
 use Rattle.rfb_server.proofs.ServerLaws.{same_notes}
-use Rattle.rfb_server.proofs.UpdatingLemmas.{same_state, state_is, ready_point, stands_anew, update_sent, sent_update}
+use Rattle.rfb_server.proofs.UpdatingLemmas.{same_state, state_is, ready_point, stands_anew, sent_update}
 
 -- ---- cell by cell
 
@@ -257,11 +256,11 @@ module _ (screen : Grid Colour) (session was sent : Session) (before after : Lis
 
   wide : sent.known.width ≡ session.known.width
   wide = ap (λ (g : Grid (Option ℕ)). g.width) (sym made.stands.known_is)
-      ∙ (made.composes.same_size.columns ∙ ap (λ (g : Grid (Option ℕ)). g.width) (sym known_is))
+      ∙ (made.update.composes.same_size.columns ∙ ap (λ (g : Grid (Option ℕ)). g.width) (sym known_is))
 
   high : sent.known.height ≡ session.known.height
   high = ap (λ (g : Grid (Option ℕ)). g.height) (sym made.stands.known_is)
-      ∙ (made.composes.same_size.rows ∙ ap (λ (g : Grid (Option ℕ)). g.height) (sym known_is))
+      ∙ (made.update.composes.same_size.rows ∙ ap (λ (g : Grid (Option ℕ)). g.height) (sym known_is))
 
   pub leaves_all : LeavesAll screen session sent
   leaves_all = record {
@@ -272,14 +271,14 @@ module _ (screen : Grid Colour) (session was sent : Session) (before after : Lis
         let q' : y < session.known.height = rw (← high) q in
         let asked : asked_at was.area x y ≡ true = rw (← area_is) (twin.all_asked x y p' q') in
         ap (λ (g : Grid (Option ℕ)). at_or g x y None) (sym made.stands.known_is)
-        ∙ (made.composes.answered x y (rw (about.alike.columns) p', rw (about.alike.rows) q') asked
+        ∙ (made.update.composes.answered x y (rw (about.alike.columns) p', rw (about.alike.rows) q') asked
         ∙ ap (λ (f : PixelFormat). Some (wanted_at screen f x y)) (sym form_is));
   }
 
   -- it is past its handshake
   pub sent_ready : is_ready sent.progress ≡ true
   sent_ready = ready_point (session_serving was) sent.hello sent.progress made.resulting.point []
-      made.composes.same_point made.stands.progress_is
+      made.update.composes.same_point made.stands.progress_is
 
   -- so one that takes it over is sent that update too
   pub sends_too : (new : Session) → HasTakenOver screen session new → SendsUpdate screen session new before after
@@ -291,7 +290,7 @@ module _ (screen : Grid Colour) (session was sent : Session) (before after : Lis
         ∙ same_before in
         let first : IsUpdate (state_of screen was) (state_of screen new) (hints_in was) before after =
         subst (λ (r : ServerState). IsUpdate (state_of screen was) r (hints_in was) before after) result_is
-        (update_sent (session_serving was) (state_of screen was) [] (hints_in was) screen sent before after made) in
+        made.update in
         sent_update serving s prefix (hints_in session) screen new before after
         (subst (λ (h : List Hint). IsUpdate s (state_of screen new) h before after) (sym twin.hints_are)
         (subst (λ (t : ServerState). IsUpdate t (state_of screen new) (hints_in was) before after) (sym is) first))
@@ -310,10 +309,10 @@ module _ (screen : Grid Colour) (session was sent : Session) (before after : Lis
       result_is = same_state made.resulting.point
           (Second tt) made.resulting.screen screen made.resulting.known new.known
           made.resulting.area new.area made.resulting.form new.format made.resulting.encodings new.encodings
-          made.composes.same_point made.stands.screen_is known_now
-          (made.composes.emptied ∙ (ap (λ (a : Places). nothing a) (sym area_is) ∙ sym taken.area))
-          (made.composes.same_format ∙ (sym form_is ∙ sym taken.setting.format))
-          (made.composes.same_encodings ∙ (sym list_is ∙ sym taken.setting.encodings))
+          made.update.composes.same_point made.stands.screen_is known_now
+          (made.update.composes.emptied ∙ (ap (λ (a : Places). nothing a) (sym area_is) ∙ sym taken.area))
+          (made.update.composes.same_format ∙ (sym form_is ∙ sym taken.setting.format))
+          (made.update.composes.same_encodings ∙ (sym list_is ∙ sym taken.setting.encodings))
 
 -- ---- before the handshake is done
 

@@ -33,7 +33,8 @@ use Rattle.rfb_server.specs.UsedHints.{AreUsed, usable}
 use Rattle.rfb_server.proofs.ClaimLemmas.{nothing_claimed}
 use Rattle.rfb_server.proofs.UsingLemmas.{used_all}
 use Rattle.rfb_server.specs.Progress.{is_ready}
-use Rattle.rfb_server.specs.inside.Composed.{IsUpdate, HasComposed, StaysIdle, IsSettled, IsCounted}
+use Rattle.rfb_server.specs.UpdateCall.{IsUpdate}
+use Rattle.rfb_server.specs.inside.Composed.{HasComposed, StaysIdle, IsSettled, IsCounted}
 use Rattle.rfb_server.proofs.NeedingLemmas.{differs_not}
 use Rattle.rfb_server.proofs.KeptLemmas.{setting_then, kept_then}
 use Rattle.rfb_server.proofs.SentCells.{quiet_unless}

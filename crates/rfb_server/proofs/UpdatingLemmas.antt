@@ -23,8 +23,8 @@ use Rattle.rfb_server.specs.inside.Sessions.{IsSame}
 use Rattle.rfb_server.specs.Composition.{IsDue}
 use Rattle.rfb_server.specs.Hints.{hints_in}
 use Rattle.rfb_server.specs.inside.Sends.{state_of}
-use Rattle.rfb_server.specs.inside.Composed.{IsAwaited, IsUpdate, HasComposed, StaysIdle}
-use Rattle.rfb_server.specs.UpdateCall.{HasSent, SendsUpdate, OwesUpdate, OwesNone, NoneDue}
+use Rattle.rfb_server.specs.inside.Composed.{IsAwaited, HasComposed, StaysIdle}
+use Rattle.rfb_server.specs.UpdateCall.{HasSent, IsUpdate, SendsUpdate, OwesUpdate, OwesNone, NoneDue}
 use Rattle.rfb_server.proofs.KeptLemmas.{setting_back}
 use Rattle.rfb_server.proofs.ServerLaws.{session_over, same_notes}
 
@@ -117,34 +117,14 @@ stands_same serving screen old new s prefix same stands = record {
   encodings_are = stands.encodings_are ∙ sym same.setting.encodings;
 }
 
--- what was sent is an update
-pub update_sent : (serving : Serving) (s : ServerState) (prefix : List ℕ) (hints : List Hint) (screen : Grid Colour)
-    (new : Session) (before after : List ℕ) (sent : HasSent serving s prefix hints screen new before after) →
-    IsUpdate s sent.resulting hints before after
-update_sent serving s prefix hints screen new before after sent = record {
-  due = sent.due;
-  bytes = sent.bytes;
-  copies = sent.copies;
-  blocks = sent.blocks;
-  appended = sent.appended;
-  composes = sent.composes;
-  used = sent.used;
-}
-
--- and an update was sent
+-- an update was sent
 pub sent_update : (serving : Serving) (s : ServerState) (prefix : List ℕ) (hints : List Hint) (screen : Grid Colour)
     (new : Session) (before after : List ℕ) → IsUpdate s (state_of screen new) hints before after →
     SessionStandsFor serving screen new (state_of screen new) prefix →
     HasSent serving s prefix hints screen new before after
 sent_update serving s prefix hints screen new before after update stands = record {
-  due = update.due;
   resulting = state_of screen new;
-  bytes = update.bytes;
-  copies = update.copies;
-  blocks = update.blocks;
-  appended = update.appended;
-  composes = update.composes;
-  used = update.used;
+  update = update;
   stands = stands;
 }
 

@@ -96,14 +96,14 @@ hint_of (Hint area sx sy) = Some (record { to = area; sx = sx; sy = sy })
 
 -- the copy that it is, if it is one
 abbrev pub copy_of : Stroke → Option HintOf
+copy_of (Copy area sx sy) = Some (record { to = area; sx = sx; sy = sy })
+copy_of (Scroll area dx dy) = Some (scroll_hint area dx dy)
 copy_of (Fill area colour) = None
 copy_of (Put x y row) = None
 copy_of (Rows area rows) = None
+copy_of (Hint area sx sy) = None
 copy_of (Pixels area form bytes) = None
 copy_of (Bytes area bytes) = None
-copy_of (Copy area sx sy) = Some (record { to = area; sx = sx; sy = sy })
-copy_of (Scroll area dx dy) = Some (scroll_hint area dx dy)
-copy_of (Hint area sx sy) = None
 
 abbrev pub notice_of : Stroke → Notice
 notice_of stroke = record { area = area_of stroke; copy = copy_of stroke; hint = hint_of stroke }

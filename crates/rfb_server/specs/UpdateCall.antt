@@ -14,18 +14,24 @@ use Rattle.rfb_server.specs.declared.hint.Hint.{Hint}
 use Rattle.rfb_server.specs.Hints.{hints_in, hints_of}
 use Rattle.rfb_server.specs.UsedHints.{AreUsed, usable}
 
--- one composing of what a session stood for, which was due: its bytes were appended, its copies are
--- those hints that are of use, and over the screen the session stands for what it leaves
-pub record HasSent (serving : Serving) (s : ServerState) (prefix : List ℕ) (hints : List Hint)
-    (screen : Grid Colour) (new : Session) (before after : List ℕ) : Type 0 where
-  pub due : IsDue s
-  pub resulting : ServerState
+-- an update was due and was appended, which leaves the other state; its copies are those of the
+-- hints that are of use
+pub record IsUpdate (old new : ServerState) (hints : List Hint) (before after : List ℕ)
+    : Type 0 where
+  pub due : IsDue old
   pub bytes : List ℕ
   pub copies : List Part
   pub blocks : List Part
   pub appended : after ≡ before ++ bytes
-  pub composes : Composes s resulting bytes copies blocks
-  pub used : AreUsed s (usable s hints) composes.moves
+  pub composes : Composes old new bytes copies blocks
+  pub used : AreUsed old (usable old hints) composes.moves
+
+-- such an update of what a session stood for was appended, and over the screen the session stands
+-- for what it leaves
+pub record HasSent (serving : Serving) (s : ServerState) (prefix : List ℕ) (hints : List Hint)
+    (screen : Grid Colour) (new : Session) (before after : List ℕ) : Type 0 where
+  pub resulting : ServerState
+  pub update : IsUpdate s resulting hints before after
   pub stands : SessionStandsFor serving screen new resulting prefix
 
 -- ---- a session

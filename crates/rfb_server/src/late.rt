@@ -135,8 +135,8 @@ impl LateSession {
         }
     }
 
-    /// Whether so little may need sending that no twin is worth finding, as `Session::is_slight` tells:
-    /// so it is before its handshake is done.
+    /// Whether so little may need sending that no twin is worth finding, as `Session::is_slight`
+    /// tells: so it is before its handshake is done.
     pub fn is_slight(&self) -> bool {
         match &self.stage {
             Stage::Entering(_) => true,

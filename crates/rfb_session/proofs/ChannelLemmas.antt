@@ -21,14 +21,16 @@ updates_rest screen old new all more k within updates = record {
   sent = λ serving s prefix stands.
       let one = updates.sent serving s prefix stands in
       record {
-        due = one.due;
         resulting = one.resulting;
-        bytes = one.bytes;
-        copies = one.copies;
-        blocks = one.blocks;
-        appended = rest_of all more one.bytes k within one.appended;
-        composes = one.composes;
-        used = one.used;
+        update = record {
+          due = one.update.due;
+          bytes = one.update.bytes;
+          copies = one.update.copies;
+          blocks = one.update.blocks;
+          appended = rest_of all more one.update.bytes k within one.update.appended;
+          composes = one.update.composes;
+          used = one.update.used;
+        };
         stands = one.stands;
       };
 }

@@ -52,13 +52,13 @@ composed_does screen old new told over none taken did = λ e n made reached here
     let forms : (notes_in new.session).form ≡ n.link.session.form =
     ap (λ (notes : Notes). notes.form)
     (session_noted e.serving n.screen new.session one.resulting c.server_has one.stands)
-    ∙ one.composes.same_format in (
+    ∙ one.update.composes.same_format in (
       record n { link = sent_link e n.link one },
       (refl, inl (sent_composes e n.link one)),
       record {
         moved = none;
         refused = taken;
-        composed = (λ _. one.due, λ _. did);
+        composed = (λ _. one.update.due, λ _. did);
       },
       refl,
       record {
@@ -68,7 +68,7 @@ composed_does screen old new told over none taken did = λ e n made reached here
           server_is = sent_stands e n.link one;
           viewer_is = subst (λ (v : Viewer). ViewerStandsFor e.viewing v n.link.viewer c.viewer_has)
               (sym over.viewer) c.viewer_is;
-          flies = rw (over.to_server, one.appended) flies;
+          flies = rw (over.to_server, one.update.appended) flies;
         };
         latest_is = sym (both.1 ∙ ap (λ (g : Grid Colour). Some (record {
           screen = g;

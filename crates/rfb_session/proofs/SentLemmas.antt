@@ -86,22 +86,22 @@ module _ (e : Ends) (old : LinkState) {screen : Grid Colour} {has : List ℕ} {h
   abbrev pub sent_link : LinkState
   sent_link = record old {
     session = session_of one.resulting;
-    to_viewer = old.to_viewer ++ update_items one.copies one.blocks;
+    to_viewer = old.to_viewer ++ update_items one.update.copies one.update.blocks;
     latest = Some (record { screen = screen; area = old.session.area; form = old.session.form });
   }
 
   after_same : server_of screen (session_of one.resulting) ≡ one.resulting
-  after_same = ap (λ (g : Grid Colour). server_of g (session_of one.resulting)) (sym one.composes.same_screen)
+  after_same = ap (λ (g : Grid Colour). server_of g (session_of one.resulting)) (sym one.update.composes.same_screen)
 
   pub sent_composes : ComposesOn screen old sent_link
   sent_composes = record {
-    due = one.due;
+    due = one.update.due;
     session = session_of one.resulting;
-    bytes = one.bytes;
-    copies = one.copies;
-    blocks = one.blocks;
-    composed = subst (λ (t : ServerState).
-        Composes (server_of screen old.session) t one.bytes one.copies one.blocks) (sym after_same) one.composes;
+    bytes = one.update.bytes;
+    copies = one.update.copies;
+    blocks = one.update.blocks;
+    composed = subst (λ (t : ServerState). Composes (server_of screen old.session) t
+        one.update.bytes one.update.copies one.update.blocks) (sym after_same) one.update.composes;
     result = refl;
   }
 
@@ -110,7 +110,7 @@ module _ (e : Ends) (old : LinkState) {screen : Grid Colour} {has : List ℕ} {h
       subst (λ (t : ServerState). SessionStandsFor e.serving screen session t has) (sym after_same) one.stands
 
   pub sent_flies : (f : Flight) → Holds e screen (core old) → Flies e old f →
-      Flies e sent_link (record f { viewer_gets = f.viewer_gets ++ one.bytes })
+      Flies e sent_link (record f { viewer_gets = f.viewer_gets ++ one.update.bytes })
   unfolding sent_composes
   sent_flies f h flies = composed_flies e screen old sent_link f h flies sent_composes
 

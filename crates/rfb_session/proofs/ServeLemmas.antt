@@ -95,13 +95,14 @@ pub composed_runs : (old new : Server) (out after : List ℕ) → Updates old ne
 composed_runs old new out after updates none =
     ran_did server_driven old new (Composed after) (λ serving s prefix stands.
     let one = updates.sent serving s prefix stands in
-    let bytes_are : one.bytes ≡ after = sym (one.appended ∙ ap (λ (l : List ℕ). l ++ one.bytes) none) in (
+    let sent = one.update in
+    let bytes_are : sent.bytes ≡ after = sym (sent.appended ∙ ap (λ (l : List ℕ). l ++ sent.bytes) none) in (
       one.resulting,
       (
-        one.due,
-        one.copies,
-        one.blocks,
-        subst (λ (b : List ℕ). Composes s one.resulting b one.copies one.blocks) bytes_are one.composes,
+        sent.due,
+        sent.copies,
+        sent.blocks,
+        subst (λ (b : List ℕ). Composes s one.resulting b sent.copies sent.blocks) bytes_are sent.composes,
       ),
       one.stands,
     ))
@@ -111,8 +112,10 @@ pub drawn_idle : (old mid new : Server) (out after : List ℕ) → Updates old m
     Draws (screen_of new) mid new → RunsToIdle old [] after 1 new
 drawn_idle old mid new out after updates none draws = λ serving s prefix stands.
     let one = updates.sent serving s prefix stands in
-    let bytes_are : one.bytes ≡ after = sym (one.appended ∙ ap (λ (l : List ℕ). l ++ one.bytes) none) in
-    let composes = subst (λ (b : List ℕ). Composes s one.resulting b one.copies one.blocks) bytes_are one.composes in (
+    let sent = one.update in
+    let bytes_are : sent.bytes ≡ after = sym (sent.appended ∙ ap (λ (l : List ℕ). l ++ sent.bytes) none) in
+    let composes = subst (λ (b : List ℕ). Composes s one.resulting b sent.copies sent.blocks) bytes_are
+    sent.composes in (
       record {
         steps = Did (Drawn (screen_of new)) ∷ Did (Composed after) ∷ [];
         state = with_screen (screen_of new) one.resulting;
@@ -120,7 +123,7 @@ drawn_idle old mid new out after updates none draws = λ serving s prefix stands
         runs = (
           one.resulting,
           prefix,
-          (s, prefix, (refl, refl), ((one.due, one.copies, one.blocks, composes), refl)),
+          (s, prefix, (refl, refl), ((sent.due, sent.copies, sent.blocks, composes), refl)),
           (refl, refl),
         );
         stands = draws.stands serving one.resulting prefix one.stands;
@@ -128,7 +131,7 @@ drawn_idle old mid new out after updates none draws = λ serving s prefix stands
         sent_is = sym (append-nil after);
         updates_are = refl;
       },
-      idle_empty (with_screen (screen_of new) one.resulting) s.area one.composes.emptied,
+      idle_empty (with_screen (screen_of new) one.resulting) s.area sent.composes.emptied,
     )
 
 -- a turn's end is an update or none

@@ -250,7 +250,7 @@ fits_sent screen old new waiting later before after sends none roomy = ∥∥₁
           stands = sent.stands;
           name = one.name;
           fit = none sent.resulting.point (ap (λ (point : ClientAt). answers_left point)
-              (sent.composes.same_point ∙ sent.due.ready));
+              (sent.update.composes.same_point ∙ sent.update.due.ready));
         }
 
 -- ---- an update of which some bytes are kept no more

@@ -66,19 +66,19 @@ lived_sent serving screen old new heard sent update was sends =
     let one = sends.sent serving was.state was.rest was.stands in
     record {
       first = was.first;
-      steps = Did (Composed one.bytes) ∷ was.steps;
+      steps = Did (Composed one.update.bytes) ∷ was.steps;
       state = one.resulting;
       rest = was.rest;
       runs = (
         was.state,
         was.rest,
         was.runs,
-        ((one.due, one.copies, one.blocks, one.composes), refl),
+        ((one.update.due, one.update.copies, one.update.blocks, one.update.composes), refl),
       );
       stands = one.stands;
       heard_is = was.heard_is ∙ sym (append-nil (fed_in was.steps));
       sent_is = ap (λ (l : List ℕ). l ++ update) was.sent_is
-          ∙ ap (λ (l : List ℕ). sent_in (session_driven was.first) was.steps ++ l) one.appended;
+          ∙ ap (λ (l : List ℕ). sent_in (session_driven was.first) was.steps ++ l) one.update.appended;
     }
 
 -- nothing that it stands for has changed

@@ -34,14 +34,14 @@ sent_watched e share n a b k viewer to_server on_way here there reached c sends 
     let one = sends.update.sent e.serving s c.server_has c.server_is in
     let composes = sent_composes e n.link one in
     let flies = sent_flies e n.link one _ (reached_holds e n reached) c.flies in
-    let gets : on_way ++ waiting_in b ≡ (on_way ++ waiting_in a) ++ one.bytes =
-    ap (λ (q : List ℕ). on_way ++ q) one.appended
-    ∙ ap (λ (q : List ℕ). q ++ one.bytes) (sym (append-nil on_way)
+    let gets : on_way ++ waiting_in b ≡ (on_way ++ waiting_in a) ++ one.update.bytes =
+    ap (λ (q : List ℕ). on_way ++ q) one.update.appended
+    ∙ ap (λ (q : List ℕ). q ++ one.update.bytes) (sym (append-nil on_way)
     ∙ ap (λ (q : List ℕ). on_way ++ q) (sym sends.written)) in
     goes_by e share k viewer to_server on_way n (sent_link e n.link one) OfCompose b reached (refl, inl composes)
     there here
     (to_viewer_same e (record n { link = sent_link e n.link one }) b.session viewer to_server
-    ((on_way ++ waiting_in a) ++ one.bytes) (on_way ++ waiting_in b) gets
+    ((on_way ++ waiting_in a) ++ one.update.bytes) (on_way ++ waiting_in b) gets
     (record {
       server_has = c.server_has;
       viewer_has = c.viewer_has;

@@ -184,7 +184,7 @@ seat_idle : (screen : Grid Colour) (told : Composing) (seat : ShareSeat) (b : Op
     Rests screen seat → ComposesIn screen told (Some seat) b → IsIdle told
 seat_idle screen Composed seat (Some b) rests sends =
     not_owed screen seat sends.going rests.none
-    (λ serving s prefix stands. (sends.update.sent serving s prefix stands).due)
+    (λ serving s prefix stands. (sends.update.sent serving s prefix stands).update.due)
 seat_idle screen Composed seat None rests sends = sends
 seat_idle screen NotDue seat b rests composes = tt
 seat_idle screen Waiting seat (Some b) rests waits = waits.some rests.written

@@ -64,9 +64,9 @@ pub record ShowsUntil (p : UpdatePoint) (bytes : List ℕ) (before now : Grid Co
   pub front : List ℕ
   pub body : List ℕ
   pub unit : List ℕ
+  pub fault : PaintFault
   pub bytes_are : bytes ≡ front ++ (body ++ unit)
   pub awaits : AwaitsData p head front before
-  pub fault : PaintFault
   pub refused : IsRefused p.form head.rect head.encoding before body unit fault now
 
 -- what is stored is the picture, up to the end of a rectangle's head; of its data it shows those

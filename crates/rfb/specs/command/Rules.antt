@@ -91,12 +91,12 @@ picture_rule = text_rule (codes "picture")
 abbrev pub viewers_rule : Rule
 viewers_rule = record (number_rule (codes "viewers") 1 8) { defaults = codes "8" ∷ [] }
 
-abbrev pub name_rule : Rule
-name_rule = word_rule (codes "name") (codes "rfb")
-
 -- a name in place of a server's own
 abbrev pub other_name_rule : Rule
 other_name_rule = text_rule (codes "name")
+
+abbrev pub name_rule : Rule
+name_rule = word_rule (codes "name") (codes "rfb")
 
 abbrev pub idle_rule : Rule
 idle_rule = flag_rule (codes "until-idle")

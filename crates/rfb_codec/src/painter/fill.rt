@@ -7,8 +7,8 @@ ghost use Rattle.rfb_codec.specs.inside.Step.{IsPaintable, PaintsOver};
 use rfb_picture::{Picture, Rect};
 use rfb_pixel::Colour;
 
-/// Gives the colour to each place of the rectangle, as `Picture::fill` does. Most rectangles of text
-/// are one place wide: these are filled where it is called.
+/// Gives the colour to each place of the rectangle, as `Picture::fill` does. Most rectangles of
+/// text are one place wide: these are filled where it is called.
 #[inline(always)]
 pub fn fill(rect: Rect, colour: Colour, picture: &mut Picture<Colour>)
     requires { IsPaintable picture.old rect }

@@ -6,8 +6,8 @@ ghost use Rattle.rfb_picture.specs.inside.Runs.{RowsCopied, RunCopied};
 
 use crate::rect::Rect;
 
-// Gives each place of `dst` what its place of the rectangle at (`sx`, `sy`) had, in lines of `width`
-// places.
+// Gives each place of `dst` what its place of the rectangle at (`sx`, `sy`) had, in lines of
+// `width` places.
 pub(super) fn copy_rows<T: Copy>(
     places: &mut [T],
     lines: &[u16],

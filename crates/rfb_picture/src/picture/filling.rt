@@ -7,8 +7,8 @@ ghost use Rattle.rfb_picture.specs.inside.Runs.{RowsFilled, RunFilled};
 use super::lines::line_of;
 use crate::rect::Rect;
 
-// Gives `value` to each place of the rectangle, in lines of `width` places, by pieces of so many, or
-// place by place where a piece has none. Where no row has moved its loop looks up no line.
+// Gives `value` to each place of the rectangle, in lines of `width` places, by pieces of so many,
+// or place by place where a piece has none. Where no row has moved its loop looks up no line.
 #[inline(always)]
 pub(super) fn fill_rows<T: Copy, const N: usize>(
     places: &mut [T],
@@ -78,7 +78,8 @@ pub(super) fn fill_places<T: Copy, const N: usize>(
 }
 
 // Gives `value` to each place of a row. The last piece ends with the row, and may lie over the one
-// before it. A loop over a slice of its own needs fewer than half of the instructions of one by index.
+// before it. A loop over a slice of its own needs fewer than half of the instructions of one by
+// index.
 #[inline(always)]
 fn fill_row<T: Copy, const N: usize>(row: &mut [T], value: T, piece: &[T; N])
     requires wide { N ≤ length row.old }

@@ -1,6 +1,7 @@
 //! The lines that a picture's rows are in.
 
-ghost use Rattle.std.specs.Prelude.{◌≡◌, ℕ, ◌+◌, ◌*◌, ◌<◌, ◌≤◌, length, slice_index_or, false, IfOk};
+ghost use Rattle.std.specs.Prelude.{◌≡◌, ℕ, ◌+◌, ◌*◌, ◌<◌, ◌≤◌, length, slice_index_or, false};
+ghost use Rattle.std.specs.Prelude.{IfOk};
 ghost use Rattle.rfb_picture.specs.inside.Lines.{AreInOrder, IsKept, other_of, place_in};
 ghost use Rattle.rfb_picture.specs.inside.Turn.{Turned, rest_of};
 
@@ -62,7 +63,8 @@ pub(super) fn put_in_order<T: Copy>(
     }
 }
 
-// The same where it may be another one. It is called for few pictures, and out of the way of the rest.
+// The same where it may be another one. It is called for few pictures, and out of the way of
+// the rest.
 #[inline(never)]
 fn settle<T: Copy>(lines: &mut [u16], places: &mut [T], width: usize)
     requires { IsKept width (length lines.old) lines.old places.old }
@@ -105,8 +107,8 @@ pub(super) struct Rows {
 }
 
 // Of rows that are copied over others by fewer rows than they are, those go into the lines of their
-// source. It tells which rows are left to be copied: those that are read and not written, since their
-// lines are gone.
+// source. It tells which rows are left to be copied: those that are read and not written, since
+// their lines are gone.
 pub(super) fn turn(lines: &mut [u16], rows: Rows) -> Rows
     requires target { rows.to + rows.count ≤ length lines.old }
     requires source { rows.from + rows.count ≤ length lines.old }

@@ -9,8 +9,8 @@ use Rattle.rfb_server.specs.declared.hint.Hint.{Hint}
 use Rattle.rfb_server.specs.declared.session.Session.{Session}
 use Rattle.rfb_server.specs.Server.{ServerState}
 use Rattle.rfb_server.specs.Progress.{is_ready}
-use Rattle.rfb_server.specs.Composition.{Part, Composes, IsDue}
-use Rattle.rfb_server.specs.UsedHints.{AreUsed, usable}
+use Rattle.rfb_server.specs.Composition.{IsDue}
+use Rattle.rfb_server.specs.UpdateCall.{IsUpdate}
 use Rattle.rfb_server.specs.inside.Sessions.{KeepsSetting, IsSame}
 use Rattle.rfb_server.specs.inside.Sends.{state_of}
 
@@ -19,19 +19,7 @@ pub record IsAwaited (screen : Grid Colour) (session : Session) : Type 0 where
   pub ready : is_ready session.progress ≡ true
   pub due : IsDue (state_of screen session)
 
--- an update was due and was appended, which leaves the other state; its copies are those of the
--- hints that are of use
-pub record IsUpdate (old new : ServerState) (hints : List Hint) (before after : List ℕ)
-    : Type 0 where
-  pub due : IsDue old
-  pub bytes : List ℕ
-  pub copies : List Part
-  pub blocks : List Part
-  pub appended : after ≡ before ++ bytes
-  pub composes : Composes old new bytes copies blocks
-  pub used : AreUsed old (usable old hints) composes.moves
-
--- such an update was appended, and no hint is kept; the rest of the session is as it was
+-- an update was appended, and no hint is kept; the rest of the session is as it was
 pub record HasComposed (screen : Grid Colour) (old new : Session)
     (before after : List ℕ) : Type 0 where
   pub ready : is_ready old.progress ≡ true

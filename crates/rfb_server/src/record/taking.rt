@@ -47,7 +47,8 @@ impl Record {
         learn(&mut self.known, rect);
     }
 
-    /// What `other` knows of the rectangle, of which it knows each place, is known here from now on.
+    /// What `other` knows of the rectangle, of which it knows each place, is known here from
+    /// now on.
     #[tactic(auto, using(crate::proofs::RecordLemmas::record_sizes))]
     pub(crate) fn take_from(&mut self, other: &Record, rect: Rect)
         requires held { Holds self.old rect }

@@ -46,8 +46,8 @@ impl Session {
         self.asks_as(other) && self.agrees(other)
     }
 
-    /// Whether so little may need sending, of two cells of 64 by 64 places at most, that it is composed
-    /// sooner than twins are found. It is about costs: nothing rests on it.
+    /// Whether so little may need sending, of two cells of 64 by 64 places at most, that it is
+    /// composed sooner than twins are found. It is about costs: nothing rests on it.
     pub fn is_slight(&self) -> bool {
         let mut next = 0;
         for _ in 0..2 {

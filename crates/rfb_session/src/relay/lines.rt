@@ -1,8 +1,8 @@
 //! Lines that tell what the server of a relay does.
 
 ghost use Rattle.std.specs.Prelude.{◌≡◌, ◌++◌, List, ℕ, OnOk};
-ghost use Rattle.rfb_session.specs.relay.ServerLines.{bell_line, server_text_line, up_line, IsDownLine};
-ghost use Rattle.rfb_session.specs.relay.ServerLines.{IsDownFor};
+ghost use Rattle.rfb_session.specs.relay.ServerLines.{bell_line, server_text_line, up_line};
+ghost use Rattle.rfb_session.specs.relay.ServerLines.{IsDownFor, IsDownLine};
 
 use crate::console::lines::tell_name;
 use crate::owner::tell_text_hex;

@@ -26,8 +26,8 @@ pub(crate) enum Waiting {
 impl Waiting {
     ghost use Rattle.rfb_session.specs.ShareRoom.{kept_in, memory_of, IsCut};
 
-    /// An update is shared from now on, if there is memory for that: of its own it has what its bytes
-    /// need then.
+    /// An update is shared from now on, if there is memory for that: of its own it has what its
+    /// bytes need then.
     pub(crate) fn share(&mut self, alloc: Global)
         ensures kept { kept_in self.new ≡ kept_in self.old }
         ensures memory { memory_of self.new ≤ memory_of self.old }
@@ -44,9 +44,9 @@ impl Waiting {
         };
     }
 
-    /// The first of those kept are written, so many of them. An update that is not shared gives their
-    /// memory back, and what was reserved for it, where it is the first time or at least half of it
-    /// is written. How many written ones are still kept is the answer.
+    /// The first of those kept are written, so many of them. An update that is not shared gives
+    /// their memory back, and what was reserved for it, where it is the first time or at least half
+    /// of it is written. How many written ones are still kept is the answer.
     pub(crate) fn cut(&mut self, written: usize) -> usize
         requires { written ≤ length (kept_in self.old) }
         ensures rest { drop result (kept_in self.new) ≡ drop written (kept_in self.old) }

@@ -1,6 +1,6 @@
 -- The law of a head whose first byte decides its size.
-use Rattle.std.proofs.Common.{◌≡◌, ℕ, ◌+◌, ◌*◌, ◌-◌, ◌<◌, inl, inr, List, [], ◌∷◌, ◌++◌, Option, Some, None, length, slice_index}
-use Rattle.std.proofs.Common.{refl, sym, subst, ◌∙◌, ap, length-append, arith}
+use Rattle.std.proofs.Common.{◌≡◌, ℕ, ◌+◌, ◌*◌, ◌-◌, ◌<◌, inl, inr, List, [], ◌∷◌, ◌++◌, Option, Some, None, length}
+use Rattle.std.proofs.Common.{slice_index, refl, sym, subst, ◌∙◌, ap, length-append, arith}
 use Rattle.rfb_wire.specs.stream.Reading.{Reading, Says, Reads, Same, Listed}
 use Rattle.rfb_wire.specs.stream.Parts.{waiting, refused, valued, rest_of_head, headed, and_then}
 use Rattle.rfb_wire.specs.stream.Heads.{BeginsNone, Misses, SpellsList, SpellsText}

@@ -11,12 +11,14 @@ pub returns-in-Some : goal.returns-in-Some
 returns-in-Some c =
     let mask = c.args.strip.mask in
     let bits = c.all_bits.result in
+    let across = c.args.strip.across in
+    let column = c.args.strip.column in
     gathered _ c.args.top c.args.bottom c.in-Some.first c.last_row-last.result (bit_and bits mask) c.in-Some.ensures
     c.last_row-last.ensures (and_lt 64 bits mask (omega arith) (omega arith))
     (λ y i p l h.
-    let (marked, masked) = and_parts (has_at c.args.words.now c.args.strip.across y c.args.strip.column i) (has_bit mask i) h in
+    let (marked, masked) = and_parts (has_at c.args.words.now across y column i) (has_bit mask i) h in
     rw has_bit-and (and_from (has_bit bits i) (has_bit mask i) (c.all_bits.ensures.each y i p l marked) masked))
     (λ i h.
     let (set, masked) = and_parts (has_bit bits i) (has_bit mask i) (rw has_bit-and at h) in
     let (y, p, l, marked) = c.all_bits.ensures.some i set in
-    (y, p, l, and_from (has_at c.args.words.now c.args.strip.across y c.args.strip.column i) (has_bit mask i) marked masked))
+    (y, p, l, and_from (has_at c.args.words.now across y column i) (has_bit mask i) marked masked))

@@ -108,8 +108,8 @@ impl Session {
         count
     }
 
-    // Tells the viewer to copy by a hint, if that is of use. There is room for it. One that is known
-    // to be of no use is not judged again.
+    // Tells the viewer to copy by a hint, if that is of use. There is room for it. One that is
+    // known to be of no use is not judged again.
     fn send_copy(
         &mut self,
         screen: &Picture<Colour>,
