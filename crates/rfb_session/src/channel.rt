@@ -33,18 +33,18 @@ impl Model for Channel {
 }
 
 impl Channel {
-    ghost use Rattle.rfb_wire.specs.ClientMessage.{SpellsClientMessage};
-    ghost use Rattle.rfb_viewer.specs.Viewer.{Viewing, ViewerState};
-    ghost use Rattle.rfb_viewer.specs.Model.{StandsFor};
-    ghost use Rattle.rfb_viewer.specs.Call.{append_refusal_of, called, is_noted, message_bytes};
-    ghost use Rattle.rfb_viewer.specs.Call.{message_of, refusal_for, refused_by, text_in};
-    ghost use Rattle.rfb_server.specs.KnownScreen.{Follows};
     ghost use Rattle.rfb_server.specs.Hints.{hints_in};
+    ghost use Rattle.rfb_server.specs.KnownScreen.{Follows};
     ghost use Rattle.rfb_server.specs.Model.{session_fault};
     ghost use Rattle.rfb_server.specs.UpdateCall.{SendsUpdate, OwesUpdate, OwesNone};
     ghost use Rattle.rfb_session.specs.LinkBytes.{IsCalled};
     ghost use Rattle.rfb_session.specs.inside.Room.{IsSameSize};
     ghost use Rattle.rfb_session.specs.relay.Desk.{CallsShare};
+    ghost use Rattle.rfb_viewer.specs.Call.{append_refusal_of, called, is_noted, message_bytes};
+    ghost use Rattle.rfb_viewer.specs.Call.{message_of, refusal_for, refused_by, text_in};
+    ghost use Rattle.rfb_viewer.specs.Model.{StandsFor};
+    ghost use Rattle.rfb_viewer.specs.Viewer.{Viewing, ViewerState};
+    ghost use Rattle.rfb_wire.specs.ClientMessage.{SpellsClientMessage};
 
     /// A channel with nothing in flight. It takes no memory.
     pub(crate) fn new(alloc: Global) -> Channel

@@ -1,17 +1,17 @@
 //! What a session has before it has the memory of its places.
 
 ghost use Rattle.std.specs.Prelude.{◌≡◌, ◌≤◌, ◌<◌, length, true, None, Some, IfOk, IfErr, Err};
-ghost use Rattle.rfb_pixel.specs.declared.colour.Colour.{Colour};
-ghost use Rattle.rfb_picture.specs.Grid.{Grid};
-ghost use Rattle.rfb_picture.specs.Area.{no_places};
 ghost use Rattle.rfb_hello.specs.ServerModel.{left_of};
-ghost use Rattle.rfb_server.specs.KnownScreen.{Follows};
+ghost use Rattle.rfb_picture.specs.Area.{no_places};
+ghost use Rattle.rfb_picture.specs.Grid.{Grid};
+ghost use Rattle.rfb_pixel.specs.declared.colour.Colour.{Colour};
 ghost use Rattle.rfb_server.specs.Hints.{hints_in};
-ghost use Rattle.rfb_server.specs.Progress.{is_partial};
+ghost use Rattle.rfb_server.specs.KnownScreen.{Follows};
 ghost use Rattle.rfb_server.specs.Model.{session_fault, session_serving, serving_with};
+ghost use Rattle.rfb_server.specs.Progress.{is_partial};
 ghost use Rattle.rfb_server.specs.declared.fault.ServerFault.{ServerFault};
-ghost use Rattle.rfb_server.specs.inside.Marks.{AreAlike, none_known, all_marked};
 ghost use Rattle.rfb_server.specs.inside.Ended.{progress_at};
+ghost use Rattle.rfb_server.specs.inside.Marks.{AreAlike, none_known, all_marked};
 
 use crate::drawing::Notice;
 use crate::event::ServerEvent;

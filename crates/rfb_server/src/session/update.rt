@@ -8,11 +8,11 @@ ghost use Rattle.std.specs.Vec.{vec_capacity};
 ghost use Rattle.rfb_server.specs.Claims.{IsClaimed};
 ghost use Rattle.rfb_server.specs.KnownScreen.{Follows};
 ghost use Rattle.rfb_server.specs.Progress.{is_ready};
-ghost use Rattle.rfb_server.specs.inside.Sends.{IsEnough, AreLimits};
-ghost use Rattle.rfb_server.specs.inside.Sessions.{IsSame};
-ghost use Rattle.rfb_server.specs.inside.Copies.{usable_hints, AreMarkedFor};
 ghost use Rattle.rfb_server.specs.inside.Composed.{IsAwaited, HasComposed, StaysIdle};
 ghost use Rattle.rfb_server.specs.inside.Composed.{IsSettled, IsCounted};
+ghost use Rattle.rfb_server.specs.inside.Copies.{usable_hints, AreMarkedFor};
+ghost use Rattle.rfb_server.specs.inside.Sends.{IsEnough, AreLimits};
+ghost use Rattle.rfb_server.specs.inside.Sessions.{IsSame};
 
 mod asked;
 mod cells;
@@ -40,10 +40,10 @@ use std::alloc::AllocError;
 const UPDATE_HEAD_SIZE: usize = 4;
 
 impl Session {
-    ghost use Rattle.rfb_server.specs.Model.{KeepsSession, session_fault};
-    ghost use Rattle.rfb_server.specs.UpdateCall.{SendsUpdate, OwesUpdate, OwesNone};
     ghost use Rattle.rfb_server.specs.Hints.{hints_in};
+    ghost use Rattle.rfb_server.specs.Model.{KeepsSession, session_fault};
     ghost use Rattle.rfb_server.specs.Room.{GrowsWithin, update_room};
+    ghost use Rattle.rfb_server.specs.UpdateCall.{SendsUpdate, OwesUpdate, OwesNone};
 
     /// Appends to `out` one FramebufferUpdate, RFC 6143 section 7.6.1, of what the viewer asked for
     /// and does not have of the screen, which it is lent, and tells whether it did: exactly where

@@ -4,20 +4,20 @@ ghost use Rattle.std.specs.Prelude.{◌≡◌, ◌↔◌, ◌<◌, ◌≤◌, �
 ghost use Rattle.std.specs.Prelude.{Err, IfOk, IfErr, IfSome, OnOk, OnErr, IsErr, IsTrue};
 ghost use Rattle.std.specs.Prelude.{option_copied};
 ghost use Rattle.std.specs.Option.{ForSome};
+ghost use Rattle.rfb_codec.specs.Effect.{IsAlike};
+ghost use Rattle.rfb_hello.specs.declared.version.Version.TheVariants.{V38};
 ghost use Rattle.rfb_picture.specs.Grid.{IsGrid};
 ghost use Rattle.rfb_picture.specs.Places.{has_bit};
-ghost use Rattle.rfb_codec.specs.Effect.{IsAlike};
 ghost use Rattle.rfb_server.specs.Model.{notes_in};
-ghost use Rattle.rfb_viewer.specs.Damage.{damage_of};
-ghost use Rattle.rfb_viewer.specs.Moved.{moved_of};
-ghost use Rattle.rfb_viewer.specs.Model.{picture_of};
-ghost use Rattle.rfb_viewer.specs.declared.fault.AppendFault.TheVariants.{Refused};
-ghost use Rattle.rfb_viewer.specs.declared.fault.CallFault.TheVariants.{NotReady};
-ghost use Rattle.rfb_hello.specs.declared.version.Version.TheVariants.{V38};
 ghost use Rattle.rfb_session.specs.Mirrors.{seen_by, IsAsked, StandsOrFailed};
 ghost use Rattle.rfb_session.specs.ShareMoves.{IsRelayed};
 ghost use Rattle.rfb_session.specs.ShareSeats.{session_at};
 ghost use Rattle.rfb_session.specs.Slots.{seat_at, OnSlot};
+ghost use Rattle.rfb_viewer.specs.Damage.{damage_of};
+ghost use Rattle.rfb_viewer.specs.Model.{picture_of};
+ghost use Rattle.rfb_viewer.specs.Moved.{moved_of};
+ghost use Rattle.rfb_viewer.specs.declared.fault.AppendFault.TheVariants.{Refused};
+ghost use Rattle.rfb_viewer.specs.declared.fault.CallFault.TheVariants.{NotReady};
 
 mod telling;
 
@@ -37,10 +37,10 @@ use telling::{tell_all, tell_whole};
 
 impl Share {
     ghost use Rattle.rfb_server.specs.Model.{serving_with};
-    ghost use Rattle.rfb_viewer.specs.Call.{text_in};
     ghost use Rattle.rfb_session.specs.Share.{IsEmptyShare, serving_in, screen_of, viewer_of};
     ghost use Rattle.rfb_session.specs.ShareMirrors.{FeedsOn, FailsOn, MakesOn, ShowsOther};
     ghost use Rattle.rfb_session.specs.ShareMirrors.{IsShowable, IsShownInstead};
+    ghost use Rattle.rfb_viewer.specs.Call.{text_in};
 
     /// A share of the picture that a viewer has, with eight empty seats. Each session offers
     /// versions up to 3.8, names the screen, and keeps at most `text_limit` bytes of each text that

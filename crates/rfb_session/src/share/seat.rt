@@ -35,17 +35,17 @@ pub struct ShareSeat {
 }
 
 impl ShareSeat {
-    ghost use Rattle.rfb_pixel.specs.declared.colour.Colour.{Colour};
-    ghost use Rattle.rfb_picture.specs.Grid.{Grid};
     ghost use Rattle.rfb_hello.specs.Version.{version_text};
+    ghost use Rattle.rfb_picture.specs.Grid.{Grid};
+    ghost use Rattle.rfb_pixel.specs.declared.colour.Colour.{Colour};
     ghost use Rattle.rfb_server.specs.KnownScreen.{Follows};
     ghost use Rattle.rfb_server.specs.Model.{session_fault};
     ghost use Rattle.rfb_server.specs.UpdateCall.{HasAsked};
     ghost use Rattle.rfb_session.specs.ShareSeats.{waiting_in, session_at, is_update, IsFresh};
     ghost use Rattle.rfb_session.specs.ShareSeats.{IsSeatOf, Hears, ComposesAt, WantsRoom};
     ghost use Rattle.rfb_session.specs.ShareSeats.{WritesAt, Sends};
-    ghost use Rattle.rfb_session.specs.ShareTwins.{AreSeatTwins, HasComposedTwin, IsShared};
     ghost use Rattle.rfb_session.specs.ShareSlots.{EndsAtSeat};
+    ghost use Rattle.rfb_session.specs.ShareTwins.{AreSeatTwins, HasComposedTwin, IsShared};
 
     /// A seat of a session that was fed nothing, with its greeting.
     pub(crate) fn new(alloc: Global, session: LateSession) -> ShareSeat

@@ -2,17 +2,17 @@
 
 ghost use Rattle.std.specs.Prelude.{◌≡◌, ℕ, [], ◌∷◌, length, All, None, Some};
 ghost use Rattle.std.specs.Option.{ForSome};
-ghost use Rattle.rfb_pixel.specs.declared.colour.Colour.{Colour};
+ghost use Rattle.rfb_codec.specs.Effect.{IsAlike};
 ghost use Rattle.rfb_picture.specs.Grid.{Grid, IsGrid, Holds};
 ghost use Rattle.rfb_picture.specs.Rect.{rect};
-ghost use Rattle.rfb_codec.specs.Effect.{IsAlike};
-ghost use Rattle.rfb_server.specs.Strokes.{area_told, hint_told};
+ghost use Rattle.rfb_pixel.specs.declared.colour.Colour.{Colour};
 ghost use Rattle.rfb_server.specs.KnownScreen.{IsTold};
 ghost use Rattle.rfb_server.specs.Model.{notes_in};
-ghost use Rattle.rfb_viewer.specs.Damage.{IsSameOutside};
+ghost use Rattle.rfb_server.specs.Strokes.{area_told, hint_told};
 ghost use Rattle.rfb_session.specs.ShareMoves.{IsRelayed, GetsChange, GetsMoves, GetsWhole};
 ghost use Rattle.rfb_session.specs.ShareSeats.{session_at};
 ghost use Rattle.rfb_session.specs.Slots.{seat_at, OnSlot};
+ghost use Rattle.rfb_viewer.specs.Damage.{IsSameOutside};
 
 use crate::share::seat::ShareSeat;
 use crate::slots::{Follower, SLOTS};

@@ -1,6 +1,6 @@
 use Rattle.std.proofs.Common.{None, arith}
 use Rattle.std.proofs.lemmas.List.{get_or_default}
-use Rattle.rfb_session.proofs.ShareTwinLemmas.{given_start, given_more, given_end, heir_still, shared_there}
+use Rattle.rfb_session.proofs.GivenLemmas.{given_start, given_more, given_end, heir_still, shared_there}
 use Rattle.rfb_session.proofs.share.twins.give_all.Goals as goal
 
 pub loop-place-init : goal.loop-place-init

@@ -1,5 +1,5 @@
 use Rattle.rfb_session.specs.Slots.{seat_at}
-use Rattle.rfb_session.proofs.ShareTwinLemmas.{IsGivenBelow}
+use Rattle.rfb_session.proofs.GivenLemmas.{IsGivenBelow}
 use Rattle.rfb_session.proofs.share.twins.give_all.Given as goal
 
 abbrev pub invariant-loop-place : goal.invariant-loop-place

@@ -1,8 +1,8 @@
 use Rattle.std.proofs.Common.{◌∙◌, ◌<◌, None, arith, length, refl}
 use Rattle.std.proofs.lemmas.Bool.{OnTrue_at, OnTrue_from}
 use Rattle.std.proofs.lemmas.List.{get_or_default, length-set}
-use Rattle.rfb_session.proofs.ShareTwinLemmas.{seat_before, seat_between, heir_between, given_between}
-use Rattle.rfb_session.proofs.ShareTwinLemmas.{own_before}
+use Rattle.rfb_session.proofs.GivenLemmas.{seat_before, seat_between, heir_between, given_between}
+use Rattle.rfb_session.proofs.GivenLemmas.{own_before}
 use Rattle.rfb_session.proofs.SlotLemmas.{seat_set_same}
 use Rattle.rfb_session.proofs.share.twins.give_apart.Goals as goal
 
