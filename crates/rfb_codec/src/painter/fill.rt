@@ -4,6 +4,7 @@ ghost use Rattle.std.specs.Prelude.{◌≡◌, ℕ, ◌<◌, slice_index_or};
 ghost use Rattle.rfb_pixel.specs.declared.colour.Colour.{Colour};
 ghost use Rattle.rfb_codec.specs.inside.Step.{IsPaintable, PaintsOver};
 
+use crate::hextile::tiles::TILE;
 use rfb_picture::{Picture, Rect};
 use rfb_pixel::Colour;
 
@@ -33,6 +34,20 @@ pub fn fill_wide(rect: Rect, colour: Colour, picture: &mut Picture<Colour>)
         picture.fill_by(rect, colour, &line_of::<4>(colour));
     } else {
         picture.fill(rect, colour);
+    }
+}
+
+/// The same over a tile. Most have sixteen places in a row, and so one piece.
+#[inline(never)]
+pub fn fill_tile(rect: Rect, colour: Colour, picture: &mut Picture<Colour>)
+    requires { IsPaintable picture.old rect }
+    ensures { PaintsOver rect (λ x y. colour) picture.old picture.new }
+{
+    if rect.w == TILE {
+        let tile = Rect { w: TILE, ..rect };
+        picture.fill_by(tile, colour, &line_of::<16>(colour));
+    } else {
+        fill_wide(rect, colour, picture);
     }
 }
 

@@ -13,7 +13,7 @@ ghost use Rattle.rfb_codec.specs.Painter.{over};
 use super::reading::place_of;
 use super::tile_read::{Seen, TileRead, or_zero};
 use crate::hextile::layout::TileLayout;
-use crate::painter::fill::{fill, fill_wide};
+use crate::painter::fill::{fill, fill_tile};
 use crate::raw::paint_rows;
 use crate::subrect::Subrect;
 use rfb_picture::{Picture, Rect};
@@ -71,36 +71,44 @@ struct TileSubs {
     count: usize,
 }
 
-// Paints the background over the rectangle, and then the subrectangles, which lie inside it.
-// Inlined, so that its loop is made anew for each of the two calls, which know whether they have
-// pixels of their own; and for the format that this project announces, which is known before it
-// runs.
-#[inline(always)]
+// Paints the background over the rectangle, and then the subrectangles, which lie inside it. There
+// is a loop for those of one colour, and one for those that have pixels of their own; of these,
+// another for the format that this project announces, which is known before it runs.
+#[inline(never)]
 fn draw_subs(format: Format, rect: Rect, subs: TileSubs, list: &[u8], picture: &mut Picture<Colour>)
     requires place { IsPaintable picture.old rect }
     requires inside { HasSubs format rect subs list.now }
     ensures { PaintsSubs format rect subs list.now picture.old picture.new }
 {
-    if format == Format::rgb888() {
-        draw_each(Format::rgb888(), rect, subs, list, picture);
+    if !subs.colored {
+        draw_each(format, rect, subs, false, list, picture);
+    } else if format == Format::rgb888() {
+        draw_each(Format::rgb888(), rect, subs, true, list, picture);
     } else {
-        draw_each(format, rect, subs, list, picture);
+        draw_each(format, rect, subs, true, list, picture);
     }
 }
 
-// The same, by one loop for every format. The background is filled by a call: with that inlined
-// too, this would be too large to be inlined itself.
+// The same, by one loop for every format. `colored` is known where it is called.
 #[inline(always)]
-fn draw_each(format: Format, rect: Rect, subs: TileSubs, list: &[u8], picture: &mut Picture<Colour>)
+fn draw_each(
+    format: Format,
+    rect: Rect,
+    subs: TileSubs,
+    colored: bool,
+    list: &[u8],
+    picture: &mut Picture<Colour>,
+)
+    requires colored { subs.colored ≡ colored }
     requires place { IsPaintable picture.old rect }
     requires inside { HasSubs format rect subs list.now }
     ensures { PaintsSubs format rect subs list.now picture.old picture.new }
 {
-    fill_wide(rect, unpacked(format, subs.background), picture);
+    fill_tile(rect, unpacked(format, subs.background), picture);
     let own = unpacked(format, subs.foreground);
     for n in 0..subs.count {
-        let part = sub_at(format, subs.foreground, subs.colored, n, list);
-        let colour = colour_at(format, subs.colored, own, part.pixel);
+        let part = sub_at(format, subs.foreground, colored, n, list);
+        let colour = colour_at(format, colored, own, part.pixel);
         let places = part.rect.moved_by(rect.x, rect.y);
         fill(places, colour, picture);
     }

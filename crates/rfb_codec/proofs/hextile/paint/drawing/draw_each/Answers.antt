@@ -19,18 +19,19 @@ loop-n-init c =
     let before = c.args.picture.now in
     record {
       value =
-          c.fill_wide.ensures.value
+          c.fill_tile.ensures.value
           ∙ ap (λ k. filled rect k before) c.unpacked.ensures
           ∙ ap (λ (all : List Subrect). over rect (λ x y. colour_of f (pixel_at c.args.subs.background all x y))
           before) (subs_in-none f c.args.subs.foreground c.args.subs.colored c.args.list.now);
-      width = c.fill_wide.ensures.width;
-      height = c.fill_wide.ensures.height;
+      width = c.fill_tile.ensures.width;
+      height = c.fill_tile.ensures.height;
     }
 
 pub fill-requires : goal.fill-requires
 fill-requires c =
     let rect = c.args.rect in
-    let is = c.sub_at-part.ensures in
+    let is : c.sub_at-part.result ≡ sub_after c.args.format c.args.subs.foreground c.args.subs.colored c.loop-n.n
+    c.args.list.now = rw c.requires.colored c.sub_at-part.ensures in
     let on : IsOnScreen rect.w rect.h c.sub_at-part.result.rect = subst (λ (s : Subrect). IsOnScreen rect.w rect.h
     s.rect) (sym is) (c.requires.inside.inside c.loop-n.n c.loop-n-test.true) in
     let screen : IsOnScreen c.loop-n.picture.width c.loop-n.picture.height rect =
@@ -59,7 +60,8 @@ loop-n-preserved c =
     let s = c.sub_at-part.result in
     let before = c.args.picture.now in
     let subs = subs_in f c.args.subs.foreground c.args.subs.colored n c.args.list.now in
-    let is = c.sub_at-part.ensures in
+    let is : s ≡ sub_after f c.args.subs.foreground c.args.subs.colored n c.args.list.now =
+    rw c.requires.colored c.sub_at-part.ensures in
     let on : IsOnScreen rect.w rect.h s.rect = subst (λ (s : Subrect). IsOnScreen rect.w rect.h s.rect) (sym is)
     (c.requires.inside.inside n c.loop-n-test.true) in
     record {
