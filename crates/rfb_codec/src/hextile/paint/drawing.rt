@@ -20,6 +20,7 @@ use rfb_picture::{Picture, Rect};
 use rfb_pixel::{Colour, Format};
 
 /// Paints a tile that was read from the bytes over its rectangle. `seen` has its own colours too.
+#[inline(always)]
 pub fn draw_tile(
     format: Format,
     rect: Rect,

@@ -16,6 +16,7 @@ use rfb_picture::{Picture, Rect};
 use rfb_pixel::{Colour, Format};
 
 /// The rectangle's tile with that number, if the bytes begin with all of it.
+#[inline(always)]
 pub fn read_next(
     format: Format,
     rect: Rect,
@@ -37,6 +38,7 @@ pub fn read_next(
 }
 
 /// Paints the tile that was read from the bytes, and returns the colours seen after it.
+#[inline(always)]
 pub fn draw_next(
     format: Format,
     rect: Rect,

@@ -25,6 +25,7 @@ use rfb_pixel::Format;
 /// The tile of that size that the bytes begin with, after tiles that have specified the colours
 /// seen. None where it is not all there. A mask is judged at its byte, and subrectangles that leave
 /// the tile at the last byte of the tile.
+#[inline(always)]
 pub fn read_tile(
     format: Format,
     seen: Seen,
@@ -85,6 +86,7 @@ fn fault_of_mask(mask: u8, seen: Seen) -> Option<PaintFault>
 }
 
 // Where the parts of a tile lie after its mask, if they are all there.
+#[inline(always)]
 fn find(format: Format, width: u16, height: u16, mask: u8, bytes: &[u8]) -> Option<TileRead>
     requires size { (width ≤ 16) × (height ≤ 16) }
     requires mask { 1 ≤ length bytes.now }
@@ -117,6 +119,7 @@ fn find(format: Format, width: u16, height: u16, mask: u8, bytes: &[u8]) -> Opti
 }
 
 // The tile, if all of its bytes are there.
+#[inline(always)]
 fn whole(
     layout: TileLayout,
     list: usize,
@@ -141,6 +144,7 @@ fn whole(
 
 // The colour at that place, if it is named, and the place after it. None where it is not all
 // there.
+#[inline(always)]
 fn find_colour(format: Format, named: bool, bytes: &[u8], at: usize) -> Option<(Option<u32>, usize)>
     requires place { at ≤ length bytes.now }
     requires low { at ≤ 8 }
@@ -160,6 +164,7 @@ fn find_colour(format: Format, named: bool, bytes: &[u8], at: usize) -> Option<(
 }
 
 // The number of subrectangles at that place, if there are any, and the place after it.
+#[inline(always)]
 fn find_count(any: bool, bytes: &[u8], at: usize) -> Option<(usize, usize)>
     requires place { at ≤ length bytes.now }
     requires low { at ≤ 12 }
@@ -177,6 +182,7 @@ fn find_count(any: bool, bytes: &[u8], at: usize) -> Option<(usize, usize)>
 }
 
 // Whether all subrectangles of a tile lie in it.
+#[inline(always)]
 fn fits(format: Format, width: u16, height: u16, read: TileRead, bytes: &[u8]) -> bool
     requires { LiesIn format width height read bytes.now }
     ensures { result ≡ are_inside width height

@@ -13,15 +13,17 @@ use super::next::{draw_next, read_next};
 use super::tile_read::Seen;
 use crate::fault::Flaw;
 use crate::hextile::mask::RAW;
+use crate::hextile::tiles::tile_count;
 use crate::painter::gather::{Pending, gather};
 use crate::painter::rectangle::Rectangle;
 use crate::painter::stage::{Place, Stage, Step};
 use rfb_picture::Picture;
 use rfb_pixel::Colour;
 
-/// Takes the tile that the bytes begin with, the mask of a raw one, or bytes of another, which is
+/// Takes the tiles that the bytes begin with, the mask of a raw one, or bytes of another, which is
 /// painted at its last byte. A mask is judged at its byte, and subrectangles that leave the tile at
 /// the tile's last byte.
+#[inline(never)]
 pub fn take_tile(
     rectangle: &Rectangle,
     tile: usize,
@@ -40,21 +42,58 @@ pub fn take_tile(
     if !pending.is_empty() {
         return take_more(rectangle, tile, seen, pending, bytes, picture);
     }
+    take_whole(rectangle, tile, seen, pending, bytes, picture)
+}
+
+// Takes the whole tiles that the bytes begin with, from the first on, up to the last of the
+// rectangle. Of one that is not whole it takes the mask, if it is raw, or else all bytes.
+#[inline(always)]
+fn take_whole(
+    rectangle: &Rectangle,
+    first: usize,
+    seen: Seen,
+    pending: &mut Pending,
+    bytes: &[u8],
+    picture: &mut Picture<Colour>,
+) -> Result<Step, Flaw>
+    requires place { IsPaintable picture.old rectangle.now.rect }
+    requires below { first < tile_count rectangle.now.rect.w rectangle.now.rect.h }
+    requires none { array_vec_len pending.old ≡ 0 }
+    requires some { 0 < length bytes.now }
+    ensures { Steps rectangle.now (InTiles first seen) [] picture.old bytes.now result
+        pending.new.items picture.new }
+{
     let Rectangle { format, rect } = *rectangle;
-    match read_next(format, rect, tile, seen, bytes) {
-        Err(flaw) => Err(flaw),
-        Ok(Some(read)) => {
-            let seen = draw_next(format, rect, tile, seen, read, bytes, picture);
-            Ok(Step {
-                used: read.used,
-                stage: Stage::InTiles {
-                    tile: tile + 1,
-                    seen,
-                },
-            })
+    let count = tile_count(rect.w, rect.h);
+    let (mut tile, mut now, mut used) = (first, seen, 0);
+    'tiles: while tile < count && used < bytes.len() {
+        prove!(rectangle.lies_in(picture));
+        let slice = &bytes[used..];
+        match read_next(format, rect, tile, now, slice) {
+            Err(flaw) => {
+                return Err(Flaw {
+                    used: used + flaw.used,
+                    fault: flaw.fault,
+                });
+            }
+            Ok(None) => {
+                let step = take_front(tile, now, pending, slice);
+                return Ok(Step {
+                    used: used + step.used,
+                    stage: step.stage,
+                });
+            }
+            Ok(Some(read)) => {
+                now = draw_next(format, rect, tile, now, read, slice, picture);
+                used += read.used;
+                tile += 1;
+            }
         }
-        Ok(None) => Ok(take_front(tile, seen, pending, bytes)),
     }
+    Ok(Step {
+        used,
+        stage: Stage::InTiles { tile, seen: now },
+    })
 }
 
 // Takes the mask of a raw tile, or all bytes of another that is not whole.
@@ -91,6 +130,7 @@ fn take_front(tile: usize, seen: Seen, pending: &mut Pending, bytes: &[u8]) -> S
 
 // Takes bytes more of a tile that is not raw: all but the last of those that it has at least, or
 // that one.
+#[inline(never)]
 fn take_more(
     rectangle: &Rectangle,
     tile: usize,
