@@ -18,11 +18,12 @@ use Rattle.rfb_wire.proofs.stream_laws.ReadingLaws.{reads_bad}
 use Rattle.rfb_codec.specs.declared.fault.PaintFault.{PaintFault}
 use Rattle.rfb_codec.specs.declared.fault.Flaw.{Flaw}
 use Rattle.rfb_codec.specs.declared.painter.stage.Stage.{Stage}
+use Rattle.rfb_codec.specs.declared.painter.stage.Step.{Step}
 use Rattle.rfb_codec.specs.RectData.{data_says, rect_data}
 use Rattle.rfb_codec.specs.Front.{ShowsFront}
 use Rattle.rfb_codec.specs.Stage.{encoding_at, is_ended, is_sound, StandsAt, IsRefused}
 use Rattle.rfb_codec.specs.declared.painter.rectangle.Rectangle.{Rectangle}
-use Rattle.rfb_codec.specs.inside.Step.{stage_of, GoesOn, Stops, Reaches, Breaks}
+use Rattle.rfb_codec.specs.inside.Step.{stage_of, GoesOn, Stops, Reaches, Takes, Breaks}
 use Rattle.rfb_codec.specs.UnderWay.{Paints, Waits, Refuses, ShowsWith}
 use Rattle.rfb_codec.proofs.RectDataLaws.{rect_data_reads}
 use Rattle.rfb_codec.proofs.VerdictLemmas.{whole_under, stage_ended, stage_waits}
@@ -122,6 +123,12 @@ stopped f rect first stage none pending old picture new i bytes slice flaw is sa
       waits = rw same at waits;
     }
 
+-- what is used of a slice ends within the bytes
+used_within : (i n : ℕ) (bytes slice : List ℕ) → slice ≡ drop i bytes → 0 < n → n ≤ length slice → i + n ≤ length bytes
+used_within i n bytes slice is some within =
+    let left : length slice ≡ length bytes - i = ap length is ∙ length-drop i bytes in
+    omega (arith, some, within, left)
+
 -- ---- the same of steps
 
 module _ (r : Rectangle) (first : Stage) (none : List ℕ) (old : Grid Colour) where
@@ -148,14 +155,25 @@ module _ (r : Rectangle) (first : Stage) (none : List ℕ) (old : Grid Colour) w
     height = two.height ∙ one.height;
   }
 
+  -- a step after others
+  pub takes_later : (stage : Stage) (step : Step) (i : ℕ) (bytes slice pending rest : List ℕ)
+      (picture new : Grid Colour) → slice ≡ drop i bytes →
+      Reaches r first none old (take i bytes) stage pending picture →
+      Takes r stage pending picture slice step rest new →
+      Takes r first none old bytes (record { used = i + step.used; stage = step.stage }) rest new
+  takes_later stage step i bytes slice pending rest picture new is one two = record {
+    reaches = reaches_more stage step.stage pending rest picture new i step.used bytes slice is one two.reaches;
+    used = used_within i step.used bytes slice is two.some two.used;
+    some = let some = two.some in omega (arith, some);
+  }
+
   pub breaks_later : (stage : Stage) (pending rest : List ℕ) (picture new : Grid Colour) (i : ℕ)
       (bytes slice : List ℕ) (flaw : Flaw) → slice ≡ drop i bytes → Reaches r first none old
       (take i bytes) stage pending picture → Breaks r stage pending picture slice flaw rest new →
       Breaks r first none old bytes (record { used = i + flaw.used; fault = flaw.fault }) rest new
   breaks_later stage pending rest picture new i bytes slice flaw is one two = record {
     some = let some = two.some in omega (arith, some);
-    within = let some = two.some in let within = two.within in let left : length slice ≡ length bytes - i = ap
-        length is ∙ length-drop i bytes in omega (arith, some, within, left);
+    within = used_within i flaw.used bytes slice is two.some two.within;
     stops = stopped r.format r.rect first stage none pending old picture new i bytes slice flaw is one.same
         one.goes_on two.stops;
     emptied = two.emptied;
