@@ -5,7 +5,7 @@ use Rattle.rfb_pixel.specs.declared.colour.Colour.{Colour}
 use Rattle.rfb_pixel.specs.Format.{PixelFormat}
 use Rattle.rfb_picture.specs.declared.rect.Rect.{Rect}
 use Rattle.std.specs.Prelude.{Bool}
-use Rattle.rfb_picture.specs.Grid.{Grid}
+use Rattle.rfb_picture.specs.Grid.{Grid, at_or}
 use Rattle.rfb_picture.proofs.GridLaws.{width-uniform, height-uniform}
 use Rattle.rfb_wire.specs.stream.Reading.{Next, More, Got, Bad}
 use Rattle.rfb_wire.specs.stream.Parts.{named}
@@ -31,6 +31,7 @@ use Rattle.rfb_server.specs.Model.{SessionStandsFor}
 use Rattle.rfb_server.specs.inside.Sessions.{KeepsUp, KeepsRest, StaysCaughtUp, BeginsMessage, BeginsList}
 use Rattle.rfb_server.specs.inside.Sessions.{IsAskedFor, HasFormat}
 use Rattle.rfb_server.proofs.ClaimLemmas.{nothing_claimed}
+use Rattle.rfb_server.proofs.RecordLemmas.{none_forgotten}
 
 -- ---- what is kept
 
@@ -43,6 +44,7 @@ up_same old new setup rest = record {
   columns = ap (λ (g : Grid (Option ℕ)). g.width) rest.known;
   rows = ap (λ (g : Grid (Option ℕ)). g.height) rest.known;
   hints = rest.hints;
+  known = λ _. rest.known;
   caught_up = λ screen size caught. rw (rest.known, rest.area, rest.format, rest.marks) caught;
   claimed = λ screen claimed. rw (rest.known, rest.format, rest.claim) claimed;
 }
@@ -54,6 +56,8 @@ up_then old mid new one two = record {
   columns = two.columns ∙ one.columns;
   rows = two.rows ∙ one.rows;
   hints = two.hints ∙ one.hints;
+  known = λ some. two.known some
+      ∙ one.known (λ none. some (ap (λ (g : Grid (Option ℕ)). at_or g 0 0 None) (two.known some) ∙ none));
   caught_up = λ screen size caught. two.caught_up screen
       (record { columns = size.columns ∙ sym one.columns; rows = size.rows ∙ sym one.rows })
       (one.caught_up screen size caught);
@@ -74,6 +78,7 @@ up_asked rect whole old new asked caught = record {
   columns = ap (λ (g : Grid (Option ℕ)). g.width) asked.known;
   rows = ap (λ (g : Grid (Option ℕ)). g.height) asked.known;
   hints = asked.hints;
+  known = λ _. asked.known;
   caught_up = caught;
   claimed = λ screen claimed. rw (asked.known, asked.setting.format, asked.claim) claimed;
 }
@@ -86,6 +91,8 @@ up_format format old new has caught = record {
   columns = ap (λ (g : Grid (Option ℕ)). g.width) has.known ∙ width-uniform old.known.width old.known.height None;
   rows = ap (λ (g : Grid (Option ℕ)). g.height) has.known ∙ height-uniform old.known.width old.known.height None;
   hints = has.hints;
+  known = λ some. absurd (some (ap (λ (g : Grid (Option ℕ)). at_or g 0 0 None) has.known
+      ∙ none_forgotten old.known));
   caught_up = caught;
   claimed = λ screen claimed. nothing_claimed screen new.known new.format new.claim has.claim;
 }

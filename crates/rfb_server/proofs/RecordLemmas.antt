@@ -1,5 +1,5 @@
 -- A record by its pixels and its set of known places.
-use Rattle.std.proofs.Common.{◌≡◌, ℕ, ◌<◌, ◌≤◌, ◌+◌, ◌-◌, ◌*◌, ◌||◌, Bool, true}
+use Rattle.std.proofs.Common.{◌≡◌, ℕ, zero, suc, replicate, ◌<◌, ◌≤◌, ◌+◌, ◌-◌, ◌*◌, ◌||◌, Bool, true}
 use Rattle.std.proofs.Common.{false, Option, Some, None}
 use Rattle.std.proofs.Common.{if◌then◌else◌, List, length, ap, sym, ◌∙◌, refl, arith, zero-add}
 use Rattle.std.proofs.lemmas.Bool.Decides.{nat_tests}
@@ -31,6 +31,16 @@ height-record_of pixels known = height-changed _ (forgotten pixels) ∙ height-u
 pub whole-record_of : (pixels : Grid ℕ) (known : Grid Bool) → IsGrid (record_of pixels known)
 unfolding record_of
 whole-record_of pixels known = whole-changed _ (forgotten pixels) (whole-uniform pixels.width pixels.height None)
+
+one_value : (n i : ℕ) (x : Option ℕ) → slice_index_or (replicate n x) i x ≡ x
+one_value zero i x = refl
+one_value (suc n) zero x = refl
+one_value (suc n) (suc i) x = one_value n i x
+
+-- nothing is known of the first place of what was forgotten
+pub none_forgotten : (known : Grid (Option ℕ)) → at_or (forgotten known) 0 0 None ≡ None
+unfolding uniform
+none_forgotten known = one_value (known.height * known.width) (0 * known.width + 0) None
 
 -- what is told of a record's size by its name alone
 pub ruleset record_sizes = (width-record_of, height-record_of, whole-record_of)

@@ -280,6 +280,13 @@ module _ (screen : Grid Colour) (session was sent : Session) (before after : Lis
   sent_ready = ready_point (session_serving was) sent.hello sent.progress made.resulting.point []
       made.update.composes.same_point made.stands.progress_is
 
+  -- what one that takes it over knows is what the sent one knows
+  pub taken_known : (new : Session) → HasTakenOver screen session new → new.known ≡ sent.known
+  taken_known new taken =
+      same_values None new.known sent.known new.alike.known_whole sent.alike.known_whole
+      (taken.width ∙ sym wide) (taken.height ∙ sym high) (λ x y p q. taken.shown x y p q
+      ∙ sym (leaves_all.shown x y (rw (wide, ← taken.width) p) (rw (high, ← taken.height) q)))
+
   -- so one that takes it over is sent that update too
   pub sends_too : (new : Session) → HasTakenOver screen session new → SendsUpdate screen session new before after
   sends_too new taken = record {
@@ -299,11 +306,7 @@ module _ (screen : Grid Colour) (session was sent : Session) (before after : Lis
   }
     where
       known_now : made.resulting.known ≡ new.known
-      known_now = made.stands.known_is
-          ∙ same_values None sent.known new.known sent.alike.known_whole new.alike.known_whole
-          (wide ∙ sym taken.width)
-          (high ∙ sym taken.height) (λ x y p q. leaves_all.shown x y p q
-          ∙ sym (taken.shown x y (rw (taken.width, ← wide) p) (rw (taken.height, ← high) q)))
+      known_now = made.stands.known_is ∙ sym (taken_known new taken)
 
       result_is : made.resulting ≡ state_of screen new
       result_is = same_state made.resulting.point

@@ -43,6 +43,10 @@ agree_clear one other cell clear clear_too = λ x y e m.
     absurd (no_either _ _ (unmarked x y (is_in one.marks) cell clear e)
     (unmarked x y (is_in other.marks) cell clear_too e) m)
 
+-- nor does what is known differ anywhere where both know the same
+pub agree_same : (one other : Session) (cell : Rect) → other.known ≡ one.known → AgreeIn one other cell
+agree_same one other cell same = λ x y e m. rw same refl
+
 -- and else within the bounds of both
 pub agree_boxed : (one other : Session) (cell here there : Rect) → IsBox (is_in one.marks) cell here →
     IsBox (is_in other.marks) cell there → here ≡ there → AreKnownAlike one.known other.known here →

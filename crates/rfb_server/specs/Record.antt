@@ -1,5 +1,5 @@
 -- What a session knows of its viewer's picture: at each place a pixel, or that it is not known.
-use Rattle.std.specs.Prelude.{◌≡◌, ℕ, ◌<◌, Bool, true, false, Option, Some, None, if◌then◌else◌}
+use Rattle.std.specs.Prelude.{◌≡◌, ◌≢◌, ℕ, ◌<◌, Bool, true, false, Option, Some, None, if◌then◌else◌}
 use Rattle.rfb_picture.specs.declared.rect.Rect.{Rect}
 use Rattle.rfb_picture.specs.Rect.{contains}
 use Rattle.rfb_picture.specs.Grid.{Grid, IsGrid, at_or, changed, uniform}
@@ -9,6 +9,10 @@ use Rattle.rfb_picture.specs.Area.{Places, IsArea, asked_at}
 -- nothing is known of any place of a screen of that size
 abbrev pub forgotten : {X : Type 0} → Grid X → Grid (Option ℕ)
 forgotten g = uniform g.width g.height None
+
+-- all that is known is kept, or it is forgotten, the first place too
+abbrev pub KeepsOrForgets : Grid (Option ℕ) → Grid (Option ℕ) → Type 0
+KeepsOrForgets old new = at_or new 0 0 None ≢ None → new ≡ old
 
 -- each place of the rectangle is known
 abbrev pub AreKnown : Grid (Option ℕ) → Rect → Type 0

@@ -41,7 +41,7 @@ impl Model for LateSession {
 
 impl LateSession {
     ghost use Rattle.rfb_pixel.specs.declared.colour.Colour.{Colour};
-    ghost use Rattle.rfb_picture.specs.Grid.{Grid, Holds};
+    ghost use Rattle.rfb_picture.specs.Grid.{Grid, Holds, at_or};
     ghost use Rattle.rfb_hello.specs.Version.{version_text};
     ghost use Rattle.rfb_server.specs.Server.{Serving, ServerState};
     ghost use Rattle.rfb_server.specs.Model.{SessionStandsFor, serving_with};
@@ -125,12 +125,16 @@ impl LateSession {
 
     /// Whether an update for `other` is one for this session too, as `Session::is_twin_of` tells:
     /// never before both handshakes are done.
-    pub fn is_twin_of(&self, other: &LateSession) -> bool
+    pub fn is_twin_of(&self, other: &LateSession, knows_same: bool) -> bool
+        requires same { knows_same ≡ true
+            → (notes_in other.now).known ≡ (notes_in self.now).known }
         ensures { OnTrue result ((screen : Grid Colour) → Follows screen self.now
             → Follows screen other.now → AreTwins other.now self.now) }
     {
         match (&self.stage, &other.stage) {
-            (Stage::Within(session), Stage::Within(other)) => session.is_twin_of(other),
+            (Stage::Within(session), Stage::Within(other)) => {
+                session.is_twin_of(other, knows_same)
+            }
             _ => false,
         }
     }
@@ -152,6 +156,7 @@ impl LateSession {
         ensures sends { (was : Session) (before after : List ℕ) → AreTwins was self.old
             → SendsUpdate screen.now was sent.now before after
             → SendsUpdate screen.now self.old self.new before after }
+        ensures known { (notes_in self.new).known ≡ (notes_in sent.now).known }
         ensures spent { hints_in self.new ≡ [] }
     {
         match &mut self.stage {
@@ -171,6 +176,17 @@ impl LateSession {
         match &self.stage {
             Stage::Entering(_) => false,
             Stage::Within(session) => session.is_asked(),
+        }
+    }
+
+    /// Whether it is known what its viewer has at the first place, as `Session::knows_first` tells:
+    /// never before its handshake is done.
+    pub fn knows_first(&self) -> bool
+        ensures { OnTrue result (at_or (notes_in self.now).known 0 0 None ≢ None) }
+    {
+        match &self.stage {
+            Stage::Entering(_) => false,
+            Stage::Within(session) => session.knows_first(),
         }
     }
 

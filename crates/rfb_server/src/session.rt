@@ -1,7 +1,8 @@
 //! All of a server but its screen.
 
-ghost use Rattle.std.specs.Prelude.{◌≡◌, ◌≤◌, ◌<◌, ℕ, List, [], length, true};
+ghost use Rattle.std.specs.Prelude.{◌≡◌, ◌≢◌, ◌≤◌, ◌<◌, ℕ, List, [], length, true, None};
 ghost use Rattle.std.specs.Prelude.{IfOk};
+ghost use Rattle.std.specs.Bool.{OnTrue};
 ghost use Rattle.rfb_picture.specs.Grid.{Holds};
 ghost use Rattle.rfb_server.specs.inside.Marks.{AreAlike};
 ghost use Rattle.rfb_server.specs.Progress.{is_partial};
@@ -55,7 +56,7 @@ pub struct Session {
 
 impl Session {
     ghost use Rattle.rfb_pixel.specs.declared.colour.Colour.{Colour};
-    ghost use Rattle.rfb_picture.specs.Grid.{Grid, IsGrid};
+    ghost use Rattle.rfb_picture.specs.Grid.{Grid, IsGrid, at_or};
     ghost use Rattle.rfb_server.specs.Server.{Serving, ServerState, first_server};
     ghost use Rattle.rfb_server.specs.Model.{SessionStandsFor, serving_with, with_screen};
     ghost use Rattle.rfb_server.specs.Model.{KeepsSession, notes_in};
@@ -174,6 +175,15 @@ impl Session {
         ensures rows { result.now.asked.height ≡ (notes_in self.now).known.height }
     {
         self.known.known()
+    }
+
+    /// Whether it is known what the viewer has at the first place, in the first row. Where that is
+    /// not known nothing may be.
+    pub fn knows_first(&self) -> bool
+        ensures { OnTrue result (at_or (notes_in self.now).known 0 0 None ≢ None) }
+    {
+        let known = self.known.known();
+        known.width() > 0 && known.height() > 0 && known.is_asked(0, 0)
     }
 
     /// The format that updates are sent in.

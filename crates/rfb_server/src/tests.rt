@@ -19,6 +19,7 @@ mod requests;
 mod rows;
 mod scene;
 mod scrolling;
+mod sessions;
 mod several_hints;
 mod shared;
 mod slight;

@@ -32,6 +32,7 @@ pub mod FollowLemmas
 pub mod ShareRoomLemmas
 pub mod ShareFitLemmas
 pub mod ShareTwinLemmas
+pub mod KinLemmas
 pub mod GivenLemmas
 pub mod ShareSeatLemmas
 pub mod ShareMemoryLemmas

@@ -38,6 +38,7 @@ pub mod ShareScreen
 pub mod ShareWork
 pub mod Share
 pub mod ShareSteps
+pub mod ShareKin
 pub mod ShareTwins
 pub mod ShareMoves
 pub mod ShareMirrors

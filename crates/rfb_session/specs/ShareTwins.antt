@@ -12,6 +12,7 @@ use Rattle.rfb_session.specs.declared.share.event.Composing.TheVariants.{Compose
 use Rattle.rfb_session.specs.declared.share.seat.ShareSeat.{ShareSeat}
 use Rattle.rfb_session.specs.Share.{seat_in, screen_of, waiting_for}
 use Rattle.rfb_session.specs.ShareSeats.{session_at, waiting_in, is_update, memory_at, Sends}
+use Rattle.rfb_session.specs.ShareKin.{known_in}
 use Rattle.rfb_session.specs.ShareSlots.{ComposesIn}
 use Rattle.rfb_session.specs.ShareSteps.{KeepsScreen}
 use Rattle.rfb_session.specs.Slots.{seat_at}
@@ -73,10 +74,11 @@ IsSharedIn None new = new ≡ None
 IsSharedIn (Some old) None = ⊥
 IsSharedIn (Some old) (Some new) = IsShared old new
 
--- a seat was given the update that waits at another one
+-- a seat was given the update that waits at another one, and knows what that one knows
 pub record IsGiven (screen : Grid Colour) (one old new : Option ShareSeat) : Type 0 where
   pub sent : ComposesIn screen Composed old new
   pub same : waiting_for new ≡ waiting_for one
+  pub known : known_in new ≡ known_in one
 
 -- seat `k` was given the update that waits at seat `own`, and follows the screen
 pub record IsGivenFrom (screen : Grid Colour) (own k : ℕ) (old new : List (Option ShareSeat)) : Type 0 where

@@ -4,6 +4,7 @@
 ghost use Rattle.std.specs.Prelude.{◌≡◌, ◌≤◌, length, All, IfOk, Some};
 ghost use Rattle.std.specs.Option.{ForSome};
 ghost use Rattle.rfb_server.specs.KnownScreen.{Follows};
+ghost use Rattle.rfb_session.specs.ShareKin.{KnowAlike};
 ghost use Rattle.rfb_session.specs.ShareScreen.{shown_on};
 ghost use Rattle.rfb_session.specs.ShareSeats.{session_at};
 ghost use Rattle.rfb_session.specs.ShareWork.{OthersRest};
@@ -12,6 +13,7 @@ mod asking;
 mod drawing;
 pub(crate) mod event;
 mod joining;
+pub(crate) mod kin;
 pub(crate) mod mirror;
 mod mirroring;
 mod receiving;
@@ -26,6 +28,7 @@ pub(crate) mod waiting;
 use crate::hub::{BLACK, NAME_LIMIT, name_of};
 use crate::seat::Seat;
 use crate::seats::Seats;
+use crate::share::kin::Kin;
 use crate::share::screen::Screen;
 use crate::share::seat::ShareSeat;
 use crate::slots::{SLOTS, seat_of};
@@ -50,12 +53,15 @@ pub struct Share {
     seats: [Option<ShareSeat>; SLOTS],
     // Where something came about since a composing found nothing to do. Elsewhere nothing waits.
     stirred: Seats,
+    // Which seats know the same.
+    kin: Kin,
     ghost eight: { length seats ≡ 8 },
     ghost columns: { (shown_on screen).width ≤ 4096 },
     ghost rows: { (shown_on screen).height ≤ 4096 },
     ghost follow: { All (λ slot. ForSome slot (λ seat.
         Follows (shown_on screen) (session_at seat))) seats },
     ghost rest: { OthersRest (shown_on screen) seats stirred },
+    ghost alike: { KnowAlike kin seats },
 }
 
 impl Share {
@@ -88,6 +94,7 @@ impl Share {
             text_limit: setup.text_limit,
             seats: [None, None, None, None, None, None, None, None],
             stirred: Seats::none(),
+            kin: Kin::none(),
         })
     }
 

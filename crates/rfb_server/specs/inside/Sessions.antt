@@ -10,7 +10,7 @@ use Rattle.rfb_codec.specs.Effect.{IsAlike}
 use Rattle.rfb_picture.specs.Box.{is_in}
 use Rattle.rfb_hello.specs.ServerEnd.{as_reply}
 use Rattle.rfb_hello.specs.ServerModel.{setup_of, is_open}
-use Rattle.rfb_server.specs.Record.{forgotten}
+use Rattle.rfb_server.specs.Record.{forgotten, KeepsOrForgets}
 use Rattle.rfb_server.specs.Claims.{IsClaimed}
 use Rattle.rfb_server.specs.KnownScreen.{IsCaughtUp}
 use Rattle.rfb_server.specs.Hints.{with_hint}
@@ -109,13 +109,14 @@ StaysClaimed old new = (screen : Grid Colour) →
     IsClaimed screen new.known new.format new.claim
 
 -- whatever it is fed, a session keeps what it was made with, its places and its hints, that it had
--- caught up, and what it claims
+-- caught up, and what it claims; what is known of its places it keeps or forgets
 pub record KeepsUp (old new : Session) : Type 0 where
   pub setup : setup_of new.hello ≡ setup_of old.hello
   pub text_limit : new.text_limit ≡ old.text_limit
   pub columns : new.known.width ≡ old.known.width
   pub rows : new.known.height ≡ old.known.height
   pub hints : new.hints ≡ old.hints
+  pub known : KeepsOrForgets old.known new.known
   pub caught_up : StaysCaughtUp old new
   pub claimed : StaysClaimed old new
 

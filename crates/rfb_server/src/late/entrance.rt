@@ -7,7 +7,7 @@ ghost use Rattle.rfb_picture.specs.Grid.{Grid};
 ghost use Rattle.rfb_pixel.specs.declared.colour.Colour.{Colour};
 ghost use Rattle.rfb_server.specs.Hints.{hints_in};
 ghost use Rattle.rfb_server.specs.KnownScreen.{Follows};
-ghost use Rattle.rfb_server.specs.Model.{session_fault, session_serving, serving_with};
+ghost use Rattle.rfb_server.specs.Model.{notes_in, session_fault, session_serving, serving_with};
 ghost use Rattle.rfb_server.specs.Progress.{is_partial};
 ghost use Rattle.rfb_server.specs.declared.fault.ServerFault.{ServerFault};
 ghost use Rattle.rfb_server.specs.inside.Ended.{progress_at};
@@ -81,6 +81,7 @@ impl Entrance {
             Takes bytes.now fed (entered self.old) (entered self.new)) }
         ensures made { session_serving (entered self.new) ≡ session_serving (entered self.old) }
         ensures hints { hints_in (entered self.new) ≡ hints_in (entered self.old) }
+        ensures known { (notes_in (entered self.new)).known ≡ (notes_in (entered self.old)).known }
         ensures follows { (screen : Grid Colour) → Follows screen (entered self.old)
             → Follows screen (entered self.new) }
         ensures kept { IfErr result (λ fault.

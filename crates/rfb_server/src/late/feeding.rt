@@ -3,7 +3,8 @@
 ghost use Rattle.std.specs.Prelude.{◌≡◌, Some, Err, IfOk, IfErr};
 ghost use Rattle.rfb_pixel.specs.declared.colour.Colour.{Colour};
 ghost use Rattle.rfb_picture.specs.Grid.{Grid};
-ghost use Rattle.rfb_server.specs.Model.{session_fault, session_serving};
+ghost use Rattle.rfb_server.specs.Model.{notes_in, session_fault, session_serving};
+ghost use Rattle.rfb_server.specs.Record.{KeepsOrForgets};
 ghost use Rattle.rfb_server.specs.Failed.{EndsAs};
 ghost use Rattle.rfb_server.specs.declared.fault.ServerFault.{ServerFault};
 ghost use Rattle.rfb_server.specs.declared.late.feeding.LateFault.TheVariants as LateFault;
@@ -52,6 +53,7 @@ impl LateSession {
         ensures takes { IfOk result (λ fed. Takes bytes.now fed self.old self.new) }
         ensures made { session_serving self.new ≡ session_serving self.old }
         ensures hints { hints_in self.new ≡ hints_in self.old }
+        ensures known { KeepsOrForgets (notes_in self.old).known (notes_in self.new).known }
         ensures follows { (screen : Grid Colour) → Follows screen self.old
             → Follows screen self.new }
 

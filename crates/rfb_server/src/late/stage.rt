@@ -31,7 +31,8 @@ impl Stage {
     ghost use Rattle.rfb_server.specs.Failed.{EndsAs};
     ghost use Rattle.rfb_server.specs.KnownScreen.{Follows};
     ghost use Rattle.rfb_server.specs.Hints.{hints_in};
-    ghost use Rattle.rfb_server.specs.Model.{session_fault, session_serving};
+    ghost use Rattle.rfb_server.specs.Model.{notes_in, session_fault, session_serving};
+    ghost use Rattle.rfb_server.specs.Record.{KeepsOrForgets};
     ghost use Rattle.rfb_server.specs.Intake.{Takes};
 
     /// Where so many bytes may hold the last of its handshake, the memory of its places is taken.
@@ -100,6 +101,8 @@ impl Stage {
             ≡ session_serving (session_of_stage self.old) }
         ensures hints { hints_in (session_of_stage self.new)
             ≡ hints_in (session_of_stage self.old) }
+        ensures known { KeepsOrForgets (notes_in (session_of_stage self.old)).known
+            (notes_in (session_of_stage self.new)).known }
         ensures follows { (screen : Grid Colour) → Follows screen (session_of_stage self.old)
             → Follows screen (session_of_stage self.new) }
         ensures kept { IfErr result (λ fault.

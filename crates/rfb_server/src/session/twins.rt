@@ -11,6 +11,7 @@ ghost use Rattle.rfb_picture.specs.Box.{is_in};
 ghost use Rattle.rfb_picture.specs.Area.{asked_at};
 ghost use Rattle.rfb_server.specs.Record.{AreKnown};
 ghost use Rattle.rfb_server.specs.Hints.{hints_in};
+ghost use Rattle.rfb_server.specs.Model.{notes_in};
 ghost use Rattle.rfb_server.specs.Twins.{AreTwins, HasSentTwin};
 ghost use Rattle.rfb_server.specs.KnownScreen.{Follows};
 ghost use Rattle.rfb_server.specs.UpdateCall.{SendsUpdate};
@@ -28,9 +29,14 @@ impl Session {
     /// Whether an update for `other` is one for this session too, to the byte, where both follow
     /// one screen: both viewers ask for all of it, whole or not, in one format and with the same
     /// encodings, have the same of it, and the same hints are kept. `other` stands between two
-    /// messages. It may say no where they are twins. It looks at what is marked, until something
-    /// differs.
-    pub fn is_twin_of(&self, other: &Session) -> bool
+    /// messages. It may say no where they are twins.
+    ///
+    /// `knows_same` is whether the caller knows that both viewers are known to have the same of the
+    /// screen. Where it does not, what they have is compared wherever something is marked, until
+    /// something differs.
+    pub fn is_twin_of(&self, other: &Session, knows_same: bool) -> bool
+        requires same { knows_same ≡ true
+            → (notes_in other.now).known ≡ (notes_in self.now).known }
         ensures { OnTrue result ((screen : Grid Colour) → Follows screen self.now
             → Follows screen other.now → AreTwins other.now self.now) }
     {
@@ -43,7 +49,7 @@ impl Session {
         if self.format != other.format || !self.encodings.is_as(&other.encodings) {
             return false;
         }
-        self.asks_as(other) && self.agrees(other)
+        self.asks_as(other) && self.agrees(other, knows_same)
     }
 
     /// Whether so little may need sending, of two cells of 64 by 64 places at most, that it is
@@ -68,6 +74,7 @@ impl Session {
         ensures sends { (was : Session) (before after : List ℕ) → AreTwins was self.old
             → SendsUpdate screen.now was sent.now before after
             → SendsUpdate screen.now self.old self.new before after }
+        ensures known { (notes_in self.new).known ≡ (notes_in sent.now).known }
         ensures spent { hints_in self.new ≡ [] }
     {
         self.take_shown(screen, sent);
@@ -135,10 +142,12 @@ impl Session {
         self.area.whole().next_cell(0).is_none()
     }
 
-    // Whether both are marked alike, and know the same of what is marked.
-    fn agrees(&self, other: &Session) -> bool
+    // Whether both are marked alike, and know the same of what is marked. That is not looked at
+    // where it is known.
+    fn agrees(&self, other: &Session, knows_same: bool) -> bool
         requires columns { self.now.known.width ≡ other.now.known.width }
         requires rows { self.now.known.height ≡ other.now.known.height }
+        requires same { knows_same ≡ true → other.now.known ≡ self.now.known }
         ensures { OnTrue result (Agree self.now other.now) }
     {
         let width = self.known.width();
@@ -148,7 +157,7 @@ impl Session {
             if !other.goes_on_at(next, index) {
                 return false;
             }
-            if !self.agrees_in(other, cell_at(width, height, index)) {
+            if !self.agrees_in(other, cell_at(width, height, index), knows_same) {
                 return false;
             }
             next = index + 1;
@@ -166,15 +175,19 @@ impl Session {
         }
     }
 
-    // Whether both have the same bounds of marked places in the cell, and know the same within.
-    fn agrees_in(&self, other: &Session, cell: Rect) -> bool
+    // Whether both have the same bounds of marked places in the cell, and know the same within, as
+    // is known or is found out.
+    fn agrees_in(&self, other: &Session, cell: Rect, knows_same: bool) -> bool
         requires held { Holds self.now.known cell }
         requires held_too { Holds other.now.known cell }
+        requires same { knows_same ≡ true → other.now.known ≡ self.now.known }
         ensures { OnTrue result (AgreeIn self.now other.now cell) }
     {
         match (self.marks.bounds_in(cell), other.marks.bounds_in(cell)) {
             (None, None) => true,
-            (Some(here), Some(there)) => here == there && self.known.has_same(&other.known, here),
+            (Some(here), Some(there)) => {
+                here == there && (knows_same || self.known.has_same(&other.known, here))
+            }
             _ => false,
         }
     }

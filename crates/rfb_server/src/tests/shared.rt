@@ -6,6 +6,7 @@ ghost use Rattle.rfb_pixel.specs.declared.colour.Colour.{Colour};
 ghost use Rattle.rfb_server.specs.KnownScreen.{Follows};
 
 use super::places::BLACK;
+use super::sessions::{are_twins, sends, sends_both, stands};
 use crate::{Drawing, Notice, Session};
 use rfb_hello::Version;
 use rfb_picture::{Picture, Rect};
@@ -59,63 +60,6 @@ fn new_session(alloc: Global) -> Result<Session, AllocError>
 {
     let name = b"t".as_slice();
     Session::new(alloc, 3, 2, name, Version::V38, 4)
-}
-
-// Whether it composes exactly these bytes.
-fn sends(session: &mut Session, screen: &Picture<Colour>, alloc: Global, bytes: &[u8]) -> bool
-    requires { Follows screen.now session.old }
-    ensures { Follows screen.now session.new }
-{
-    let mut out = Vec::new(alloc);
-    session.compose(screen, &mut out) == Ok(true) && out.as_slice() == bytes
-}
-
-// Whether it composes exactly these bytes, of which a twin of it knows then.
-fn sends_both(
-    one: &mut Session,
-    twin: &mut Session,
-    screen: &Picture<Colour>,
-    alloc: Global,
-    bytes: &[u8],
-) -> bool
-    requires follows { Follows screen.now one.old }
-    requires follows_too { Follows screen.now twin.old }
-    ensures follows { Follows screen.now one.new }
-    ensures follows_too { Follows screen.now twin.new }
-{
-    if !twin.is_twin_of(one) {
-        return false;
-    }
-    let mut out = Vec::new(alloc);
-    match one.compose(screen, &mut out) {
-        Ok(true) => {
-            twin.take_over(screen, one);
-            out.as_slice() == bytes
-        }
-        _ => false,
-    }
-}
-
-// Whether it asks for the first place.
-fn asks(session: &Session) -> bool {
-    let area = session.asked();
-    area.width() > 0 && area.height() > 0 && area.is_asked(0, 0)
-}
-
-// What the viewer is known to have at the first place.
-fn known(session: &Session) -> Option<u32> {
-    let known = session.known();
-    let pixels = session.recorded();
-    if known.width() > 0
-        && known.height() > 0
-        && pixels.width() > 0
-        && pixels.height() > 0
-        && known.is_asked(0, 0)
-    {
-        Some(pixels.at(0, 0))
-    } else {
-        None
-    }
 }
 
 impl Shared {
@@ -191,12 +135,9 @@ impl Shared {
             Step::Feed(who, bytes) => self.feed(who, bytes),
             Step::Fails(who, bytes) => !self.feed(who, bytes),
             Step::Sends(who, bytes) => self.sends(who, alloc, bytes),
-            Step::Stands(who, asked, has) => {
-                let session = self.session(who);
-                asks(session) == asked && known(session) == has
-            }
+            Step::Stands(who, asked, has) => stands(self.session(who), asked, has),
             Step::Waits(who, waits) => self.session(who).is_asked() == waits,
-            Step::AreTwins(are) => self.second.is_twin_of(&self.first) == are,
+            Step::AreTwins(are) => are_twins(&self.first, &self.second, &self.screen) == are,
             Step::SendsBoth(bytes) => self.sends_both(alloc, bytes),
         }
     }

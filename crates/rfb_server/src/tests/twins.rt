@@ -40,9 +40,10 @@ const ENTER: &[Step<'static>] = &[
 ];
 
 // What the second knows after its twin's update is what it was sent: an update of its own is of what
-// was drawn since.
+// was drawn since. In another format it is not known what it has.
 const TWINS: &[Step<'static>] = &[
     Step::Feed(Who::Second, ASKS_WHOLE),
+    Step::Stands(Who::Second, true, None),
     Step::AreTwins(true),
     Step::SendsBoth(SIX_PLACES),
     Step::Stands(Who::First, false, Some(0x10_C864)),
@@ -51,6 +52,7 @@ const TWINS: &[Step<'static>] = &[
     Step::Draw(SECOND, VIOLET),
     Step::Feed(Who::Second, ASKS),
     Step::Feed(Who::First, ASKS),
+    Step::AreTwins(true),
     Step::SendsBoth(VIOLET_SECOND),
     Step::Waits(Who::Second, false),
     Step::Draw(LAST, VIOLET),
@@ -60,6 +62,9 @@ const TWINS: &[Step<'static>] = &[
     Step::Feed(Who::First, ASKS),
     Step::AreTwins(false),
     Step::Sends(Who::First, VIOLET_LAST),
+    Step::Stands(Who::Second, true, Some(0x10_C864)),
+    Step::Feed(Who::Second, RED_FIRST),
+    Step::Stands(Who::Second, true, None),
 ];
 
 // One that asks for all of the screen beside another, which differs.

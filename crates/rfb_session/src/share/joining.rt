@@ -25,6 +25,7 @@ impl Share {
             return Ok(None);
         };
         let seat = self.fresh_seat()?;
+        self.kin.leave(place);
         seat_in(&mut self.seats[place], seat);
         let taken = Seat::at(place);
         self.stirred = self.stirred.with(taken);

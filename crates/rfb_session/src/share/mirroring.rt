@@ -24,6 +24,7 @@ mod telling;
 use crate::hub::name_of;
 use crate::seats::Seats;
 use crate::share::Share;
+use crate::share::kin::Kin;
 use crate::share::mirror::Mirror;
 use crate::share::screen::Screen;
 use crate::share::seat::ShareSeat;
@@ -80,6 +81,7 @@ impl Share {
             text_limit,
             seats: [None, None, None, None, None, None, None, None],
             stirred: Seats::none(),
+            kin: Kin::none(),
         })
     }
 

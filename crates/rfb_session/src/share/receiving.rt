@@ -9,6 +9,7 @@ ghost use Rattle.rfb_server.specs.KnownScreen.{Follows};
 ghost use Rattle.rfb_server.specs.Intake.{AreTaken};
 ghost use Rattle.rfb_server.specs.Told.{seen};
 ghost use Rattle.rfb_session.specs.declared.share.event.ShareFault.TheVariants.{NoMemory};
+ghost use Rattle.rfb_session.specs.ShareKin.{KnowsFirst, StaysOrLeaves, StillKnows};
 ghost use Rattle.rfb_session.specs.ShareSeats.{session_at};
 ghost use Rattle.rfb_session.specs.ShareSlots.{HearsIn, EndsIn};
 ghost use Rattle.rfb_session.specs.ShareSteps.{asks_alone, event_seen, seat_told};
@@ -18,6 +19,7 @@ use crate::seat::Seat;
 use crate::seats::Seats;
 use crate::share::Share;
 use crate::share::event::{Heard, SeatEvent, ShareFault};
+use crate::share::kin::Kin;
 use crate::share::seat::ShareSeat;
 use crate::slots::empty_others;
 use rfb_hello::Fed;
@@ -61,7 +63,7 @@ impl Share {
     {
         let place = seat.place();
         self.stirred = self.stirred.with(seat);
-        let fed = hear_in(&mut self.seats[place], bytes)?;
+        let fed = hear_at(place, &mut self.seats[place], &mut self.kin, bytes)?;
         if is_sole(heeds, &fed.event) {
             let ended = empty_others(&mut self.seats, place);
             return Ok(told_of(seat, fed, ended));
@@ -92,7 +94,30 @@ fn told_of(seat: Seat, fed: Fed<ServerEvent>, ended: u8) -> Heard
     }
 }
 
-// The viewer of a seat is heard, where there is one.
+// The viewer of a seat is heard, where there is one. Where something is known of the first place
+// its format is what it was, and it knows what it knew; otherwise it leaves its kin.
+fn hear_at(
+    place: usize,
+    slot: &mut Option<ShareSeat>,
+    kin: &mut Kin,
+    bytes: &[u8],
+) -> Result<Fed<ServerEvent>, ShareFault>
+    requires { place < 8 }
+    ensures taken { IfOk result (AreTaken bytes.now) }
+    ensures heard { IfOk result (λ fed.
+        HearsIn (take fed.used bytes.now) (seen fed.event) slot.old slot.new) }
+    ensures ended { IfErr result (λ fault. EndsIn bytes.now fault slot.old slot.new) }
+    ensures follows { (screen : Grid Colour) →
+        ForSome slot.old (λ seat. Follows screen (session_at seat)) →
+        ForSome slot.new (λ seat. Follows screen (session_at seat)) }
+    ensures kin { StaysOrLeaves place kin.old kin.new slot.old slot.new }
+{
+    let heard = hear_in(slot, bytes);
+    kin.leave_unless(knows_first(slot), place);
+    heard
+}
+
+// The same, whoever is kin.
 fn hear_in(slot: &mut Option<ShareSeat>, bytes: &[u8]) -> Result<Fed<ServerEvent>, ShareFault>
     ensures taken { IfOk result (AreTaken bytes.now) }
     ensures heard { IfOk result (λ fed.
@@ -101,6 +126,7 @@ fn hear_in(slot: &mut Option<ShareSeat>, bytes: &[u8]) -> Result<Fed<ServerEvent
     ensures follows { (screen : Grid Colour) →
         ForSome slot.old (λ seat. Follows screen (session_at seat)) →
         ForSome slot.new (λ seat. Follows screen (session_at seat)) }
+    ensures known { KnowsFirst slot.new → StillKnows slot.old slot.new }
 {
     let Some(seat) = slot else {
         return Err(ShareFault::NoSuchSeat);
@@ -114,6 +140,16 @@ fn hear_in(slot: &mut Option<ShareSeat>, bytes: &[u8]) -> Result<Fed<ServerEvent
             }
             Err(fault)
         }
+    }
+}
+
+// Whether something is known of the first place of whoever sits there.
+fn knows_first(slot: &Option<ShareSeat>) -> bool
+    ensures { OnTrue result (KnowsFirst slot.now) }
+{
+    match slot {
+        Some(seat) => seat.knows_first(),
+        None => false,
     }
 }
 

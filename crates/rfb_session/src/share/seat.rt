@@ -36,11 +36,13 @@ pub struct ShareSeat {
 
 impl ShareSeat {
     ghost use Rattle.rfb_hello.specs.Version.{version_text};
-    ghost use Rattle.rfb_picture.specs.Grid.{Grid};
+    ghost use Rattle.rfb_picture.specs.Grid.{Grid, at_or};
     ghost use Rattle.rfb_pixel.specs.declared.colour.Colour.{Colour};
     ghost use Rattle.rfb_server.specs.KnownScreen.{Follows};
     ghost use Rattle.rfb_server.specs.Model.{session_fault};
+    ghost use Rattle.rfb_server.specs.Record.{KeepsOrForgets};
     ghost use Rattle.rfb_server.specs.UpdateCall.{HasAsked};
+    ghost use Rattle.rfb_session.specs.ShareKin.{known_at};
     ghost use Rattle.rfb_session.specs.ShareSeats.{waiting_in, session_at, is_update, IsFresh};
     ghost use Rattle.rfb_session.specs.ShareSeats.{IsSeatOf, Hears, ComposesAt, WantsRoom};
     ghost use Rattle.rfb_session.specs.ShareSeats.{WritesAt, Sends};
@@ -71,6 +73,7 @@ impl ShareSeat {
         ensures ended { IfErr result (λ fault. EndsAtSeat bytes.now fault self.old self.new) }
         ensures follows { (screen : Grid Colour) → Follows screen (session_at self.old)
             → Follows screen (session_at self.new) }
+        ensures known { KeepsOrForgets (known_at self.old) (known_at self.new) }
     {
         let fed = self.session.feed(bytes)?;
         match &mut self.waiting {
@@ -124,15 +127,24 @@ impl ShareSeat {
     }
 
     /// Whether an update for another seat is one for this one too, to the byte, where the sessions
-    /// of both follow one screen: nothing waits at either, and the sessions are twins.
-    pub(crate) fn is_twin_of(&self, other: &ShareSeat) -> bool
+    /// of both follow one screen: nothing waits at either, and the sessions are twins. The caller
+    /// says whether it knows that both know the same.
+    pub(crate) fn is_twin_of(&self, other: &ShareSeat, knows_same: bool) -> bool
+        requires { knows_same ≡ true → known_at other.now ≡ known_at self.now }
         ensures { OnTrue result ((screen : Grid Colour) → Follows screen (session_at other.now)
             → Follows screen (session_at self.now) → AreSeatTwins other.now self.now) }
     {
         if !self.waiting().is_empty() || !other.waiting().is_empty() {
             return false;
         }
-        self.session.is_twin_of(&other.session)
+        self.session.is_twin_of(&other.session, knows_same)
+    }
+
+    /// Whether something is known of the first place. It may say no where that is so.
+    pub(crate) fn knows_first(&self) -> bool
+        ensures { OnTrue result (at_or (known_at self.now) 0 0 None ≢ None) }
+    {
+        self.session.knows_first()
     }
 
     /// Whether so little may need sending that it is composed sooner than twins are found.
@@ -154,6 +166,7 @@ impl ShareSeat {
         requires twin { HasComposedTwin screen.now self.old sent.now }
         ensures sends { OnTrue result (Sends screen.now self.old self.new) }
         ensures same { OnTrue result (waiting_in self.new ≡ waiting_in sent.now) }
+        ensures known { OnTrue result (known_at self.new ≡ known_at sent.now) }
         ensures follows { OnTrue result (Follows screen.now (session_at self.new)) }
         ensures kept { OnFalse result (self.new ≡ self.old) }
     {

@@ -64,10 +64,15 @@ impl Share {
         ensures composes { IfOk result (λ told. ComposesAs self.old seat told self.new) }
         ensures wants { OnErr result (WantsRoomAs self.old seat self.new) }
     {
+        let place = seat.place();
         self.stirred = self.stirred.with(seat);
-        let told = compose_in(&mut self.seats[seat.place()], &self.screen)?;
-        if told.is_idle() {
-            self.stirred = self.stirred.without(seat);
+        let told = compose_in(&mut self.seats[place], &self.screen)?;
+        match told {
+            Composing::Composed => self.kin.leave(place),
+            Composing::Waiting => {}
+            Composing::NotDue | Composing::NoSuchSeat => {
+                self.stirred = self.stirred.without(seat);
+            }
         }
         Ok(told)
     }

@@ -5,6 +5,7 @@ ghost use Rattle.std.specs.Bool.{OnTrue, OnFalse};
 ghost use Rattle.std.specs.Option.{ForSome};
 ghost use Rattle.rfb_picture.specs.Places.{has_bit};
 ghost use Rattle.rfb_server.specs.KnownScreen.{Follows};
+ghost use Rattle.rfb_session.specs.ShareKin.{KnowAlike, known_at};
 ghost use Rattle.rfb_session.specs.ShareSeats.{session_at};
 ghost use Rattle.rfb_session.specs.ShareTwins.{IsTwinIn, IsTwinOf, IsGiven, IsGivenTo};
 ghost use Rattle.rfb_session.specs.ShareTwins.{IsToBeGiven, IsHeirIn, IsGivenFrom, IsSharedIn};
@@ -14,6 +15,7 @@ use crate::seat::Seat;
 use crate::seats::Seats;
 use crate::share::Share;
 use crate::share::event::Composing;
+use crate::share::kin::Kin;
 use crate::share::seat::ShareSeat;
 use crate::slots::SLOTS;
 use crate::told::NoMemory;
@@ -39,20 +41,21 @@ impl Share {
             ComposesShared self.old seat told.0 others told.1 self.new) }
         ensures wants { OnErr result (WantsRoomAs self.old seat self.new) }
     {
-        let twins = twins_in(&self.seats, seat.place(), others);
+        let twins = twins_in(&self.seats, &self.kin, seat.place(), others);
         match self.compose(seat)? {
             Composing::Composed => Ok((Composing::Composed, self.give(seat, twins))),
             told => Ok((told, Seats::none())),
         }
     }
 
-    /// Of some others those at which it is worth to look for twins of a seat: none where so little
-    /// may need sending to its viewer that it is composed sooner for each.
+    /// Of some others those at which it is worth to look for twins of a seat: where little may need
+    /// sending to its viewer those that are known to have the same, and otherwise all. What else
+    /// little is, is composed sooner for each.
     pub fn worth_sharing(&self, seat: Seat, others: Seats) -> Seats
         ensures { (k : ℕ) → has_bit result k ≡ true → has_bit others k ≡ true }
     {
         match &self.seats[seat.place()] {
-            Some(own) if own.is_slight() => Seats::none(),
+            Some(own) if own.is_slight() => self.kin.among(seat.place(), others),
             _ => others,
         }
     }
@@ -68,15 +71,18 @@ impl Share {
         if twins.is_empty() {
             return Seats::none();
         }
-        let given = give_all(&mut self.seats, seat.place(), twins, self.screen.picture());
+        let own = seat.place();
+        let given = give_all(&mut self.seats, own, twins, self.screen.picture());
+        self.kin.meet(own, given);
         self.stirred = self.stirred.or(given);
         given
     }
 }
 
 // The seats of some that are twins of one.
-fn twins_in(slots: &[Option<ShareSeat>; SLOTS], own: usize, others: Seats) -> Seats
-    requires { own < 8 }
+fn twins_in(slots: &[Option<ShareSeat>; SLOTS], kin: &Kin, own: usize, others: Seats) -> Seats
+    requires own { own < 8 }
+    requires alike { KnowAlike kin.now slots.now }
     ensures twins { (k : ℕ) → has_bit result k ≡ true → IsTwinIn slots.now own k }
     ensures within { (k : ℕ) → has_bit result k ≡ true → has_bit others k ≡ true }
 {
@@ -85,21 +91,25 @@ fn twins_in(slots: &[Option<ShareSeat>; SLOTS], own: usize, others: Seats) -> Se
         return twins;
     };
     for place in 0..SLOTS {
-        twins = twins.or(twin_at(&slots[place], place, own, others, one));
+        let is_kin = kin.are(own, place);
+        twins = twins.or(twin_at(&slots[place], place, own, others, one, is_kin));
     }
     twins
 }
 
 // That seat, where it is one of the others and not that of the one, and somebody sits there who is
-// a twin of it.
+// a twin of it. Its kin know the same.
 fn twin_at(
     slot: &Option<ShareSeat>,
     place: usize,
     own: usize,
     others: Seats,
     one: &ShareSeat,
+    is_kin: bool,
 ) -> Seats
-    requires { place < 8 }
+    requires place { place < 8 }
+    requires same { is_kin ≡ true →
+        ForSome slot.now (λ other. known_at one.now ≡ known_at other) }
     ensures twin { (k : ℕ) → has_bit result k ≡ true →
         (k ≡ place) × (nat_eq k own ≡ false) × IsTwinOf one.now slot.now }
     ensures within { (k : ℕ) → has_bit result k ≡ true → has_bit others k ≡ true }
@@ -109,7 +119,7 @@ fn twin_at(
         return Seats::none();
     }
     match slot {
-        Some(other) if other.is_twin_of(one) => Seats::none().with(seat),
+        Some(other) if other.is_twin_of(one, is_kin) => Seats::none().with(seat),
         _ => Seats::none(),
     }
 }

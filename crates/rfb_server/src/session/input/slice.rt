@@ -31,6 +31,7 @@ impl Session {
     ghost use Rattle.rfb_server.specs.Model.{session_fault, session_serving, notes_in};
     ghost use Rattle.rfb_server.specs.KnownScreen.{Follows};
     ghost use Rattle.rfb_server.specs.Hints.{hints_in};
+    ghost use Rattle.rfb_server.specs.Record.{KeepsOrForgets};
 
     /// Takes bytes of the client's, up to the last of its first item that makes an event, or all.
     /// Events are steps of the handshake, keys, the pointer and texts. Formats, lists and requests
@@ -49,6 +50,7 @@ impl Session {
             self.old (take fed.used bytes.now) (seen fed.event) self.new) }
         ensures made { session_serving self.new ≡ session_serving self.old }
         ensures hints { hints_in self.new ≡ hints_in self.old }
+        ensures known { KeepsOrForgets (notes_in self.old).known (notes_in self.new).known }
         ensures follows { (screen : Grid Colour) → Follows screen self.old
             → Follows screen self.new }
         ensures columns { (notes_in self.new).known.width ≡ (notes_in self.old).known.width }
@@ -84,6 +86,7 @@ impl Session {
             self.old (take fed.used bytes.now) (seen fed.event) self.new) }
         ensures made { session_serving self.new ≡ session_serving self.old }
         ensures hints { hints_in self.new ≡ hints_in self.old }
+        ensures known { KeepsOrForgets (notes_in self.old).known (notes_in self.new).known }
         ensures follows { (screen : Grid Colour) → Follows screen self.old
             → Follows screen self.new }
         ensures columns { (notes_in self.new).known.width ≡ (notes_in self.old).known.width }

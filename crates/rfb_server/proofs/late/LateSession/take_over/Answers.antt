@@ -22,3 +22,9 @@ returns-clause-sends c = λ was before after twins sends.
     subst (λ (s : Session). SendsUpdate c.args.screen.now s c.take_over.new.self before after) (sym mine)
     (c.take_over.ensures.sends was before after (subst (λ (s : Session). AreTwins was s) mine twins)
     (subst (λ (s : Session). SendsUpdate c.args.screen.now was s before after) theirs sends))
+
+pub returns-clause-known : goal.returns-clause-known
+returns-clause-known c =
+    let theirs : c.args.sent.now ≡ c.in-Within-stage.sent =
+    sym c.sent.view_is ∙ ap session_of_stage c.in-Within-stage.is in
+    c.take_over.ensures.known ∙ ap (λ (s : Session). s.known) (sym theirs)

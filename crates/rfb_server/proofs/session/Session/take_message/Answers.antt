@@ -1,6 +1,7 @@
 use Rattle.std.proofs.Common.{sym}
 use Rattle.rfb_server.proofs.MessageLemmas.{format_taken, format_refused, list_begins, request_taken, key_told}
 use Rattle.rfb_server.proofs.MessageLemmas.{pointer_told}
+use Rattle.rfb_server.proofs.FeedingLemmas.{up_begun, up_format, up_then}
 use Rattle.rfb_server.proofs.session.Session.take_message.Goals as goal
 
 pub returns-in-Ok-clause-steps : goal.returns-in-Ok-clause-steps
@@ -9,6 +10,14 @@ returns-in-Ok-clause-steps c = λ part unit was spelled _ serving screen.
     c.in-SetPixelFormat.bytes c.in-Ok.format was
     (rw c.in-SetPixelFormat.is at spelled) c.in-Ok.ensures.found (sym c.in-Ok.ensures.fault)
     c.set_format.ensures.format c.set_format.ensures.caught_up c.begin_message.ensures
+
+pub returns-in-Ok-clause-up : goal.returns-in-Ok-clause-up
+returns-in-Ok-clause-up c =
+    let old = c.args.self.now in
+    let mid = c.set_format.new.self in
+    up_then old mid c.begin_message.new.self
+    (up_format c.in-Ok.format old mid c.set_format.ensures.format c.set_format.ensures.caught_up)
+    (up_begun mid c.begin_message.new.self c.begin_message.ensures)
 
 pub returns-in-Err-clause-steps : goal.returns-in-Err-clause-steps
 returns-in-Err-clause-steps c = λ part unit was spelled _ serving screen.

@@ -20,6 +20,7 @@ invariant_of-self-2 c =
       rows = subst (λ (g : Grid Colour). g.height ≤ 4096) same s.rows;
       follow = subst (λ (g : Grid Colour). AllFollow (λ seat. seat.session) g s.seats) same s.follow;
       rest = subst (λ (g : Grid Colour). OthersRest g s.seats s.stirred) same s.rest;
+      alike = s.alike;
     }
 
 pub returns-clause-makes : goal.returns-clause-makes

@@ -12,6 +12,9 @@ use Rattle.rfb_session.proofs.SlotLemmas.{each_seat}
 use Rattle.rfb_session.proofs.ShareTwinLemmas.{to_give}
 use Rattle.rfb_session.proofs.share.Share.compose_shared.Goals as goal
 
+pub twins_in-twins-requires : goal.twins_in-twins-requires
+twins_in-twins-requires c = record { own = c.place.ensures.below; alike = c.args.self.now.alike }
+
 pub give-requires : goal.give-requires
 give-requires c = λ k e.
     let s = c.args.self.now in

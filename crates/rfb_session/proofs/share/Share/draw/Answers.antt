@@ -5,6 +5,7 @@ use Rattle.rfb_session.specs.declared.share.screen.Screen.{Screen}
 use Rattle.rfb_session.specs.ShareScreen.{shown_on}
 use Rattle.rfb_session.specs.ShareSeats.{IsNotifiedIn}
 use Rattle.rfb_session.proofs.FollowLemmas.{AllFollow, all_about, all_notified}
+use Rattle.rfb_session.proofs.KinLemmas.{alike_still, still_kept}
 use Rattle.rfb_session.proofs.ShareStateLemmas.{sound_seen}
 use Rattle.rfb_session.proofs.ShareWorkLemmas.{rest_of_all}
 use Rattle.rfb_session.proofs.share.Share.draw.Goals as goal
@@ -25,7 +26,14 @@ draw_on-requires c = record { inside = c.in_ok-notice.ensures.inside }
 pub invariant_of-self : goal.invariant_of-self
 invariant_of-self c =
     let s = c.args.self.now in
-    record { eight = s.eight; columns = s.columns; rows = s.rows; follow = s.follow; rest = s.rest }
+    record {
+      eight = s.eight;
+      columns = s.columns;
+      rows = s.rows;
+      follow = s.follow;
+      rest = s.rest;
+      alike = s.alike;
+    }
 
 pub invariant_of-self-in-Break-1 : goal.invariant_of-self-in-Break-1
 invariant_of-self-in-Break-1 c = assumption (sound_seen c.args.self.now _ c.in-Drawn.is)
@@ -46,4 +54,7 @@ invariant_of-self-2 c =
           s.seats c.notify_all.new.slots one (λ a b one. one.follows)
           (subst (λ (x : Screen). AllFollow (λ seat. seat.session) (shown_on x) s.seats) is s.follow)
           (rw c.in_ok-notice.ensures.value at c.notify_all.ensures.notified));
+      alike = alike_still s.kin s.seats c.notify_all.new.slots
+          (λ k. still_kept (λ a b. IsNotifiedIn c.in_ok-notice.notice a b) _ _ (λ a b one. one.keeps)
+          (c.notify_all.ensures.notified k)) s.alike;
     }

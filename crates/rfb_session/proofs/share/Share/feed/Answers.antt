@@ -7,8 +7,10 @@ use Rattle.rfb_viewer.specs.Moved.{moved_of}
 use Rattle.rfb_session.specs.declared.share.screen.Screen.{Screen}
 use Rattle.rfb_session.specs.Mirrors.{shown_of, seen_by}
 use Rattle.rfb_session.specs.ShareScreen.{shown_on}
+use Rattle.rfb_session.specs.ShareMoves.{IsRelayed}
 use Rattle.rfb_session.specs.ShareWork.{OthersRest}
 use Rattle.rfb_session.proofs.FollowLemmas.{AllFollow}
+use Rattle.rfb_session.proofs.KinLemmas.{alike_still, still_kept}
 use Rattle.rfb_session.proofs.ShareFeedLemmas.{told_rests}
 use Rattle.rfb_session.proofs.ShareRelayLemmas.{all_alike, all_relayed, fed_so}
 use Rattle.rfb_session.proofs.share.Share.feed.Goals as goal
@@ -53,6 +55,9 @@ invariant_of-self-2 c =
           (r.ensures.size ∙ s.eight) c.stirred_by-self.ensures.all c.stirred_by-self.ensures.same r.ensures.none
           r.ensures.same follow r.ensures.whole (record { columns = wide; rows = high }) outside
           (subst (λ (x : Screen). OthersRest (shown_on x) s.seats s.stirred) is s.rest);
+      alike = alike_still s.kin s.seats r.new.slots
+          (λ k. still_kept (λ a b. IsRelayed after damage (moved_of f.new.self.viewer) a b) _ _
+          (λ a b one. one.keeps) (r.ensures.told k)) s.alike;
     }
 
 pub returns : goal.returns

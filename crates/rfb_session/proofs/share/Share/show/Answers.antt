@@ -5,8 +5,10 @@ use Rattle.rfb_codec.specs.Effect.{IsAlike}
 use Rattle.rfb_session.specs.declared.share.mirror.Mirror.{Mirror}
 use Rattle.rfb_session.specs.declared.share.screen.Screen.{Screen}
 use Rattle.rfb_session.specs.Mirrors.{seen_by}
+use Rattle.rfb_session.specs.ShareMoves.{GetsWhole}
 use Rattle.rfb_session.specs.ShareScreen.{shown_on}
 use Rattle.rfb_session.proofs.FollowLemmas.{AllFollow}
+use Rattle.rfb_session.proofs.KinLemmas.{alike_still, still_kept}
 use Rattle.rfb_session.proofs.ShareRelayLemmas.{all_alike, all_whole}
 use Rattle.rfb_session.proofs.ShareStateLemmas.{sound_seen}
 use Rattle.rfb_session.proofs.ShareWorkLemmas.{rest_of_all}
@@ -57,4 +59,7 @@ invariant_of-self-2 c =
           (all_whole old now s.seats c.tell_whole.new.slots follow c.tell_whole.ensures.told alike);
       rest = rest_of_all (seen_by c.put.new.place.viewer) c.tell_whole.new.slots c.all-self.result
           (c.tell_whole.ensures.size ∙ s.eight) c.all-self.ensures;
+      alike = alike_still s.kin s.seats c.tell_whole.new.slots
+          (λ k. still_kept (λ a b. GetsWhole now a b) _ _ (λ a b one. one.keeps)
+          (c.tell_whole.ensures.told k)) s.alike;
     }

@@ -1,4 +1,5 @@
 use Rattle.std.proofs.Common.{None, ◌∙◌, sym, arith, Option, subst, inl, inr}
+use Rattle.std.proofs.lemmas.Bool.{OnTrue_at}
 use Rattle.std.proofs.lemmas.List.{get_or_default}
 use Rattle.rfb_picture.specs.Places.{has_bit}
 use Rattle.rfb_session.specs.declared.share.seat.ShareSeat.{ShareSeat}
@@ -23,3 +24,11 @@ loop-place-preserved c =
             | inr late ↦ c.twin_at.ensures.within k late
           ];
     }
+
+pub twin_at-requires-clause-same : goal.twin_at-requires-clause-same
+twin_at-requires-clause-same c = λ e other is.
+    let own = get_or_default c.args.slots.now c.args.own c.index-slots-own.result None (omega arith) in
+    let at = get_or_default c.args.slots.now c.loop-place.place c.index-slots-place.result None
+    (omega (arith, c.loop-place-test.true)) in
+    sym (c.requires.alike c.args.own c.loop-place.place c.in-Some.one other (OnTrue_at e c.are-is_kin.ensures)
+    (sym own ∙ c.in-Some.is) (sym at ∙ is))

@@ -1,4 +1,4 @@
-use Rattle.rfb_server.proofs.tests.shared.sends_both.Goals as goal
+use Rattle.rfb_server.proofs.tests.sessions.sends_both.Goals as goal
 
 pub take_over-requires-clause-sent : goal.take_over-requires-clause-sent
 take_over-requires-clause-sent c = record {
