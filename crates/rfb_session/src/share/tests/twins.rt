@@ -79,16 +79,20 @@ fn goes_on(share: &mut Share) -> bool {
         && takes(share, at(0), RED_BY_ITS_FORMAT)
 }
 
-// One that takes a part of what it shares has the rest later, whatever the others do.
+// One that takes a part of what it shares has the rest later, whatever the others do. Of little
+// the third is worth a look, which was given the same last, until it sets a format.
 fn takes_by_parts(share: &mut Share) -> bool {
+    let others = Seats::all().without(at(7));
     let asked = send(share, at(2), ASKS_CHANGES) && send(share, at(7), ASKS_CHANGES);
     let given = paint(share, BLUE)
         && gives(share, Seats::none().with(at(7)), Seats::none().with(at(7)));
     share.written(at(7), 3);
     asked
         && given
-        && share.worth_sharing(at(7), Seats::all()) == Seats::none()
+        && share.worth_sharing(at(7), others) == Seats::none().with(at(2))
         && takes(share, at(2), BLUE_UPDATE)
+        && send(share, at(2), RED_FIRST)
+        && share.worth_sharing(at(7), others) == Seats::none()
         && composes(share, at(7), Composing::Waiting)
         && share.left(at(2))
         && share.worth_sharing(at(2), Seats::all()) == Seats::all()
