@@ -33,13 +33,13 @@ impl Model for Channel {
 }
 
 impl Channel {
+    ghost use Rattle.rfb_session.specs.LinkBytes.{IsCalled};
+    ghost use Rattle.rfb_session.specs.inside.Room.{IsSameSize};
+    ghost use Rattle.rfb_session.specs.relay.Desk.{CallsShare};
     ghost use Rattle.rfb_server.specs.Hints.{hints_in};
     ghost use Rattle.rfb_server.specs.KnownScreen.{Follows};
     ghost use Rattle.rfb_server.specs.Model.{session_fault};
     ghost use Rattle.rfb_server.specs.UpdateCall.{SendsUpdate, OwesUpdate, OwesNone};
-    ghost use Rattle.rfb_session.specs.LinkBytes.{IsCalled};
-    ghost use Rattle.rfb_session.specs.inside.Room.{IsSameSize};
-    ghost use Rattle.rfb_session.specs.relay.Desk.{CallsShare};
     ghost use Rattle.rfb_viewer.specs.Call.{append_refusal_of, called, is_noted, message_bytes};
     ghost use Rattle.rfb_viewer.specs.Call.{message_of, refusal_for, refused_by, text_in};
     ghost use Rattle.rfb_viewer.specs.Model.{StandsFor};
@@ -139,11 +139,7 @@ impl Channel {
     }
 
     /// The same of the viewer whose picture a share has.
-    pub(crate) fn send_from(
-        &mut self,
-        share: &mut Share,
-        call: &Call<'_>,
-    ) -> Result<(), AppendFault>
+    pub(crate) fn send_for(&mut self, share: &mut Share, call: &Call<'_>) -> Result<(), AppendFault>
         requires few { length (text_in call.now) ≤ 1048576 }
         ensures { CallsShare share.old call.now self.old result self.new share.new }
     {

@@ -125,11 +125,11 @@ impl Hub {
             return Err(NoMemory);
         }
         match self.happen(event) {
-            Ok(told) => Ok(told),
             Err(error) => {
                 self.closed = true;
                 Err(error)
             }
+            Ok(told) => Ok(told),
         }
     }
 
@@ -195,14 +195,14 @@ impl Hub {
         ensures spared { NeedsNoMemory self.old event.now → IsOk result }
     {
         match event {
-            HubEvent::Fill(rect, colour) => Ok(self.drawn(&Drawing::Fill(*rect, *colour))),
-            HubEvent::Put(x, y, row) => Ok(self.drawn(&Drawing::Put(*x, *y, row))),
-            HubEvent::Copy(rect, sx, sy) => Ok(self.drawn(&Drawing::Copy(*rect, *sx, *sy))),
-            HubEvent::Hint(rect, sx, sy) => Ok(self.drawn(&Drawing::Hint(*rect, *sx, *sy))),
             HubEvent::Join(slot, setup) => self.join(*slot, setup),
             HubEvent::Leave(slot) => Ok(self.leave(*slot)),
             HubEvent::Of(slot, event) => self.of_slot(*slot, event),
             HubEvent::Foreign(slot, bytes) => self.foreign(*slot, bytes),
+            HubEvent::Fill(rect, colour) => Ok(self.drawn(&Drawing::Fill(*rect, *colour))),
+            HubEvent::Put(x, y, row) => Ok(self.drawn(&Drawing::Put(*x, *y, row))),
+            HubEvent::Copy(rect, sx, sy) => Ok(self.drawn(&Drawing::Copy(*rect, *sx, *sy))),
+            HubEvent::Hint(rect, sx, sy) => Ok(self.drawn(&Drawing::Hint(*rect, *sx, *sy))),
         }
     }
 }

@@ -44,6 +44,8 @@ use crate::console::{Console, ConsoleSetup, Outcome, Speaker};
 use crate::slots::SLOTS;
 use arrayvec::ArrayVec;
 pub use gone::Gone;
+pub(crate) use hearing::is_shown_size;
+pub(crate) use passing::beginning_of;
 use presence::Presence;
 use rfb_viewer::Viewer;
 use setup::Given;

@@ -3,8 +3,8 @@
 
 ghost use Rattle.std.specs.Prelude.{◌≡◌, ◌≤◌, length, All, IfOk, Some};
 ghost use Rattle.std.specs.Option.{ForSome};
-ghost use Rattle.rfb_server.specs.KnownScreen.{Follows};
 ghost use Rattle.rfb_session.specs.ShareKin.{KnowAlike};
+ghost use Rattle.rfb_server.specs.KnownScreen.{Follows};
 ghost use Rattle.rfb_session.specs.ShareScreen.{shown_on};
 ghost use Rattle.rfb_session.specs.ShareSeats.{session_at};
 ghost use Rattle.rfb_session.specs.ShareWork.{OthersRest};

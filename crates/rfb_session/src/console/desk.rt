@@ -49,12 +49,13 @@ pub(crate) struct Desk {
 }
 
 impl Desk {
-    ghost use Rattle.std.specs.Prelude.{◌++◌, ◌≤◌, [], drop, IfOk};
+    ghost use Rattle.std.specs.Prelude.{◌++◌, ◌≤◌, ℕ, [], drop, IfOk};
     ghost use Rattle.rfb_picture.specs.Grid.{uniform};
     ghost use Rattle.rfb_server.specs.Server.{black};
     ghost use Rattle.rfb_server.specs.Strokes.{stroke};
     ghost use Rattle.rfb_session.specs.Share.{waits_at, screen_of};
-    ghost use Rattle.rfb_session.specs.console.Desk.{lines_of, guest_at, is_over, is_heard};
+    ghost use Rattle.rfb_session.specs.console.Desk.{lines_of, guest_at, is_over, is_heard, nobody};
+    ghost use Rattle.rfb_session.specs.declared.console.desk.Hold.TheVariants.{Shown};
     ghost use Rattle.rfb_session.specs.console.Turns.{IsFreshDesk, DrawsAs, HoldsAs, ShowsAs};
     ghost use Rattle.rfb_session.specs.console.Turns.{WritesLines, WritesSeat, ForgetsTold};
 
@@ -62,8 +63,8 @@ impl Desk {
     pub(crate) fn new(
         alloc: Global,
         screen: Screen,
-        name: &[u8],
         rules: Rules,
+        name: &[u8],
     ) -> Result<Desk, AllocError>
         requires name { length name.now ≤ 255 }
         ensures { IfOk result (IsFreshDesk screen name.now rules) }
@@ -74,7 +75,19 @@ impl Desk {
         };
         let share = Share::of(alloc, setup)?;
         let lines = Vec::with_capacity(alloc, LINES_ROOM)?;
-        Ok(Desk {
+        Ok(Desk::of(share, lines, rules))
+    }
+
+    // A desk of a share that no viewer has come to, with these lines for its owner.
+    fn of(share: Share, lines: Vec<u8>, rules: Rules) -> Desk
+        ensures share { result.share ≡ share }
+        ensures guests { (k : ℕ) → guest_at result k ≡ nobody }
+        ensures lines { result.lines ≡ lines }
+        ensures rules { result.rules ≡ rules }
+        ensures hold { result.hold ≡ Shown }
+        ensures first { result.first ≡ 0 }
+    {
+        Desk {
             share,
             guests: [Guest::none(); SLOTS],
             lines,
@@ -83,7 +96,7 @@ impl Desk {
             came: false,
             next: None,
             first: Seat::at(0),
-        })
+        }
     }
 
     /// The screen's width and height.

@@ -78,7 +78,7 @@ impl<S: Speaker + Drop> Console<S> {
             self.new.desk self.new.outcome }
         ensures side { KeepsSide self.old self.new }
     {
-        match Desk::new(self.alloc, screen, self.name.as_slice(), self.rules) {
+        match Desk::new(self.alloc, screen, self.rules, self.name.as_slice()) {
             Ok(desk) => {
                 self.desk = Some(desk);
                 None

@@ -19,16 +19,17 @@ const ESCAPE: u32 = 0xFF1B;
 
 const DELETE: u32 = 0xFFFF;
 
-const SHIFT: u32 = 0xFFE1;
-
-// Characters that Latin-1 lacks have keys from here on.
-const UNICODE: u32 = 0x0100_0000;
-
 // What a US keyboard has shifted, beside capitals.
 const SHIFTED: [char; 21] = [
     '~', '!', '@', '#', '$', '%', '^', '&', '*', '(', ')', '_', '+', '{', '}', '|', ':', '"', '<',
     '>', '?',
 ];
+
+// The key that shifts.
+const SHIFT: u32 = 0xFFE1;
+
+// Characters that Latin-1 lacks have keys from here on.
+const UNICODE: u32 = 0x0100_0000;
 
 /// The key of a character, as X11 numbers it. It is `None` for a control character that no key
 /// has.

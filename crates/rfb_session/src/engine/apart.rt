@@ -104,10 +104,10 @@ pub fn view_recording<R: Source, W: Sink, K: Sink>(
     viewer: &mut Viewer,
     updates: u32,
 ) -> Result<u32, EngineFault>
+    requires some { 1 ≤ updates }
     requires readable { R.failed source.old < 2 ^ 64 - 1 }
     requires writable { W.failed sink.old < 2 ^ 64 - 1 }
     requires keepable { K.failed kept.old < 2 ^ 64 - 1 }
-    requires some { 1 ≤ updates }
     ensures told { IfOk result (λ told. told ≡ updates) }
     ensures viewed { OnOk result (HasViewed (R.unread source.old) (R.unread source.new)
         (W.written sink.old) (W.written sink.new) (K.written kept.old) (K.written kept.new)

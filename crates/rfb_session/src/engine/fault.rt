@@ -8,11 +8,6 @@ use rfb_viewer::ViewerFault;
 use std::alloc::AllocError;
 use thiserror::Error;
 
-/// A reader or a writer has failed.
-#[derive(Clone, Copy, Debug, PartialEq, Eq, Error)]
-#[error("29 Device")]
-pub struct Device;
-
 /// Why an engine ends.
 #[derive(Clone, Copy, Debug, PartialEq, Eq, Error)]
 pub enum EngineFault {
@@ -34,6 +29,14 @@ pub enum EngineFault {
     NoMemory,
 }
 
+impl From<AllocError> for EngineFault {
+    ghost from_gives = { λ _ ends. ends ≡ EngineFault.NoMemory };
+
+    fn from(_error: AllocError) -> EngineFault {
+        EngineFault::NoMemory
+    }
+}
+
 impl From<ServerFault> for EngineFault {
     ghost from_gives = { λ fault ends. ends ≡ EngineFault.Server fault };
 
@@ -50,18 +53,15 @@ impl From<ViewerFault> for EngineFault {
     }
 }
 
+/// A reader or a writer has failed.
+#[derive(Clone, Copy, Debug, PartialEq, Eq, Error)]
+#[error("29 Device")]
+pub struct Device;
+
 impl From<Device> for EngineFault {
     ghost from_gives = { λ _ ends. ends ≡ EngineFault.Device };
 
     fn from(_device: Device) -> EngineFault {
         EngineFault::Device
-    }
-}
-
-impl From<AllocError> for EngineFault {
-    ghost from_gives = { λ _ ends. ends ≡ EngineFault.NoMemory };
-
-    fn from(_error: AllocError) -> EngineFault {
-        EngineFault::NoMemory
     }
 }

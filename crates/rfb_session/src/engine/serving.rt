@@ -58,7 +58,7 @@ pub fn serve_over<W: Wire, S: Scene>(
 {
     let greeting = server.greeting();
     send_over(&greeting, wire)?;
-    let updates = serve_all(alloc, wire, server, scene)?;
+    let updates = serve_all(wire, alloc, server, scene)?;
     if !server.between() {
         return Err(EngineFault::Truncated);
     }
@@ -67,17 +67,13 @@ pub fn serve_over<W: Wire, S: Scene>(
 
 // Does so after the greeting.
 fn serve_all<W: Wire, S: Scene>(
-    alloc: Global,
     wire: &mut W,
+    alloc: Global,
     server: &mut Server,
     scene: &mut S,
 ) -> Result<u64, EngineFault>
     requires readable { (W.known wire.old).failed_reads < 2 ^ 64 - 1 }
     requires writable { (W.known wire.old).failed_writes < 2 ^ 64 - 1 }
-    ensures in_order { IfOk result (λ updates. TurnsToEnd W.steps S.shows
-        wire.old server.old scene.old updates wire.new server.new scene.new) }
-    ensures stopped_in_order { IfErr result (λ fault. StopsAfterTurns W.steps W.known S.shows
-        wire.old server.old scene.old fault wire.new server.new scene.new) }
     ensures served { IfOk result (λ updates. AllServedOver
         (W.known wire.old) (W.known wire.new) [] server.old updates server.new) }
     ensures turns { IfOk result (λ updates. TakesTurnsOver S.shows
@@ -89,6 +85,10 @@ fn serve_all<W: Wire, S: Scene>(
         (W.known wire.old) (W.known wire.new) server.old scene.old fault server.new scene.new) }
     ensures failed { StaysUnfedOver (λ f. EngineFault.Server f) (Ok 0) (fault_of server.old)
         (W.known wire.old) (W.known wire.new) server.old result server.new }
+    ensures in_order { IfOk result (λ updates. TurnsToEnd W.steps S.shows
+        wire.old server.old scene.old updates wire.new server.new scene.new) }
+    ensures stopped_in_order { IfErr result (λ fault. StopsAfterTurns W.steps W.known S.shows
+        wire.old server.old scene.old fault wire.new server.new scene.new) }
     ensures same_references { (W.known wire.new).lent ≡ (W.known wire.old).lent }
 {
     let mut part = [0; READ_SIZE];

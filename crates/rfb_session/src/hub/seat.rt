@@ -1,8 +1,7 @@
 //! A viewer's seat at a hub: its session, itself, and what is between them.
 
 ghost use Rattle.std.specs.Prelude.{◌≡◌, ◌≢◌, ◌≤◌, length, true, false, None, IfOk, OnOk, IsOk};
-ghost use Rattle.std.specs.Prelude.{IsErr};
-ghost use Rattle.std.specs.Prelude.{OnErr};
+ghost use Rattle.std.specs.Prelude.{IsErr, OnErr};
 
 use crate::hub::event::SlotEvent;
 use crate::link::Link;

@@ -181,8 +181,8 @@ impl<S: Speaker + Drop> Relay<S> {
     }
 }
 
-// Whether sessions can be of a screen of this size.
-fn is_shown_size(width: u16, height: u16) -> bool
+/// Whether sessions can be of a screen of this size, and a rig's lines name each of its places.
+pub(crate) fn is_shown_size(width: u16, height: u16) -> bool
     ensures { result ≡ is_shown_size width height }
 {
     width > 0 && height > 0 && width <= SIDE_MAX && height <= SIDE_MAX

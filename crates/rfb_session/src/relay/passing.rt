@@ -14,7 +14,7 @@ use crate::seat::Seat;
 use crate::share::event::SeatEvent;
 use rfb_viewer::{AppendFault, Call};
 
-// How many bytes of a text are passed on at most.
+// How many bytes of a text are sent on at most.
 const TEXT_MOST: usize = 1 << 20;
 
 impl<S: Speaker + Drop> Relay<S> {
@@ -90,8 +90,8 @@ impl<S: Speaker + Drop> Relay<S> {
     }
 }
 
-// As much of a text as is passed on.
-fn beginning_of(text: &[u8]) -> &[u8]
+/// As much of a text as is sent to a server.
+pub(crate) fn beginning_of(text: &[u8]) -> &[u8]
     ensures value { result.now ≡ take 1048576 text.now }
     ensures few { length result.now ≤ 1048576 }
 {

@@ -37,11 +37,11 @@ pub struct ShareSeat {
 impl ShareSeat {
     ghost use Rattle.rfb_hello.specs.Version.{version_text};
     ghost use Rattle.rfb_picture.specs.Grid.{Grid, at_or};
-    ghost use Rattle.rfb_pixel.specs.declared.colour.Colour.{Colour};
     ghost use Rattle.rfb_server.specs.KnownScreen.{Follows};
     ghost use Rattle.rfb_server.specs.Model.{session_fault};
     ghost use Rattle.rfb_server.specs.Record.{KeepsOrForgets};
     ghost use Rattle.rfb_server.specs.UpdateCall.{HasAsked};
+    ghost use Rattle.rfb_pixel.specs.declared.colour.Colour.{Colour};
     ghost use Rattle.rfb_session.specs.ShareKin.{known_at};
     ghost use Rattle.rfb_session.specs.ShareSeats.{waiting_in, session_at, is_update, IsFresh};
     ghost use Rattle.rfb_session.specs.ShareSeats.{IsSeatOf, Hears, ComposesAt, WantsRoom};

@@ -3,10 +3,10 @@
 ghost use Rattle.std.specs.Prelude.{◌≡◌, ◌<◌, ℕ, length, nat_eq, true, false, Some, IfOk, OnErr};
 ghost use Rattle.std.specs.Bool.{OnTrue, OnFalse};
 ghost use Rattle.std.specs.Option.{ForSome};
+ghost use Rattle.rfb_session.specs.ShareSeats.{session_at};
 ghost use Rattle.rfb_picture.specs.Places.{has_bit};
 ghost use Rattle.rfb_server.specs.KnownScreen.{Follows};
 ghost use Rattle.rfb_session.specs.ShareKin.{KnowAlike, known_at};
-ghost use Rattle.rfb_session.specs.ShareSeats.{session_at};
 ghost use Rattle.rfb_session.specs.ShareTwins.{IsTwinIn, IsTwinOf, IsGiven, IsGivenTo};
 ghost use Rattle.rfb_session.specs.ShareTwins.{IsToBeGiven, IsHeirIn, IsGivenFrom, IsSharedIn};
 ghost use Rattle.rfb_session.specs.Slots.{seat_at};

@@ -56,6 +56,16 @@ impl Desk {
         taken && !is_over
     }
 
+    /// The viewers of these seats are let go, with nothing wrong, and a line tells each.
+    pub(crate) fn let_all_go(&mut self, seats: Seats) -> io::Result<()>
+        ensures { OnOk result (LetsAllGo self.old seats self.new) }
+    {
+        for place in 0..SLOTS {
+            self.let_go_at(place, seats)?;
+        }
+        Ok(())
+    }
+
     /// It is told of each of these seats that its viewer went, with nothing wrong. Their sessions
     /// are gone already.
     pub(crate) fn part(&mut self, seats: Seats) -> io::Result<()>
@@ -67,6 +77,7 @@ impl Desk {
         Ok(())
     }
 
+    // The same of one place.
     fn part_at(&mut self, place: usize, seats: Seats) -> io::Result<()>
         requires { place < 8 }
         ensures { OnOk result (PartsAt self.old place (has_bit seats place) self.new) }
@@ -83,16 +94,7 @@ impl Desk {
         tell_leave(&mut self.lines, seat.number())
     }
 
-    /// The viewers of these seats are let go, with nothing wrong, and a line tells each.
-    pub(crate) fn let_all_go(&mut self, seats: Seats) -> io::Result<()>
-        ensures { OnOk result (LetsAllGo self.old seats self.new) }
-    {
-        for place in 0..SLOTS {
-            self.let_go_at(place, seats)?;
-        }
-        Ok(())
-    }
-
+    // Lets go of the viewer of one place, if its seat is among these.
     fn let_go_at(&mut self, place: usize, seats: Seats) -> io::Result<()>
         requires { place < 8 }
         ensures { OnOk result (LetsGoIf self.old place (has_bit seats place) self.new) }

@@ -13,7 +13,6 @@ ghost use Rattle.rfb_session.specs.ShareWaiters.{SomeAsked};
 
 use crate::channel::Channel;
 use crate::console::desk::{Desk, Hold, LINES_ROOM};
-use crate::console::guest::Guest;
 use crate::console::plan::Rules;
 use crate::relay::Gone;
 use crate::relay::lines::{tell_bell, tell_down, tell_server_text, tell_up};
@@ -36,16 +35,7 @@ impl Desk {
         let mut lines = Vec::with_capacity(alloc, LINES_ROOM)?;
         let picture = share.picture();
         tell_up(&mut lines, picture.width(), picture.height(), name)?;
-        Ok(Desk {
-            share,
-            guests: [Guest::none(); SLOTS],
-            lines,
-            rules,
-            hold: Hold::Shown,
-            came: false,
-            next: None,
-            first: Seat::at(0),
-        })
+        Ok(Desk::of(share, lines, rules))
     }
 
     /// Takes bytes of the server's, as `Share::feed` does. Where they end inside of a message
@@ -165,7 +155,7 @@ impl Desk {
         requires few { length (text_in call.now) ≤ 1048576 }
         ensures { CallsDesk self.old call.now to_server.old result to_server.new self.new }
     {
-        to_server.send_from(&mut self.share, call)
+        to_server.send_for(&mut self.share, call)
     }
 
     /// The whole screen, if some viewer waits for an update of it.

@@ -98,6 +98,18 @@ impl<R: Rig + Drop> Core for Driver<R> {
 }
 
 impl<R: Rig + Drop> Driver<R> {
+    // Bytes of the rig's are kept until they are lines. After the end they are not.
+    fn add(&mut self, bytes: &[u8])
+        ensures { Adds bytes.now self.old self.new }
+    {
+        if self.outcome.is_some() {
+            return;
+        }
+        if self.input.add(bytes).is_err() {
+            self.end(DriveOutcome::NoMemory);
+        }
+    }
+
     // Takes bytes that came at a door.
     fn hear_at(&mut self, door: usize, bytes: &[u8]) -> usize
         requires some { 0 < length bytes.now }
@@ -111,18 +123,6 @@ impl<R: Rig + Drop> Driver<R> {
             self.add(bytes);
         }
         bytes.len()
-    }
-
-    // Bytes of the rig's are kept until they are lines. After the end they are not.
-    fn add(&mut self, bytes: &[u8])
-        ensures { Adds bytes.now self.old self.new }
-    {
-        if self.outcome.is_some() {
-            return;
-        }
-        if self.input.add(bytes).is_err() {
-            self.end(DriveOutcome::NoMemory);
-        }
     }
 
     // So many bytes of a door were taken.

@@ -7,20 +7,16 @@ ghost use Rattle.rfb_session.specs.drive.driver.Driver.{ShowsOrChanges, TellsIf,
 ghost use Rattle.rfb_session.specs.drive.driver.Driver.{Updates};
 ghost use Rattle.rfb_session.specs.drive.driver.RigLines.{changed_line};
 ghost use Rattle.rfb_session.specs.drive.driver.Sight as spec;
-ghost use Rattle.rfb_session.specs.relay.Calls.{is_shown_size};
 
 use crate::drive::driver::lines::{bell_line, changed_line, ready_line, text_line};
 use crate::drive::driver::looking::whole_of;
 use crate::drive::driver::{DriveOutcome, Driver, Rig};
-use crate::relay::Gone;
+use crate::relay::{Gone, is_shown_size};
 use rfb_hello::Fed;
 use rfb_picture::Rect;
 use rfb_viewer::{AppendFault, Call, ViewerEvent};
 use std::alloc::Global;
 use std::io;
-
-// How many columns and rows a screen has at most.
-const SIDE_MAX: u16 = 4096;
 
 impl<R: Rig + Drop> Driver<R> {
     /// Takes bytes of the server's, up to the last of its first item that is answered or reported,
@@ -175,13 +171,6 @@ impl<R: Rig + Drop> Driver<R> {
             self.tell(changed_line(self.alloc, rect));
         }
     }
-}
-
-// Whether a screen of this size has a place for each line.
-fn is_shown_size(width: u16, height: u16) -> bool
-    ensures { result ≡ is_shown_size width height }
-{
-    width > 0 && height > 0 && width <= SIDE_MAX && height <= SIDE_MAX
 }
 
 // The least rectangle that holds what changed before and a rectangle.

@@ -1,6 +1,6 @@
 //! The messages that a line becomes, RFC 6143 sections 7.5.4 to 7.5.6.
 
-ghost use Rattle.std.specs.Prelude.{◌≡◌, ◌≤◌, ◌++◌, ◌∷◌, [], length, map, take, IfOk};
+ghost use Rattle.std.specs.Prelude.{◌≡◌, ◌≤◌, ◌++◌, ◌∷◌, [], length, map, IfOk};
 ghost use Rattle.std.specs.Str.{chars};
 ghost use Rattle.rfb_session.specs.drive.Keyboard.{typed};
 ghost use Rattle.rfb_session.specs.drive.driver.Acts as spec;
@@ -12,12 +12,10 @@ use crate::drive::drive_line::DriveLine;
 use crate::drive::key_event::KeyEvent;
 use crate::drive::typing::type_text;
 use crate::drive::words::{Place, Press, Way};
+use crate::relay::beginning_of;
 use hex::FromHexError;
 use rfb_wire::ClientHead;
 use std::alloc::{AllocError, Global};
-
-// A text has no more bytes.
-const TEXT_MAX: usize = 1 << 20;
 
 const FIRST_BUTTON: u8 = 1;
 
@@ -158,17 +156,6 @@ pub(crate) fn spell_text(text: &[u8], out: &mut Vec<u8>) -> Result<(), AllocErro
     let head = ClientHead::CutText(text.len() as u32);
     out.extend_from_slice(head.spell().as_slice())?;
     out.extend_from_slice(text)
-}
-
-// As much of a text as is sent.
-fn beginning_of(text: &[u8]) -> &[u8]
-    ensures value { result.now ≡ take 1048576 text.now }
-    ensures few { length result.now ≤ 1048576 }
-{
-    if text.len() <= TEXT_MAX {
-        return text;
-    }
-    &text[..TEXT_MAX]
 }
 
 // The bit of a button.

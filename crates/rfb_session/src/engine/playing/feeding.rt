@@ -29,8 +29,8 @@ pub(super) fn feed_all<R: Source, A: Watcher>(
     enough: Option<u64>,
     watcher: &mut A,
 ) -> Result<u64, EngineFault>
-    requires countable { R.failed source.old < 2 ^ 64 - 1 }
     requires some { IfSome enough (λ count. 1 ≤ count) }
+    requires countable { R.failed source.old < 2 ^ 64 - 1 }
     ensures few { IfOk result (λ told. AreNoMore enough told) }
     ensures first { IfOk result (λ told. AreEnough enough told → PlayedFirst
         (R.unread source.old) (R.unread source.new) viewer.old told viewer.new) }

@@ -1,7 +1,7 @@
 use Rattle.std.proofs.Common.{List, ℕ, drop, subst, arith}
 use Rattle.rfb_session.specs.relay.Desk.{CallsShare}
 use Rattle.rfb_session.proofs.RelayLemmas.{calls_behind, grows}
-use Rattle.rfb_session.proofs.channel.Channel.send_from.Goals as goal
+use Rattle.rfb_session.proofs.channel.Channel.send_for.Goals as goal
 
 pub invariant_of-self : goal.invariant_of-self
 invariant_of-self c =
