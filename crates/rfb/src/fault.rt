@@ -29,6 +29,18 @@ pub enum Fault {
     NoSuchSlot,
 }
 
+impl From<io::Error> for Fault {
+    ghost from_gives = { IsFaultOf };
+
+    fn from(error: io::Error) -> Fault {
+        if error.kind() == ErrorKind::OutOfMemory {
+            Fault::NoMemory
+        } else {
+            Fault::Device
+        }
+    }
+}
+
 impl From<AllocError> for Fault {
     ghost from_gives = { λ _ fault. fault ≡ Fault.NoMemory };
 
@@ -50,18 +62,6 @@ impl From<Device> for Fault {
 
     fn from(_error: Device) -> Fault {
         Fault::Device
-    }
-}
-
-impl From<io::Error> for Fault {
-    ghost from_gives = { IsFaultOf };
-
-    fn from(error: io::Error) -> Fault {
-        if error.kind() == ErrorKind::OutOfMemory {
-            Fault::NoMemory
-        } else {
-            Fault::Device
-        }
     }
 }
 
@@ -114,14 +114,6 @@ impl From<Fault> for Failure {
     }
 }
 
-impl From<EngineFault> for Failure {
-    ghost from_gives = { λ fault failure. failure ≡ Failure.Engine fault };
-
-    fn from(fault: EngineFault) -> Failure {
-        Failure::Engine(fault)
-    }
-}
-
 impl From<Device> for Failure {
     ghost from_gives = { λ _ failure. failure ≡ Failure.Fault Fault.Device };
 
@@ -151,5 +143,13 @@ impl From<io::Error> for Failure {
 
     fn from(error: io::Error) -> Failure {
         Failure::Fault(Fault::from(error))
+    }
+}
+
+impl From<EngineFault> for Failure {
+    ghost from_gives = { λ fault failure. failure ≡ Failure.Engine fault };
+
+    fn from(fault: EngineFault) -> Failure {
+        Failure::Engine(fault)
     }
 }

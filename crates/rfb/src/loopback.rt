@@ -43,6 +43,7 @@ pub const LOOP: &Usage<'static> = &Usage {
 pub fn script_through_loopback<P: AllocGlobal + Net, R: Read, W: Write, E: Write>(
     context: &mut Context<P, R, W, E>,
 ) -> Result<(), Failure>
+    ensures same { KeepsStreams context.old context.new }
     ensures done { OnOk result (PlaysSomeScript (R.remaining context.old.input.now)
         (W.contents context.old.output.now) (W.contents context.new.output.now)) }
     ensures stopped { IfErr result (FailsAt (R.remaining context.old.input.now)) }
@@ -50,7 +51,6 @@ pub fn script_through_loopback<P: AllocGlobal + Net, R: Read, W: Write, E: Write
         → context.new.output.now ≡ context.old.output.now }
     ensures left { OnErr result (LeavesSomePicture
         (W.contents context.old.output.now) (W.contents context.new.output.now)) }
-    ensures same { KeepsStreams context.old context.new }
 {
     let alloc = context.alloc();
     let mut text = Vec::new(alloc);

@@ -42,12 +42,12 @@ pub fn relay_at<P: AllocGlobal + Clock + Net, R: Read, W: Write, E: Write>(
     context: &mut Context<P, R, W, E>,
     options: RelayOptions<'_>,
 ) -> Result<(), Failure>
+    ensures same { KeepsStreams context.old context.new }
     ensures done { OnOk result (Relays options.entry) }
     ensures stopped { IfErr result (FailsToRelay options.entry
         (W.contents context.old.output.now) (W.contents context.new.output.now)) }
     ensures left { OnErr result (LeavesRelay options.entry
         (W.contents context.old.output.now) (W.contents context.new.output.now)) }
-    ensures same { KeepsStreams context.old context.new }
 {
     let hosting = options.hosting;
     let (streams, says) = streams_for(context.errors, hosting.is_quiet)?;

@@ -78,8 +78,8 @@ where
         Ok(file) => {
             let mut source = Source::new(file);
             let mut inner = Context {
-                rt: context.rt,
                 input: &mut source,
+                rt: context.rt,
                 output: &mut *context.output,
                 errors: &mut *context.errors,
                 explains: context.explains,

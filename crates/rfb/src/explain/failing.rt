@@ -101,14 +101,6 @@ impl fmt::Display for ServerFlaw {
 // What is wrong with what a server sent, where its fault alone says it.
 fn flaw_of_server(fault: ViewerFault) -> &'static str {
     match fault {
-        ViewerFault::RectOutside => "a rectangle leaves the screen",
-        ViewerFault::SubrectOutside => "a subrectangle leaves its rectangle or its tile",
-        ViewerFault::NoBackground => "a tile of Hextile has no background",
-        ViewerFault::NoForeground => "a tile of Hextile has no foreground",
-        ViewerFault::BothColourBits => {
-            "the mask of a tile of Hextile has a foreground, and subrectangles with colours"
-        }
-        ViewerFault::SourceOutside => "the source of a CopyRect leaves the screen",
         ViewerFault::BadVersion => "the other end sent no version: it is no server of RFB",
         ViewerFault::NoneNotOffered | ViewerFault::BadSecurityWord => {
             "the server offers no security type 1 (None)"
@@ -118,6 +110,14 @@ fn flaw_of_server(fault: ViewerFault) -> &'static str {
         ViewerFault::ScreenEmpty => "the server's screen has no pixel",
         ViewerFault::ScreenTooLarge => "the server's screen has more than 16777216 pixels",
         ViewerFault::NoMemory => "there is no memory for the screen",
+        ViewerFault::RectOutside => "a rectangle leaves the screen",
+        ViewerFault::SubrectOutside => "a subrectangle leaves its rectangle or its tile",
+        ViewerFault::NoBackground => "a tile of Hextile has no background",
+        ViewerFault::NoForeground => "a tile of Hextile has no foreground",
+        ViewerFault::BothColourBits => {
+            "the mask of a tile of Hextile has a foreground, and subrectangles with colours"
+        }
+        ViewerFault::SourceOutside => "the source of a CopyRect leaves the screen",
         _ => "the server broke the protocol",
     }
 }
@@ -146,10 +146,6 @@ pub struct Flaw(pub ServerFault);
 impl fmt::Display for Flaw {
     fn fmt<F: fmt::Write>(&self, f: &mut fmt::Formatter<F>) -> fmt::Result {
         match self.0 {
-            ServerFault::UnknownMessage(kind) => write!(
-                f,
-                "the viewer sent a message of type {kind}, which no client has in RFC 6143"
-            ),
             ServerFault::BadBits
             | ServerFault::DepthTooLarge
             | ServerFault::BadMax
@@ -158,6 +154,10 @@ impl fmt::Display for Flaw {
                 f,
                 "the viewer asked for a pixel format that cannot be: {}",
                 self.0
+            ),
+            ServerFault::UnknownMessage(kind) => write!(
+                f,
+                "the viewer sent a message of type {kind}, which no client has in RFC 6143"
             ),
             other => f.write_str(flaw_of_client(other)),
         }

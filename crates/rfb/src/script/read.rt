@@ -78,17 +78,17 @@ fn line_of(words: &[&[u8]]) -> Option<Line>
     ensures { MatchOption result (SaysNothing (texts words.now)) (Says (texts words.now)) }
 {
     let (keyword, rest) = words.split_first()?;
-    if *keyword == SCREEN {
-        return Some(Line::Screen(read_size(rest)?));
-    }
-    if *keyword == VIEWER {
-        return Some(Line::Viewer(read_wants(rest)?));
-    }
     if *keyword == SETTLE {
         if rest.is_empty() {
             return Some(Line::Step(Step::Settle));
         }
         return None;
+    }
+    if *keyword == SCREEN {
+        return Some(Line::Screen(read_size(rest)?));
+    }
+    if *keyword == VIEWER {
+        return Some(Line::Viewer(read_wants(rest)?));
     }
     Some(Line::Step(Step::Event(event_of(keyword, rest)?)))
 }

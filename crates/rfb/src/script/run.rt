@@ -1,13 +1,13 @@
 //! A script from its bytes to its picture.
 
 ghost use Rattle.std.specs.Prelude.{◌≡◌, ◌⊎◌, ℕ, Err, OnOk, OnErr, IfErr};
+ghost use Rattle.rfb.specs.declared.fault.Failure.TheVariants as Failure;
 ghost use Rattle.rfb.specs.CommandLine.{FailsAtAny, LeavesPlayed, LeavesScript, PlaysScript};
 ghost use Rattle.rfb.specs.CommandLine.{ShowsTo, WritesPlayed, WritesShown};
 ghost use Rattle.rfb.specs.Context.{KeepsStreams};
 ghost use Rattle.rfb.specs.ScriptRun.{TakesAll, ends_of};
 ghost use Rattle.rfb_session.specs.Devices.{AppendsBeginning};
 ghost use Rattle.rfb_session.specs.InFlight.{AreMade};
-ghost use Rattle.rfb.specs.declared.fault.Failure.TheVariants as Failure;
 
 use crate::context::Context;
 use crate::explain::Notes;

@@ -19,6 +19,18 @@ pub const MOST_RATE: u16 = 1000;
 // How many there are where no number is given.
 const RATE: u16 = 30;
 
+// Which pictures are wanted. The format is judged first.
+fn film_in<'a>(given: &ArgMatches<'a>) -> Result<Film, BadValue<'a>>
+    ensures { MatchResult result (GivesFilm (rows_of (found_of given.now)))
+        (λ _. HasBadWants (rows_of (found_of given.now))) }
+{
+    Ok(Film {
+        wants: wants_in(given, only_raw())?,
+        updates: number_given(given, "updates"),
+        rate: number_or(given, "fps", MOST_RATE, RATE),
+    })
+}
+
 /// The server that is to be followed, and which pictures of it are wanted. What goes with them is
 /// judged first: no recording, and no part of a picture.
 pub fn follow_options_in<'a>(given: &ArgMatches<'a>) -> Result<FollowOptions<'a>, BadValue<'a>>
@@ -34,17 +46,5 @@ pub fn follow_options_in<'a>(given: &ArgMatches<'a>) -> Result<FollowOptions<'a>
     Ok(FollowOptions {
         peer: peer_in(given)?,
         film: film_in(given)?,
-    })
-}
-
-// Which pictures are wanted. The format is judged first.
-fn film_in<'a>(given: &ArgMatches<'a>) -> Result<Film, BadValue<'a>>
-    ensures { MatchResult result (GivesFilm (rows_of (found_of given.now)))
-        (λ _. HasBadWants (rows_of (found_of given.now))) }
-{
-    Ok(Film {
-        wants: wants_in(given, only_raw())?,
-        updates: number_given(given, "updates"),
-        rate: number_or(given, "fps", MOST_RATE, RATE),
     })
 }

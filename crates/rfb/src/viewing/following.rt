@@ -106,8 +106,8 @@ fn follow_over<R: Read + Drop, V: Write + Drop, C: Clock, W: Write, N: Write>(
         (W.contents output.old) (W.contents output.new)) }
 {
     let mut viewer = viewer_for(alloc, &film);
-    let mut heard = Heard::new(Origin::Connection);
     let mut unsent = None;
+    let mut heard = Heard::new(Origin::Connection);
     let shared = RefCell::new(&mut *notes);
     let mut telling = Telling::quiet(Origin::Connection, Shared::new(&shared));
     let hearing = Hearing::new(reader, &mut heard, Shared::new(&shared));
