@@ -124,7 +124,8 @@ stopped f rect first stage none pending old picture new i bytes slice flaw is sa
     }
 
 -- what is used of a slice ends within the bytes
-used_within : (i n : ℕ) (bytes slice : List ℕ) → slice ≡ drop i bytes → 0 < n → n ≤ length slice → i + n ≤ length bytes
+used_within : (i n : ℕ) (bytes slice : List ℕ) → slice ≡ drop i bytes → 0 < n →
+    n ≤ length slice → i + n ≤ length bytes
 used_within i n bytes slice is some within =
     let left : length slice ≡ length bytes - i = ap length is ∙ length-drop i bytes in
     omega (arith, some, within, left)

@@ -1,5 +1,6 @@
 -- Places of a row that are moved along it, some at once.
-use Rattle.std.proofs.Common.{ℕ, ◌≡◌, ◌+◌, ◌-◌, ◌≤◌, ◌∙◌, ◌⊎◌, List, length, slice_index_or, ap}
+use Rattle.std.proofs.Common.{ℕ, ◌≡◌, ◌+◌, ◌-◌, ◌≤◌, ◌∙◌, ◌⊎◌, List, length}
+use Rattle.std.proofs.Common.{slice_index_or, ap}
 use Rattle.std.proofs.Common.{arith, inl, inr, true, false}
 use Rattle.std.proofs.lemmas.Bool.{cases_lt}
 use Rattle.std.proofs.lemmas.Bool.Decides.{nat_tests}

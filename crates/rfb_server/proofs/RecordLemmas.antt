@@ -1,5 +1,6 @@
 -- A record by its pixels and its set of known places.
-use Rattle.std.proofs.Common.{◌≡◌, ℕ, zero, suc, replicate, ◌<◌, ◌≤◌, ◌+◌, ◌-◌, ◌*◌, ◌||◌, Bool, true}
+use Rattle.std.proofs.Common.{◌≡◌, ℕ, zero, suc, replicate, ◌<◌, ◌≤◌, ◌+◌, ◌-◌}
+use Rattle.std.proofs.Common.{◌*◌, ◌||◌, Bool, true}
 use Rattle.std.proofs.Common.{false, Option, Some, None}
 use Rattle.std.proofs.Common.{if◌then◌else◌, List, length, ap, sym, ◌∙◌, refl, arith, zero-add}
 use Rattle.std.proofs.lemmas.Bool.Decides.{nat_tests}

@@ -218,7 +218,8 @@ heir_between screen slots own k one slot is_one is_slot heir =
 
 pub given_between : (screen : Grid Colour) (old new : List (Option ShareSeat)) (own k : ℕ)
     (one was slot : Option ShareSeat) → seat_at own old ≡ one → seat_at k old ≡ was →
-    seat_at k new ≡ slot → IsGiven screen one was slot → ForSome slot (λ seat. Follows screen (session_at seat)) →
+    seat_at k new ≡ slot → IsGiven screen one was slot →
+    ForSome slot (λ seat. Follows screen (session_at seat)) →
     IsGivenFrom screen own k old new
 given_between screen old new own k one was slot is_one is_was is_slot given follows = record {
   given = subst (λ (s : Option ShareSeat). IsGiven screen s (seat_at k old) (seat_at k new)) (sym is_one)

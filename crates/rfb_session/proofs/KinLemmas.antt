@@ -1,6 +1,8 @@
 -- Seats of a share that are kin know the same, whatever becomes of the seats.
-use Rattle.std.proofs.Common.{◌≡◌, ◌≢◌, ℕ, ◌<◌, ◌≤◌, ◌+◌, ◌||◌, ◌∙◌, Bool, true, false, nat_eq, List, length, set}
-use Rattle.std.proofs.Common.{Option, Some, None, refl, sym, ap, subst, arith, inl, inr, ◌⊎◌, if◌then◌else◌, slice_index_or}
+use Rattle.std.proofs.Common.{◌≡◌, ◌≢◌, ℕ, ◌<◌, ◌≤◌, ◌+◌, ◌||◌, ◌∙◌, Bool}
+use Rattle.std.proofs.Common.{true, false, nat_eq, List, length, set}
+use Rattle.std.proofs.Common.{Option, Some, None, refl, sym, ap, subst, arith, inl, inr, ◌⊎◌}
+use Rattle.std.proofs.Common.{if◌then◌else◌, slice_index_or}
 use Rattle.std.specs.Bool.{OnTrue}
 use Rattle.std.proofs.lemmas.Bool.{cases_eq, cases_lt, OnTrue_at}
 use Rattle.std.proofs.lemmas.List.{get_or_past}
@@ -102,7 +104,8 @@ pub alike_set : (kin : Kin) (seats : List (Option ShareSeat)) (place : ℕ) (slo
 alike_set kin seats place slot within still =
     alike_still kin seats (set seats place slot) (λ k. by k (cases_eq k place))
   where
-    by : (k : ℕ) → ((k ≡ place) ⊎ (k ≢ place)) → StillKnows (seat_at k seats) (seat_at k (set seats place slot))
+    by : (k : ℕ) → ((k ≡ place) ⊎ (k ≢ place)) →
+        StillKnows (seat_at k seats) (seat_at k (set seats place slot))
     by k (inl is) =
         rw is (λ seat there. still seat (sym (seat_set_same seats place slot within) ∙ there))
     by k (inr differ) = still_same _ _ (seat_set_other seats place k slot (other k place differ))
@@ -122,7 +125,8 @@ alike_apart old new seats place slot left alike j k one another are is_one is_ot
 
 -- after bytes of a seat it has its kin where it still knows what it knew, and has left them otherwise
 pub stays_or_leaves : (knows : Bool) (place : ℕ) (old new : Kin) (was now : Option ShareSeat) →
-    (knows ≡ true → new ≡ old) → (knows ≡ false → Leaves place old new) → OnTrue knows (KnowsFirst now) →
+    (knows ≡ true → new ≡ old) → (knows ≡ false → Leaves place old new) →
+    OnTrue knows (KnowsFirst now) →
     (KnowsFirst now → StillKnows was now) → StaysOrLeaves place old new was now
 stays_or_leaves true place old new was now stays leaves first still =
     inl (stays refl, still (OnTrue_at refl first))

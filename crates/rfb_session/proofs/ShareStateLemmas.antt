@@ -1,5 +1,6 @@
 -- What is so of a share between its calls is so again after a step of one.
-use Rattle.std.proofs.Common.{◌⊎◌, ◌≢◌, inl, inr, ap, ◌≡◌, ◌≤◌, ◌<◌, ◌||◌, ◌&&◌, ◌∙◌, not, nat_eq, ℕ, false, List, length, set}
+use Rattle.std.proofs.Common.{◌⊎◌, ◌≢◌, inl, inr, ap, ◌≡◌, ◌≤◌, ◌<◌, ◌||◌}
+use Rattle.std.proofs.Common.{◌&&◌, ◌∙◌, not, nat_eq, ℕ, false, List, length, set}
 use Rattle.std.proofs.Common.{Option, Some, None, sym, subst, arith, slice_index_or}
 use Rattle.std.proofs.lemmas.Bool.{cases_eq}
 use Rattle.std.proofs.lemmas.List.{length-set}

@@ -1,6 +1,7 @@
 -- Which seats of a share know the same of their viewers' pictures: kin have one number, and an update for
 -- one of them was given to the others.
-use Rattle.std.specs.Prelude.{◌≡◌, ◌≢◌, ◌⊎◌, ℕ, ◌<◌, ◌||◌, Bool, false, nat_eq, List, Option, Some, None}
+use Rattle.std.specs.Prelude.{◌≡◌, ◌≢◌, ◌⊎◌, ℕ, ◌<◌, ◌||◌, Bool, false, nat_eq}
+use Rattle.std.specs.Prelude.{List, Option, Some, None}
 use Rattle.std.specs.Prelude.{slice_index_or, option_map}
 use Rattle.std.specs.Option.{ForSome}
 use Rattle.rfb_picture.specs.Grid.{Grid, at_or}

@@ -1,6 +1,7 @@
 -- Heads byte for byte as RFC 6143 lays them out, computed from the relations: these bytes spell
 -- this head, and no other.
-use Rattle.std.proofs.Common.{◌≡◌, ◌∙◌, ℕ, List, [], ◌∷◌, true, false, length, slice_index, Option, Some, refl}
+use Rattle.std.proofs.Common.{◌≡◌, ◌∙◌, ℕ, List, [], ◌∷◌, true, false, length, slice_index}
+use Rattle.std.proofs.Common.{Option, Some, refl}
 use Rattle.std.proofs.Common.{sym, subst, negsuc, arith}
 use Rattle.rfb_wire.specs.declared.client_head.ClientHead.TheVariants.{SetPixelFormat, SetEncodings, Request, Key}
 use Rattle.rfb_wire.specs.declared.client_head.ClientHead.TheVariants.{Pointer, CutText}

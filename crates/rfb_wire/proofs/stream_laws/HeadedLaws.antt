@@ -1,5 +1,6 @@
 -- The law of a head whose first byte decides its size.
-use Rattle.std.proofs.Common.{◌≡◌, ℕ, ◌+◌, ◌*◌, ◌-◌, ◌<◌, inl, inr, List, [], ◌∷◌, ◌++◌, Option, Some, None, length}
+use Rattle.std.proofs.Common.{◌≡◌, ℕ, ◌+◌, ◌*◌, ◌-◌, ◌<◌, inl, inr, List, [], ◌∷◌}
+use Rattle.std.proofs.Common.{◌++◌, Option, Some, None, length}
 use Rattle.std.proofs.Common.{slice_index, refl, sym, subst, ◌∙◌, ap, length-append, arith}
 use Rattle.rfb_wire.specs.stream.Reading.{Reading, Says, Reads, Same, Listed}
 use Rattle.rfb_wire.specs.stream.Parts.{waiting, refused, valued, rest_of_head, headed, and_then}

@@ -45,7 +45,8 @@ invariant_of-self-then-is_sole c =
     c.hear_at.new.kin
     (sound_heard s k c.place-place.ensures.below c.hear_at.new.slot c.with-self.result c.args.seat _
     c.place-place.ensures.value c.with-self.ensures c.hear_at.ensures.follows c.hear_at.new.kin
-    (alike_after s k c.place-place.ensures.below c.hear_at.new.slot _ c.hear_at.new.kin c.hear_at.ensures.kin)) others.size others.own others.others)
+    (alike_after s k c.place-place.ensures.below c.hear_at.new.slot _ c.hear_at.new.kin c.hear_at.ensures.kin))
+    others.size others.own others.others)
 
 pub returns-then-is_sole-clause-heard : goal.returns-then-is_sole-clause-heard
 returns-then-is_sole-clause-heard c =
