@@ -1,5 +1,5 @@
 -- A copy that the viewer made: what was claimed of what it copied is claimed of where that lies now.
-use Rattle.std.proofs.Common.{◌≡◌, ℕ, ◌+◌, ◌-◌, ◌<◌, ◌≤◌, Bool, true, false, List, Option, Some, None, inl, inr, refl}
+use Rattle.std.proofs.Common.{◌≡◌, ℕ, ◌+◌, ◌-◌, ◌<◌, ◌≤◌, Bool, true, false, Option, Some, None, inl, inr, refl}
 use Rattle.std.proofs.Common.{◌∙◌, arith}
 use Rattle.std.specs.Option.{ForSome}
 use Rattle.std.proofs.lemmas.Bool.{both_ways}
@@ -14,7 +14,7 @@ use Rattle.rfb_server.specs.declared.claim.Claim.{Claim}
 use Rattle.rfb_server.specs.declared.hint.Hint.{Hint}
 use Rattle.rfb_server.specs.declared.session.Session.{Session}
 use Rattle.rfb_server.specs.KnownScreen.{Follows}
-use Rattle.rfb_server.specs.inside.Copies.{SendsHint}
+use Rattle.rfb_server.specs.inside.Copies.{FollowsHint}
 use Rattle.rfb_server.specs.Claims.{IsTrue, IsClaimed, IsLedBy, IsLedOn, IsApartFrom, is_stale, is_claimed}
 use Rattle.rfb_server.specs.Request.{wanted_at}
 use Rattle.rfb_server.proofs.ClaimLemmas.{claimed_row, row_claimed}
@@ -104,15 +104,15 @@ module _ (screen : Grid Colour) (known now : Grid (Option ℕ)) (form : PixelFor
   led_on_claimed next (inr (same, apart)) = rw same (by_apart apart)
 
 -- the same of a session's, once it has used a hint
-pub used_claimed : (screen : Grid Colour) (hint : Hint) (old new : Session) (did : Bool) (before after : List ℕ)
-    (claim next : Option Claim) → did ≡ true → Follows screen old → SendsHint did screen hint old new before after →
+pub used_claimed : (screen : Grid Colour) (hint : Hint) (old new : Session) (did : Bool)
+    (claim next : Option Claim) → did ≡ true → Follows screen old → FollowsHint did screen hint old new →
     new.format ≡ old.format → IsClaimed screen old.known old.format claim →
     ForSome next (λ n. (was : Claim) × (claim ≡ Some was) × IsLedOn hint was n) →
     IsClaimed screen new.known new.format next
-used_claimed screen hint old new false before after claim next used follows sends form claimed left =
+used_claimed screen hint old new false claim next used follows taken form claimed left =
     absurd (both_ways false refl used)
-used_claimed screen hint old new true before after claim next used follows sends form claimed left = λ n some.
-    let (useful, appends, known) = sends in
+used_claimed screen hint old new true claim next used follows taken form claimed left = λ n some.
+    let (useful, known) = taken in
     let (was, this, led) = left n some in
     let size = follows.alike in
     let to = useful.gain.on_screen in

@@ -1,6 +1,6 @@
 -- What a session takes over of its twin's update, and what its viewer is sent by that.
 use Rattle.std.proofs.Common.{◌≡◌, ℕ, ◌<◌, ◌≤◌, ◌+◌, ◌*◌, ◌&&◌, ◌||◌, ◌⊎◌, Bool}
-use Rattle.std.proofs.Common.{true, false, List, [], length, Option, Some, None}
+use Rattle.std.proofs.Common.{true, false, not, List, [], length, Option, Some, None}
 use Rattle.std.proofs.Common.{ap, sym, subst, ◌∙◌, refl, arith, inl, inr, ◌==◌}
 use Rattle.std.specs.Int.{div_ceil}
 use Rattle.std.proofs.lemmas.Bool.{cases_eq, cases_lt, both_ways, eqb-true}
@@ -17,7 +17,9 @@ use Rattle.rfb_server.specs.declared.session.Session.{Session}
 use Rattle.rfb_server.specs.Cells.{cell_of, IsCell}
 use Rattle.rfb_server.specs.KnownScreen.{Follows, IsCaughtUp}
 use Rattle.rfb_server.specs.Record.{AreKnown}
-use Rattle.rfb_server.specs.Request.{wanted_at}
+use Rattle.rfb_server.specs.Request.{wanted_at, differs}
+use Rattle.rfb_server.specs.declared.session.update.quiet.Quiet.{Quiet}
+use Rattle.rfb_server.specs.inside.Needs.{IsQuiet, is_quiet}
 use Rattle.rfb_server.specs.inside.Sends.{NoneMayNeed, may_need, IsKept, IsNext}
 use Rattle.rfb_server.specs.inside.Twins.{IsKnownAlike, ShowsAll, TakesSome, Agree}
 use Rattle.rfb_hello.specs.declared.server_hello.ServerHello.{ServerHello}
@@ -36,9 +38,11 @@ use Rattle.rfb_server.specs.Progress.{is_ready, is_idle, fault_in, ProgressStand
 use Rattle.rfb_server.specs.Server.{Serving, ServerState}
 use Rattle.rfb_server.specs.Twins.{AreTwins, HasSentTwin}
 use Rattle.rfb_server.specs.UpdateCall.{HasSent, IsUpdate, SendsUpdate}
+use Rattle.rfb_server.specs.inside.Sessions.{KeepsSetting}
 use Rattle.rfb_server.specs.inside.Twins.{HasTakenOver}
 use Rattle.rfb_server.specs.inside.Sends.{state_of}
 use Rattle.rfb_server.proofs.ComposesLemmas.{all_cells}
+use Rattle.rfb_server.proofs.KeptLemmas.{setting_then}
 use Rattle.rfb_server.proofs.RecordLemmas.{same_values}
 use Rattle.rfb_server.proofs.ServerLaws.{same_notes}
 use Rattle.rfb_server.proofs.UpdatingLemmas.{same_state, state_is, ready_point, stands_anew, sent_update}
@@ -135,6 +139,32 @@ taken_all screen first mid sent n about asked kept wide high wide_too high_too s
           | inr taken ↦ taken ∙ right
         ]
 
+-- a place that is asked and needs no sending has the wanted pixel
+right_of : (asked whole : Bool) (wanted : ℕ) (known : Option ℕ) → asked ≡ true →
+    (asked && (whole || differs wanted known)) ≡ false → known ≡ Some wanted
+right_of false whole wanted known e f = absurd cc
+right_of true true wanted known e f = absurd cc
+right_of true false wanted None e f = absurd cc
+right_of true false wanted (Some old) e f =
+    ap (λ (pixel : ℕ). Some pixel) (eqb-true old wanted (not_false (old == wanted) f))
+  where
+    not_false : (b : Bool) → not b ≡ false → b ≡ true
+    not_false true e = refl
+    not_false false e = absurd cc
+
+-- so it has what is sent
+pub quiet_taken : (screen : Grid Colour) (first last : Session) (sent : Grid (Option ℕ)) (quiet : Quiet) (x y : ℕ) →
+    x < first.known.width → y < first.known.height → asked_at first.area x y ≡ true →
+    IsQuiet screen first quiet → is_quiet quiet x y ≡ true →
+    at_or sent x y None ≡ Some (wanted_at screen first.format x y) →
+    TakesSome sent first.known last.known → IsKnownAlike last.known sent x y
+quiet_taken screen first last sent quiet x y p q asked none here right some =
+    elim (some x y p q) [
+      | inl same ↦ same ∙ (right_of (asked_at first.area x y) (whole_at first.area x y)
+          (wanted_at screen first.format x y) (at_or first.known x y None) asked (none x y p q here) ∙ sym right)
+      | inr taken ↦ taken
+    ]
+
 -- so the session has caught up
 pub caught_by : (screen : Grid Colour) (first mid : Session) → Follows screen first → IsKept first mid →
     ShowsAll screen first.format mid.known → IsCaughtUp screen mid.known mid.area mid.format mid.marks
@@ -144,6 +174,19 @@ caught_by screen first mid about kept shown = record {
   not_whole = λ x y p q e.
       rw (kept.area) (about.caught_up.not_whole x y (rw (← kept.marks) p) (rw (← kept.marks) q)
       (rw (← kept.marks) e));
+}
+
+-- what is taken over after what came by copies
+pub taken_after : (screen : Grid Colour) (first mid last : Session) → KeepsSetting first mid →
+    mid.known.width ≡ first.known.width → mid.known.height ≡ first.known.height → mid.area ≡ first.area →
+    HasTakenOver screen mid last → HasTakenOver screen first last
+taken_after screen first mid last setting wide high area taken = record {
+  setting = setting_then first mid last setting taken.setting;
+  width = taken.width ∙ wide;
+  height = taken.height ∙ high;
+  shown = rw (← setting.format) taken.shown;
+  area = rw (taken.area, area) refl;
+  hints = taken.hints;
 }
 
 -- ---- what twins are

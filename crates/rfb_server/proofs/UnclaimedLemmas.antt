@@ -8,7 +8,7 @@ use Rattle.rfb_server.specs.inside.Sends.{IsEnough, AreLimits}
 use Rattle.rfb_server.specs.declared.claim.Claim.{Claim}
 use Rattle.rfb_server.specs.declared.hint.Hint.{Hint}
 use Rattle.rfb_server.specs.Claims.{IsClaimed}
-use Rattle.rfb_server.specs.inside.Copies.{SendsHint}
+use Rattle.rfb_server.specs.inside.Copies.{SendsHint, FollowsHint}
 use Rattle.rfb_server.proofs.ClaimLemmas.{nothing_claimed}
 
 -- it follows what it did
@@ -40,14 +40,20 @@ limits_unclaimed old new first end known area marks limits = record {
   after = rw (known, area, marks) limits.after;
 }
 
+-- who is sent a hint's copy has what it brings
+pub followed : (screen : Grid Colour) (hint : Hint) (old new : Session) (did : Bool) (before after : List ℕ) →
+    SendsHint did screen hint old new before after → FollowsHint did screen hint old new
+followed screen hint old new true before after sends = let (useful, appends, known) = sends in (useful, known)
+followed screen hint old new false before after sends = (sends.0, sends.1)
+
 -- a hint that is not used changes nothing that is known
-pub left_known : (screen : Grid Colour) (hint : Hint) (old new : Session) (did : Bool) (before after : List ℕ) →
-    did ≡ false → SendsHint did screen hint old new before after → new.known ≡ old.known
-left_known screen hint old new true before after left sends = let both : true ≡ false = left in absurd (not_both both)
+pub left_known : (screen : Grid Colour) (hint : Hint) (old new : Session) (did : Bool) →
+    did ≡ false → FollowsHint did screen hint old new → new.known ≡ old.known
+left_known screen hint old new true left follows = let both : true ≡ false = left in absurd (not_both both)
   where
     not_both : true ≡ false → ⊥
     not_both e = cc
-left_known screen hint old new false before after left sends = sends.1
+left_known screen hint old new false left follows = follows.1
 
 -- what was claimed is claimed still, where what is known is the same
 pub claimed_still : (screen : Grid Colour) (old new : Session) (before after : Option Claim) → after ≡ before →

@@ -83,6 +83,12 @@ SendsHint true screen hint old new before after =
 SendsHint false screen hint old new before after =
     (IsUseful screen old hint → ⊥) × (new.known ≡ old.known) × (after ≡ before)
 
+-- the viewer has what the hint's copy brings, or it is of no use, and what is known is as it was
+abbrev pub FollowsHint : Bool → Grid Colour → Hint → Session → Session → Type 0
+FollowsHint true screen hint old new =
+    IsUseful screen old hint × (new.known ≡ copied hint.to hint.sx hint.sy old.known)
+FollowsHint false screen hint old new = (IsUseful screen old hint → ⊥) × (new.known ≡ old.known)
+
 -- what was marked still is
 abbrev pub KeepsMarks : Session → Session → Type 0
 KeepsMarks old new = (x y : ℕ) → x < old.marks.width → y < old.marks.height →

@@ -15,6 +15,7 @@ ghost use Rattle.rfb_server.specs.Model.{notes_in};
 ghost use Rattle.rfb_server.specs.Twins.{AreTwins, HasSentTwin};
 ghost use Rattle.rfb_server.specs.KnownScreen.{Follows};
 ghost use Rattle.rfb_server.specs.UpdateCall.{SendsUpdate};
+ghost use Rattle.rfb_server.specs.inside.Needs.{IsQuiet};
 ghost use Rattle.rfb_server.specs.inside.Sends.{IsKept, IsNext};
 ghost use Rattle.rfb_server.specs.inside.Twins.{Agree, AgreeIn, AsksAll, HasTakenOver, ShowsAll};
 ghost use Rattle.rfb_server.specs.inside.Twins.{IsKnownAlike, TakesSome};
@@ -22,6 +23,7 @@ ghost use Rattle.rfb_server.specs.inside.Twins.{IsKnownAlike, TakesSome};
 use crate::cells::cell_at;
 use crate::hint::Hint;
 use crate::session::Session;
+use crate::session::update::quiet::{Quiet, outside};
 use rfb_picture::{Picture, Rect};
 use rfb_pixel::Colour;
 
@@ -192,7 +194,8 @@ impl Session {
         }
     }
 
-    // Takes over what a viewer has that was sent all of the screen.
+    // Takes over what a viewer has that was sent all of the screen. Where it is claimed to come by
+    // copies these are made here too, which moves rows and no places.
     fn take_shown(&mut self, screen: &Picture<Colour>, sent: &Session)
         requires about { Follows screen.now self.old }
         requires asked { (x y : ℕ) → x < self.old.known.width → y < self.old.known.height
@@ -203,11 +206,30 @@ impl Session {
         ensures about { Follows screen.now self.new }
         ensures taken { HasTakenOver screen.now self.old self.new }
     {
+        let claim = self.claim;
+        self.claim = None;
+        let quiet = self.follow_hints(screen, claim);
+        self.take_others(screen, sent, &quiet);
+    }
+
+    // The same, but for places that need no sending.
+    fn take_others(&mut self, screen: &Picture<Colour>, sent: &Session, quiet: &Quiet)
+        requires about { Follows screen.now self.old }
+        requires asked { (x y : ℕ) → x < self.old.known.width → y < self.old.known.height
+            → asked_at self.old.area x y ≡ true }
+        requires columns { sent.now.known.width ≡ self.old.known.width }
+        requires rows { sent.now.known.height ≡ self.old.known.height }
+        requires shown { ShowsAll screen.now self.old.format sent.now.known }
+        requires quiet { IsQuiet screen.now self.old quiet.now }
+        ensures about { Follows screen.now self.new }
+        ensures taken { HasTakenOver screen.now self.old self.new }
+    {
         let width = self.known.width();
         let height = self.known.height();
         let mut next = 0;
         while let Some(index) = self.next_cell(next) {
-            self.take_cell(sent, cell_at(width, height, index));
+            let zone = outside(cell_at(width, height, index), quiet);
+            self.take_cell(sent, zone);
             next = index + 1;
         }
         self.settle();

@@ -20,7 +20,7 @@ mod copies;
 mod gains;
 mod needs;
 mod place;
-mod quiet;
+pub(super) mod quiet;
 mod room;
 
 use crate::claim::Claim;

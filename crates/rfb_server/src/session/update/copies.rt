@@ -8,15 +8,15 @@ ghost use Rattle.rfb_server.specs.inside.Needs.{IsQuiet};
 ghost use Rattle.rfb_server.specs.KnownScreen.{Follows};
 ghost use Rattle.rfb_server.specs.inside.Sessions.{IsSame};
 ghost use Rattle.rfb_server.specs.inside.Sends.{IsKept};
-ghost use Rattle.rfb_server.specs.inside.Copies.{SendsHint, IsUseful, AppendsCopies, usable_hints};
-ghost use Rattle.rfb_server.specs.inside.Copies.{KeepsMarks, IsMarkedFor, AreMarkedFor};
+ghost use Rattle.rfb_server.specs.inside.Copies.{SendsHint, FollowsHint, IsUseful, AppendsCopies};
+ghost use Rattle.rfb_server.specs.inside.Copies.{KeepsMarks, IsMarkedFor, AreMarkedFor, usable_hints};
 ghost use Rattle.rfb_server.specs.declared.hint.Hint.{Hint};
 
 use crate::claim::{Claim, led_on};
 use crate::hint::Hint;
 use crate::rectangle::append_copy;
 use crate::session::Session;
-use crate::session::update::quiet::Quiet;
+use crate::session::update::quiet::{NOWHERE, Quiet};
 use rfb_picture::Picture;
 use rfb_pixel::Colour;
 use rfb_wire::Encoding;
@@ -133,17 +133,97 @@ impl Session {
         ensures len { vec_len out.new ≤ vec_len out.old + 16 }
         ensures room { vec_capacity out.new ≡ vec_capacity out.old }
     {
-        if useless == Some(hint) {
+        if useless == Some(hint) || !self.follow_hint(screen, hint, claim, quiet) {
             return false;
         }
+        append_copy(hint.to, hint.sx, hint.sy, out);
+        true
+    }
+
+    // Records what the viewer has by the copy of a hint, if that is of use.
+    fn follow_hint(
+        &mut self,
+        screen: &Picture<Colour>,
+        hint: Hint,
+        claim: Option<Claim>,
+        quiet: &mut Quiet,
+    ) -> bool
+        requires about { Follows screen.now self.old }
+        requires unclaimed { self.old.claim ≡ None }
+        requires claimed { IsClaimed screen.now self.old.known self.old.format claim }
+        requires quiet { IsQuiet screen.now self.old quiet.old }
+        ensures kept { IsKept self.old self.new }
+        ensures about { Follows screen.now self.new }
+        ensures followed { FollowsHint result screen.now hint self.old self.new }
+        ensures quiet { IsQuiet screen.now self.new quiet.new }
+    {
         let judged = self.judge(screen, hint, claim);
         if judged.gain {
-            append_copy(hint.to, hint.sx, hint.sy, out);
             self.known.copy(hint.to, hint.sx, hint.sy);
             *quiet = judged.right;
         } else if judged.right.area.h > 0 {
             *quiet = judged.right;
         }
         judged.gain
+    }
+
+    /// Records what the viewer has by the copies of its hints, of those by which the session claims
+    /// that it has the screen's pixels then; of others that is not looked for. It gives places that
+    /// need no sending after that.
+    pub(crate) fn follow_hints(
+        &mut self,
+        screen: &Picture<Colour>,
+        mut claim: Option<Claim>,
+    ) -> Quiet
+        requires about { Follows screen.now self.old }
+        requires unclaimed { self.old.claim ≡ None }
+        requires claimed { IsClaimed screen.now self.old.known self.old.format claim }
+        ensures kept { IsKept self.old self.new }
+        ensures about { Follows screen.now self.new }
+        ensures quiet { IsQuiet screen.now self.new result }
+    {
+        let mut quiet = NOWHERE;
+        for index in 0..self.usable_hints() {
+            let Some(hint) = self.hints.get(index) else {
+                unreachable!()
+            };
+            let hint = *hint;
+            claim = self.follow_claimed(screen, hint, claim, &mut quiet);
+        }
+        quiet
+    }
+
+    // The same of one hint, and what is claimed then.
+    fn follow_claimed(
+        &mut self,
+        screen: &Picture<Colour>,
+        hint: Hint,
+        claim: Option<Claim>,
+        quiet: &mut Quiet,
+    ) -> Option<Claim>
+        requires about { Follows screen.now self.old }
+        requires unclaimed { self.old.claim ≡ None }
+        requires claimed { IsClaimed screen.now self.old.known self.old.format claim }
+        requires quiet { IsQuiet screen.now self.old quiet.old }
+        ensures kept { IsKept self.old self.new }
+        ensures about { Follows screen.now self.new }
+        ensures claimed { IsClaimed screen.now self.new.known self.new.format result }
+        ensures quiet { IsQuiet screen.now self.new quiet.new }
+    {
+        if !is_of(claim, hint) {
+            return claim;
+        }
+        if self.follow_hint(screen, hint, claim, quiet) {
+            return led_on(claim, hint);
+        }
+        claim
+    }
+}
+
+// Whether there is a claim, of that copy.
+fn is_of(claim: Option<Claim>, hint: Hint) -> bool {
+    match claim {
+        Some(claim) => claim.is_of(hint),
+        None => false,
     }
 }

@@ -51,8 +51,8 @@ impl Session {
     }
 }
 
-// The rows of the cell from the first to the last one that has other places.
-fn outside(cell: Rect, quiet: &Quiet) -> Rect
+/// The rows of the cell from the first to the last one that has other places.
+pub(crate) fn outside(cell: Rect, quiet: &Quiet) -> Rect
     requires cell { (cell.x + cell.w ≤ 4096) × (cell.y + cell.h ≤ 4096) }
     ensures part { IsPartOf cell result }
     ensures others { (x y : ℕ) → contains cell x y ≡ true

@@ -6,7 +6,7 @@ use Rattle.rfb_server.proofs.KeptLemmas.{kept_then}
 use Rattle.rfb_server.proofs.CopiedLemmas.{copies_begin, copies_go_on, listed_usable}
 use Rattle.rfb_server.proofs.LedOnLemmas.{used_claimed}
 use Rattle.rfb_server.proofs.UselessLemmas.{none_useless, left_useless}
-use Rattle.rfb_server.proofs.UnclaimedLemmas.{claimed_still, left_known}
+use Rattle.rfb_server.proofs.UnclaimedLemmas.{claimed_still, followed, left_known}
 use Rattle.rfb_server.proofs.session.Session.send_copies.Goals.{then-sent, else-sent, then-sent-2, else-sent-2}
 use Rattle.rfb_server.proofs.session.Session.send_copies.Goals as goal
 
@@ -36,19 +36,20 @@ loop-index-preserved c =
     let below : l.index < usable_hints s = omega (arith, c.usable_hints-index-end.ensures.value) in
     let here : slice_get l.self.hints.items l.index ≡ Some hint = sym c.in-Some.ensures in
     let this : slice_get s.hints.items l.index ≡ Some hint = rw (← l.invariant.kept.hints) here in
+    let taken = followed c.args.screen.now hint l.self c.send_copy-sent.new.self c.send_copy-sent.result _ _
+    c.send_copy-sent.ensures.sent in
     record {
       kept = kept_then s l.self c.send_copy-sent.new.self l.invariant.kept c.send_copy-sent.ensures.kept;
       about = c.send_copy-sent.ensures.about;
       unclaimed = c.send_copy-sent.ensures.kept.claim ∙ l.invariant.unclaimed;
       claimed = elim c.if-sent.branch [
         | then-sent w ↦ rw (w.claim-is)
-            (used_claimed c.args.screen.now hint l.self c.send_copy-sent.new.self c.send_copy-sent.result _ _
-            l.claim w.led_on-claim.result w.if-sent.true l.invariant.about c.send_copy-sent.ensures.sent
+            (used_claimed c.args.screen.now hint l.self c.send_copy-sent.new.self c.send_copy-sent.result
+            l.claim w.led_on-claim.result w.if-sent.true l.invariant.about taken
             c.send_copy-sent.ensures.kept.setting.format l.invariant.claimed w.led_on-claim.ensures)
         | else-sent w ↦ claimed_still c.args.screen.now l.self c.send_copy-sent.new.self l.claim c.if-sent.claim
-            w.claim-is (left_known c.args.screen.now hint l.self c.send_copy-sent.new.self c.send_copy-sent.result _ _
-            w.if-sent.false c.send_copy-sent.ensures.sent) c.send_copy-sent.ensures.kept.setting.format
-            l.invariant.claimed
+            w.claim-is (left_known c.args.screen.now hint l.self c.send_copy-sent.new.self c.send_copy-sent.result
+            w.if-sent.false taken) c.send_copy-sent.ensures.kept.setting.format l.invariant.claimed
       ];
       useless = elim c.if-sent-2.branch [
         | then-sent-2 w ↦ none_useless c.args.screen.now c.send_copy-sent.new.self c.if-sent-2.useless w.useless-is

@@ -1,89 +1,44 @@
-use Rattle.std.proofs.Common.{rules, ◌<◌, ◌*◌, ◌∙◌, arith, refl, sym}
-use Rattle.std.specs.Int.{div_ceil}
-use Rattle.rfb_server.specs.Cells.{IsCell}
-use Rattle.rfb_server.specs.inside.Twins.{ShowsAll}
-use Rattle.rfb_server.proofs.RoomLemmas.{few_cells}
-use Rattle.rfb_server.proofs.KeptLemmas.{setting_then, kept_then}
-use Rattle.rfb_server.proofs.TakenOverLemmas.{shown_known, some_more, taken_more, taken_all, caught_by}
-use Rattle.rfb_server.proofs.ClaimLemmas.{nothing_claimed}
-use Rattle.rfb_server.proofs.UpdateLemmas.{caught_settled}
-use Rattle.rfb_server.proofs.session.Session.take_shown.Goals.{After-settle}
+use Rattle.std.proofs.Common.{refl, ◌∙◌, sym}
+use Rattle.rfb_server.proofs.TakenOverLemmas.{taken_after}
+use Rattle.rfb_server.proofs.UnclaimedLemmas.{follows_unclaimed}
 use Rattle.rfb_server.proofs.session.Session.take_shown.Goals as goal
 
-pub take_cell-requires-clause-known : goal.take_cell-requires-clause-known
-take_cell-requires-clause-known c =
-    let s = c.args.self.now in
-    let here : IsCell s.known.width s.known.height (div_ceil s.known.width 64) c.in-Some.index c.cell_at.result =
-    rw (c.width-width.ensures.value, c.height-height.ensures) at c.cell_at.ensures.cell in
-    shown_known c.args.screen.now s.format c.args.sent.now.known c.cell_at.result
-    (rw (c.requires.columns) (here.held.0), rw (c.requires.rows) (here.held.1)) c.requires.shown
+pub follow_hints-quiet-requires-clause-about : goal.follow_hints-quiet-requires-clause-about
+follow_hints-quiet-requires-clause-about c =
+    follows_unclaimed c.args.screen.now c.args.self.now _ refl refl refl refl refl refl c.requires.about
 
-pub loop-index-preserved : goal.loop-index-preserved
-loop-index-preserved c =
-    let s = c.args.self.now in
-    let l = c.loop-index in
-    let sent = c.args.sent.now.known in
-    let index = c.in-Some.index in
-    let next = c.in-Some.ensures in
-    let here : IsCell s.known.width s.known.height (div_ceil s.known.width 64) index c.cell_at.result =
-    rw (c.width-width.ensures.value, c.height-height.ensures) at c.cell_at.ensures.cell in
-    let cells = few_cells s.known.width s.known.height s.alike.columns s.alike.rows in
-    let below : index < div_ceil s.known.width 64 * div_ceil s.known.height 64 =
-    rw (← l.invariant.wide, ← l.invariant.high) next.is_cell in
-    let taken = c.take_cell.ensures in
-    let last = c.take_cell.new.self in
-    record {
-      kept = kept_then s l.self last l.invariant.kept taken.kept;
-      wide = taken.width ∙ l.invariant.wide;
-      high = taken.height ∙ l.invariant.high;
-      some = some_more sent s.known l.self.known last.known l.invariant.wide l.invariant.high l.invariant.some
-          taken.some;
-      done = taken_more s l.self last sent l.next index c.cell_at.result c.requires.asked l.invariant.kept
-          l.invariant.wide l.invariant.high here next.none taken.some taken.marked l.invariant.done;
-      within = omega (arith, below);
-      few = omega (arith, below, cells);
-    }
+pub follow_hints-quiet-requires-clause-claimed : goal.follow_hints-quiet-requires-clause-claimed
+follow_hints-quiet-requires-clause-claimed c = c.requires.about.claimed
 
--- each place is known to have the wanted pixel then
-shown : (c : After-settle) → ShowsAll c.args.screen.now c.args.self.now.format c.loop-index.self.known
-shown c =
-    let l = c.loop-index in
-    taken_all c.args.screen.now c.args.self.now l.self c.args.sent.now.known l.next c.requires.about c.requires.asked
-    l.invariant.kept l.invariant.wide l.invariant.high c.requires.columns c.requires.rows c.requires.shown
-    c.in_default.ensures l.invariant.some l.invariant.done
+pub take_others-requires-clause-asked : goal.take_others-requires-clause-asked
+take_others-requires-clause-asked c = λ x y p q.
+    let is = c.requires.about.alike in
+    let now = c.follow_hints-quiet.ensures.about.alike in
+    rw (c.follow_hints-quiet.ensures.kept.area)
+    (c.requires.asked x y (rw (← is.columns, now.columns) p) (rw (← is.rows, now.rows) q))
 
-pub returns-clause-about : goal.returns-clause-about
-returns-clause-about c =
-    let s = c.args.self.now in
-    let l = c.loop-index in
-    let mid = l.self in
-    let settled = c.settle.ensures in
-    let about = c.requires.about in
-    let all = shown (goal.at.returns-clause-about c).After-settle in
-    record {
-      whole = about.whole;
-      alike = record {
-        columns = rw (settled.known) (about.alike.columns ∙ sym l.invariant.wide);
-        rows = rw (settled.known) (about.alike.rows ∙ sym l.invariant.high);
-      };
-      caught_up = rw (settled.known, settled.area, settled.setting.format, settled.marks)
-          (caught_settled c.args.screen.now mid.known mid.area mid.format mid.marks mid.alike
-          (caught_by c.args.screen.now s mid about l.invariant.kept all)
-          (λ x y p q asked. rw (l.invariant.kept.setting.format) (all x y p q)));
-      claimed = nothing_claimed c.args.screen.now _ _ _ refl;
-    }
+pub take_others-requires-clause-columns : goal.take_others-requires-clause-columns
+take_others-requires-clause-columns c =
+    c.requires.columns ∙ (sym c.requires.about.alike.columns ∙ c.follow_hints-quiet.ensures.about.alike.columns)
+
+pub take_others-requires-clause-rows : goal.take_others-requires-clause-rows
+take_others-requires-clause-rows c =
+    c.requires.rows ∙ (sym c.requires.about.alike.rows ∙ c.follow_hints-quiet.ensures.about.alike.rows)
+
+pub take_others-requires-clause-shown : goal.take_others-requires-clause-shown
+take_others-requires-clause-shown c = rw (c.follow_hints-quiet.ensures.kept.setting.format) c.requires.shown
 
 pub returns-clause-taken : goal.returns-clause-taken
 returns-clause-taken c =
-    let now = c.loop-index.invariant in
-    let settled = c.settle.ensures in
-    record {
-      setting = setting_then c.args.self.now c.settle.new.self _
-          (setting_then c.args.self.now c.loop-index.self c.settle.new.self now.kept.setting settled.setting)
-          (search rules);
-      width = rw (settled.known) (now.wide);
-      height = rw (settled.known) (now.high);
-      shown = rw (settled.known) (shown (goal.at.returns-clause-taken c).After-settle);
-      area = rw (settled.area, now.kept.area) refl;
-      hints = settled.hints;
-    }
+    let kept = c.follow_hints-quiet.ensures.kept in
+    let is = c.requires.about.alike in
+    let now = c.follow_hints-quiet.ensures.about.alike in
+    taken_after c.args.screen.now c.args.self.now c.follow_hints-quiet.new.self c.take_others.new.self
+    (record {
+      hello = kept.setting.hello;
+      progress = kept.setting.progress;
+      text_limit = kept.setting.text_limit;
+      format = kept.setting.format;
+      encodings = kept.setting.encodings;
+    })
+    (sym now.columns ∙ is.columns) (sym now.rows ∙ is.rows) kept.area c.take_others.ensures.taken

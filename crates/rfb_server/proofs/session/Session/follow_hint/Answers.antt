@@ -2,7 +2,7 @@ use Rattle.std.proofs.Common.{rules}
 use Rattle.rfb_server.specs.inside.Copies.{IsUseful}
 use Rattle.rfb_server.proofs.CopiedLemmas.{about_copied, alike_copied}
 use Rattle.rfb_server.proofs.QuietLemmas.{quiet_copied, quiet_left}
-use Rattle.rfb_server.proofs.session.Session.send_copy.Goals as goal
+use Rattle.rfb_server.proofs.session.Session.follow_hint.Goals as goal
 
 pub invariant_of-self-clause-alike : goal.invariant_of-self-clause-alike
 invariant_of-self-clause-alike c =
