@@ -44,8 +44,8 @@ agree_clear one other cell clear clear_too = λ x y e m.
     (unmarked x y (is_in other.marks) cell clear_too e) m)
 
 -- nor does what is known differ anywhere where both know the same
-pub agree_same : (one other : Session) (cell : Rect) → other.known ≡ one.known → AgreeIn one other cell
-agree_same one other cell same = λ x y e m. rw same refl
+pub agree_same : (one other : Session) → other.known ≡ one.known → Agree one other
+agree_same one other same = λ x y p q some. rw same refl
 
 -- and else within the bounds of both
 pub agree_boxed : (one other : Session) (cell here there : Rect) → IsBox (is_in one.marks) cell here →

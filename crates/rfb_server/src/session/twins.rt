@@ -144,14 +144,17 @@ impl Session {
         self.area.whole().next_cell(0).is_none()
     }
 
-    // Whether both are marked alike, and know the same of what is marked. That is not looked at
-    // where it is known.
+    // Whether both know the same of all that may need sending. Where it is not known that they do,
+    // they are to be marked alike too.
     fn agrees(&self, other: &Session, knows_same: bool) -> bool
         requires columns { self.now.known.width ≡ other.now.known.width }
         requires rows { self.now.known.height ≡ other.now.known.height }
         requires same { knows_same ≡ true → other.now.known ≡ self.now.known }
         ensures { OnTrue result (Agree self.now other.now) }
     {
+        if knows_same {
+            return true;
+        }
         let width = self.known.width();
         let height = self.known.height();
         let mut next = 0;
@@ -159,7 +162,7 @@ impl Session {
             if !other.goes_on_at(next, index) {
                 return false;
             }
-            if !self.agrees_in(other, cell_at(width, height, index), knows_same) {
+            if !self.agrees_in(other, cell_at(width, height, index)) {
                 return false;
             }
             next = index + 1;
@@ -177,18 +180,16 @@ impl Session {
         }
     }
 
-    // Whether both have the same bounds of marked places in the cell, and know the same within, as
-    // is known or is found out.
-    fn agrees_in(&self, other: &Session, cell: Rect, knows_same: bool) -> bool
+    // Whether both have the same bounds of marked places in the cell, and know the same within.
+    fn agrees_in(&self, other: &Session, cell: Rect) -> bool
         requires held { Holds self.now.known cell }
         requires held_too { Holds other.now.known cell }
-        requires same { knows_same ≡ true → other.now.known ≡ self.now.known }
         ensures { OnTrue result (AgreeIn self.now other.now cell) }
     {
         match (self.marks.bounds_in(cell), other.marks.bounds_in(cell)) {
             (None, None) => true,
             (Some(here), Some(there)) => {
-                here == there && (knows_same || self.known.has_same(&other.known, here))
+                here == there && self.known.has_same(&other.known, here)
             }
             _ => false,
         }

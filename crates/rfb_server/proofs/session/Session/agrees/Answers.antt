@@ -3,7 +3,7 @@ use Rattle.std.specs.Int.{div_ceil}
 use Rattle.std.proofs.lemmas.Bool.{OnTrue_from}
 use Rattle.rfb_server.specs.Cells.{IsCell}
 use Rattle.rfb_server.proofs.RoomLemmas.{few_cells}
-use Rattle.rfb_server.proofs.TwinLemmas.{agree_skip, agree_more, agree_end}
+use Rattle.rfb_server.proofs.TwinLemmas.{agree_same, agree_skip, agree_more, agree_end}
 use Rattle.rfb_server.proofs.session.Session.agrees.Goals as goal
 
 pub loop-index-preserved : goal.loop-index-preserved
@@ -23,6 +23,9 @@ loop-index-preserved c =
       within = omega (arith, next.is_cell);
       few = omega (arith, next.is_cell, cells);
     }
+
+pub returns-then-knows_same : goal.returns-then-knows_same
+returns-then-knows_same c = agree_same c.args.self.now c.args.other.now (c.requires.same c.if-knows_same.true)
 
 pub returns : goal.returns
 returns c =

@@ -1,16 +1,11 @@
 use Rattle.std.proofs.Common.{sym, ◌∙◌}
 use Rattle.std.proofs.lemmas.Bool.{OnTrue_at, OnTrue_from}
 use Rattle.rfb_server.proofs.ComparedLemmas.{same_rect}
-use Rattle.rfb_server.proofs.TwinLemmas.{agree_boxed, agree_same}
+use Rattle.rfb_server.proofs.TwinLemmas.{agree_boxed}
 use Rattle.rfb_server.proofs.session.Session.agrees_in.Goals as goal
 
-pub returns-then-knows_same : goal.returns-then-knows_same
-returns-then-knows_same c =
-    OnTrue_from c.args.knows_same _ (λ e. agree_same c.args.self.now c.args.other.now c.args.cell
-    (c.requires.same e))
-
-pub returns-else-knows_same : goal.returns-else-knows_same
-returns-else-knows_same c =
+pub returns-then-eq : goal.returns-then-eq
+returns-then-eq c =
     let in_both = c.in-Some-Some in
     OnTrue_from c.has_same.result _ (λ e. agree_boxed c.args.self.now c.args.other.now c.args.cell in_both.here
     in_both.there in_both.ensures in_both.ensures'
