@@ -3,7 +3,7 @@ use Rattle.std.proofs.Common.{◌≡◌, ℕ, ◌+◌, ◌-◌, ◌<◌, ◌≤�
 use Rattle.std.proofs.Common.{◌++◌, Option, Some, None, take, drop, length}
 use Rattle.std.proofs.Common.{refl, sym, ap, ◌∙◌, subst, append-nil, append_assoc, take-append-drop, arith, length-drop}
 use Rattle.std.specs.Io.KnownBytes.{Appends, Consumes, Keeps, IsAtEnd}
-use Rattle.std.proofs.lemmas.List.{take_all}
+use Rattle.std.proofs.lemmas.List.{take_all, take-take, length-take}
 use Rattle.std.proofs.KnownBytes.{Keeps-refl}
 use Rattle.rfb_session.specs.doors.Events.{Event, Ended, Failed, Wrote, Received, Stepping, Runs, Brings, Nothing}
 use Rattle.rfb_session.specs.doors.Devices.{Stays, Gave, Took, HasEnded}
@@ -103,6 +103,19 @@ module _ {C D : Type 0} {steps : Stepping C} {unread written : D → Option (Lis
       (none_read (unread device) (unread device') took.none_came)
       (subst (λ (l : List ℕ). Appends (written device) (written device') (take count l)) same took.left)
       (λ some. absurd (omega arith)) (omega (arith, took.no_fault)) still
+
+-- what a write took of some bytes in front it took of all
+pub took_front : {u u' w w' : Option (List ℕ)} {f f' : ℕ} (count n : ℕ) (buf : List ℕ) →
+    Took count u u' w w' f f' (take n buf) → Took count u u' w w' f f' buf
+took_front {w = w} {w' = w'} count n buf took =
+    let within : count ≤ n = omega (arith, took.bound, length-take n buf) in
+    record {
+      some = took.some;
+      bound = omega (arith, took.bound, length-take n buf);
+      none_came = took.none_came;
+      left = subst (λ (l : List ℕ). Appends w w' l) (take-take count n buf within) took.left;
+      no_fault = took.no_fault;
+    }
 
 -- ---- a door that was let be
 

@@ -6,8 +6,12 @@ ghost use Rattle.rfb_session.specs.doors.Turns.{Moves, Learns};
 use crate::doors::cores::Core;
 use crate::doors::device::{Answer, Device};
 
-/// Writes once at a door, if something waits there, and tells the core how much of it has left.
-/// Where nothing waits it answers `Again`, so what is known of the door's readiness stays.
+// How many bytes leave by one write at most, so that no door has the others wait for long.
+const PIECE: usize = 1 << 20;
+
+/// Writes once at a door, if something waits there, a mebibyte of it at most, and tells the
+/// core how much of it has left. Where nothing waits it answers `Again`, so what is known of the
+/// door's readiness stays.
 pub fn tell<C: Core, D: Device>(core: &mut C, device: &mut D, door: usize) -> Answer
     ensures moves { Moves C.steps D.unread D.written D.failed D.stands
         door core.old core.new device.old device.new }
@@ -18,7 +22,7 @@ pub fn tell<C: Core, D: Device>(core: &mut C, device: &mut D, door: usize) -> An
     if waiting.is_empty() {
         return Answer::Again;
     }
-    match device.write(waiting) {
+    match device.write(&waiting[..waiting.len().min(PIECE)]) {
         Answer::Moved(left) => {
             core.written(door, left);
             Answer::Moved(left)

@@ -44,9 +44,9 @@ impl Waiting {
         };
     }
 
-    /// The first of those kept are written, so many of them. An update that is not shared gives
-    /// their memory back, and what was reserved for it, where it is the first time or at least half
-    /// of it is written. How many written ones are still kept is the answer.
+    /// The first of those kept are written, so many of them. An update that is not shared gives back
+    /// what was reserved for it, and the memory of those written where they are at least half. How
+    /// many written ones are still kept is the answer.
     pub(crate) fn cut(&mut self, written: usize) -> usize
         requires { written ≤ length (kept_in self.old) }
         ensures rest { drop result (kept_in self.new) ≡ drop written (kept_in self.old) }
@@ -58,7 +58,8 @@ impl Waiting {
             return written;
         };
         let len = bytes.len();
-        if bytes.capacity() == len && written < len / 2 {
+        if written < len / 2 {
+            bytes.shrink_to_fit();
             return written;
         }
         bytes.copy_within(written.., 0);

@@ -1,10 +1,11 @@
-use Rattle.rfb_session.proofs.DoorMoveLemmas.{moves_out, moves_fault}
+use Rattle.rfb_session.proofs.DoorMoveLemmas.{moves_out, moves_fault, took_front}
 use Rattle.rfb_session.proofs.doors.outgoing.tell.Goals as goal
 
 pub returns-in-Moved-clause-moves : goal.returns-in-Moved-clause-moves
 returns-in-Moved-clause-moves g c =
     moves_out c.in-Moved.left c.to_write-waiting.result.now (g.C.Core.waiting c.args.core.now c.args.door)
-    c.to_write-waiting.ensures c.written.ensures.steps c.in-Moved.ensures.takes c.write.ensures.stays
+    c.to_write-waiting.ensures c.written.ensures.steps
+    (took_front c.in-Moved.left _ c.to_write-waiting.result.now c.in-Moved.ensures.takes) c.write.ensures.stays
 
 pub returns-in-Failed-clause-moves : goal.returns-in-Failed-clause-moves
 returns-in-Failed-clause-moves g c =
