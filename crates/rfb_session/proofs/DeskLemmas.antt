@@ -1,9 +1,9 @@
 -- What the calls of a desk come to, one after the other.
-use Rattle.std.proofs.Common.{◌≡◌, ◌<◌, ◌+◌, ◌-◌, ◌++◌, ◌∙◌, ℕ, Bool, true, false}
-use Rattle.std.proofs.Common.{not, nat_eq, ◌&&◌, ◌||◌, List, []}
+use Rattle.std.proofs.Common.{◌≡◌, ◌+◌, ◌-◌, ◌++◌, ◌∙◌, ℕ, Bool, true, false}
+use Rattle.std.proofs.Common.{not, ◌&&◌, ◌||◌, List, []}
 use Rattle.std.proofs.Common.{zero, suc}
 use Rattle.std.proofs.Common.{refl, sym, ap, subst, append_assoc, arith, inl, inr, length, cond, Option, None}
-use Rattle.std.proofs.lemmas.Bool.{false≢true, both_ways}
+use Rattle.std.proofs.lemmas.Bool.{false≢true}
 use Rattle.std.proofs.lemmas.List.{length-append}
 use Rattle.std.proofs.lemmas.Bool.Decides.{eqb_tells, leb_tells}
 use Rattle.rfb_pixel.specs.declared.colour.Colour.{Colour}
@@ -19,14 +19,13 @@ use Rattle.rfb_session.specs.declared.share.Share.{Share}
 use Rattle.rfb_session.specs.declared.share.event.Heard.{Heard}
 use Rattle.rfb_session.specs.declared.share.event.ShareFault.{ShareFault}
 use Rattle.rfb_session.specs.declared.share.seat.ShareSeat.{ShareSeat}
-use Rattle.rfb_session.specs.Share.{seat_in, screen_of}
 use Rattle.rfb_session.specs.ShareWork.{RestsIn}
 use Rattle.rfb_session.specs.ShareSteps.{HearsBy, KeepsScreen, RefusesAs, asks_alone}
 use Rattle.rfb_session.specs.owner.ShareLines.{leave_line}
 use Rattle.rfb_session.specs.console.SeatLines.{leave_lines, told_line}
 use Rattle.rfb_session.specs.console.Desk.{nobody, guest_at, lines_of, is_over, tells_in, KeepsRules}
 use Rattle.rfb_session.specs.console.Viewers.{Parts, TellsEvent, CountsTold}
-use Rattle.rfb_session.specs.console.Turns.{ComposesUpTo, ComposesOne, KeepsBeside, TriesOne}
+use Rattle.rfb_session.specs.console.Turns.{KeepsBeside, TriesOne}
 use Rattle.rfb_session.specs.console.Turns.{Serves, Rested, Tried, Wanted}
 use Rattle.rfb_session.specs.console.Viewers.{TellsOf, Fails, Stirs, HearsAt, Took, Refused, progress_after}
 use Rattle.rfb_session.specs.console.Viewers.{told_after}
@@ -75,42 +74,6 @@ both_stay a b c shown before shows after = (
     };
   },
 )
-
-pub composes_next : (n : ℕ) (old mid new : Desk) (tries wants more : Bool) (none given : ℕ) →
-    ((k : ℕ) → has_bit none k ≡ false) →
-    (tries ≡ false → RestsIn (screen_of old.share) (seat_in old.share n)) → ComposesUpTo n old wants mid →
-    ComposesOne mid n tries more none given new → ComposesUpTo (n + 1) old (wants || more) new
-composes_next n old mid new tries wants more none given clear rests before one = record {
-  seats = λ k within. elim (eqb_tells k n) [
-    | inl same ↦
-        subst (λ (m : ℕ). Serves (screen_of old.share) (wants || more) (seat_in old.share m) (seat_in new.share m))
-        (sym same.1)
-        (serves_one (screen_of old.share) tries more (wants || more) (seat_in old.share n) (seat_in new.share n)
-        rests (or_second wants more) (rw (sym before.screen.screen, sym (before.later n (omega arith))) one.seat))
-    | inr other ↦
-        subst (λ (s : Option ShareSeat). Serves (screen_of old.share) (wants || more) (seat_in old.share k) s)
-        (sym (one.seats k other.0 (no_gift k)))
-        (serves_more (screen_of old.share) wants (wants || more) _ _ (or_first wants more)
-        (before.seats k (omega (arith, within, other.1))))
-  ];
-  later = λ k from. one.seats k (differs k n (omega (arith, from))) (no_gift k)
-      ∙ before.later k (omega (arith, from));
-  screen = (both_stay old mid new before.screen before.beside one.screen one.beside).0;
-  beside = (both_stay old mid new before.screen before.beside one.screen one.beside).1;
-}
-  where
-    no_gift : (k : ℕ) → has_bit given k ≡ false
-    no_gift k = by (has_bit given k) refl
-      where
-        by : (b : Bool) → has_bit given k ≡ b → has_bit given k ≡ false
-        by true e = absurd (both_ways (has_bit none k) (clear k) (one.within k e))
-        by false e = e
-
-    differs : (k n : ℕ) → n < k → nat_eq k n ≡ false
-    differs k n less = elim (eqb_tells k n) [
-      | inl same ↦ absurd (omega (arith, less, same.1))
-      | inr other ↦ other.0
-    ]
 
 -- ---- bytes of a viewer
 

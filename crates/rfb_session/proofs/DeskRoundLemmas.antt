@@ -37,26 +37,26 @@ gift_small screen was one old new written given small large = small (record {
   large = rw (sym given.same) large.large;
 })
 
-first_of : (a b : Bool) → (a && b) ≡ true → a ≡ true
+pub first_of : (a b : Bool) → (a && b) ≡ true → a ≡ true
 first_of true b e = refl
 first_of false b e = absurd cc
 
-second_of : (a b : Bool) → (a && b) ≡ true → b ≡ true
+pub second_of : (a b : Bool) → (a && b) ≡ true → b ≡ true
 second_of true b e = e
 second_of false b e = absurd cc
 
-not_true : (b : Bool) → not b ≡ true → b ≡ false
+pub not_true : (b : Bool) → not b ≡ true → b ≡ false
 not_true true e = absurd cc
 not_true false e = refl
 
-first_false : (a b : Bool) → a ≡ false → (a && b) ≡ false
+pub first_false : (a b : Bool) → a ≡ false → (a && b) ≡ false
 first_false a b e = rw e refl
 
-second_false : (a b : Bool) → b ≡ false → (a && b) ≡ false
+pub second_false : (a b : Bool) → b ≡ false → (a && b) ≡ false
 second_false true b e = e
 second_false false b e = refl
 
-differs : (k n : ℕ) → (k ≡ n → ⊥) → nat_eq k n ≡ false
+pub differs : (k n : ℕ) → (k ≡ n → ⊥) → nat_eq k n ≡ false
 differs k n other = elim (eqb_tells k n) [
   | inl same ↦ absurd (other same.1)
   | inr not_same ↦ not_same.0

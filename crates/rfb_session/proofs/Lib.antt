@@ -131,6 +131,7 @@ pub mod TenantLemmas
 pub mod RoundLemmas
 pub mod DeskLemmas
 pub mod DeskRoundLemmas
+pub mod DeskShowLemmas
 pub mod DeskTurnLemmas
 pub mod WakeLemmas
 pub mod RoundLawLemmas

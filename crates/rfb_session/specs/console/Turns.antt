@@ -62,16 +62,26 @@ pub data Serves (screen : Grid Colour) (wants : Bool) (old new : Option ShareSea
   Tried : (told : Composing) → ComposesIn screen told old new → Serves screen wants old new
   Wanted : wants ≡ true → WantsRoomIn screen old new → Serves screen wants old new
 
--- the first `count` seats are
-pub record ComposesUpTo (count : ℕ) (old : Desk) (wants : Bool) (new : Desk) : Type 0 where
-  pub seats : (k : ℕ) → k < count →
+-- the first `count` seats are. Of the others those with work are left, or were given what was composed for one of
+-- these
+pub record SharesUpTo (count : ℕ) (old : Desk) (due left : ℕ) (wants : Bool) (new : Desk) : Type 0 where
+  pub seats : (k : ℕ) → k < 8 → k < count →
       Serves (screen_of old.share) wants (seat_in old.share k) (seat_in new.share k)
-  pub later : (k : ℕ) → count ≤ k → seat_in new.share k ≡ seat_in old.share k
+  pub gone : (k : ℕ) → k < 8 → k < count → has_bit left k ≡ false
+  pub some : (k : ℕ) → k < 8 → has_bit left k ≡ true → has_bit due k ≡ true
+  pub given_to : (k : ℕ) → k < 8 → count ≤ k → has_bit due k ≡ true → has_bit left k ≡ false →
+      ComposesIn (screen_of old.share) Composed (seat_in old.share k) (seat_in new.share k)
+  pub later : (k : ℕ) → k < 8 → count ≤ k → (has_bit due k ≡ false) ⊎ (has_bit left k ≡ true) →
+      seat_in new.share k ≡ seat_in old.share k
   pub screen : KeepsScreen old.share new.share
   pub beside : KeepsBeside old new
 
-abbrev pub ComposesAll : Desk → Bool → Desk → Type 0
-ComposesAll old wants new = ComposesUpTo 8 old wants new
+-- all eight are
+pub record ComposesAll (old : Desk) (wants : Bool) (new : Desk) : Type 0 where
+  pub seats : (k : ℕ) → k < 8 →
+      Serves (screen_of old.share) wants (seat_in old.share k) (seat_in new.share k)
+  pub screen : KeepsScreen old.share new.share
+  pub beside : KeepsBeside old new
 
 -- a large update was composed for a seat: nothing waited there, and now more than a mebibyte does
 pub record IsLarge (old new : Option ShareSeat) : Type 0 where

@@ -38,23 +38,27 @@ struct Tried {
 }
 
 impl Desk {
-    /// Composes an update for each viewer for which nothing waits and one is due. It tells whether
-    /// memory was wanting for one, which may be composed later.
+    /// Composes an update for each viewer for which nothing waits and one is due, and gives it to all
+    /// that are left and to whom it is the same. It tells whether memory was wanting for one, which
+    /// may be composed later.
     pub(crate) fn compose(&mut self) -> bool
         ensures { ComposesAll self.old result self.new }
     {
         let mut wants = false;
-        let due = self.share.to_serve();
+        let mut left = self.share.to_serve();
         for place in 0..SLOTS {
             let seat = Seat::at(place);
-            wants |= self.compose_at(seat, due.has(seat), Seats::none()).wants;
+            let tries = left.has(seat);
+            let others = left.without(seat);
+            let tried = self.compose_at(seat, tries, others);
+            left = others.without_all(tried.given);
+            wants |= tried.wants;
         }
         wants
     }
 
     /// The same, but one seat after the other from the first of this turn on, going round, and no
-    /// further than to a large update. So at most one is composed before anything is written. One
-    /// that is not is given to all that are left and to whom it is the same.
+    /// further than to a large update. So at most one is composed before anything is written.
     pub(crate) fn compose_round(&mut self) -> Round
         ensures { ComposesRound self.old result.wants result.last self.new }
     {

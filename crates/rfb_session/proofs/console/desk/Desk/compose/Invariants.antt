@@ -1,6 +1,6 @@
 -- The seats so far are served.
-use Rattle.rfb_session.specs.console.Turns.{ComposesUpTo}
+use Rattle.rfb_session.specs.console.Turns.{SharesUpTo}
 use Rattle.rfb_session.proofs.console.desk.Desk.compose.Given as goal
 
 abbrev pub invariant-loop-place : goal.invariant-loop-place
-invariant-loop-place l = ComposesUpTo l.place l.fn.self l.wants l.self
+invariant-loop-place l = SharesUpTo l.place l.fn.self l.initial.left l.left l.wants l.self
