@@ -225,6 +225,43 @@ impl Session {
         ensures about { Follows screen.now self.new }
         ensures taken { HasTakenOver screen.now self.old self.new }
     {
+        let all = Rect::whole(self.known.width(), self.known.height());
+        if quiet.area.h == 0 && self.marks.has_all(all) {
+            self.take_whole(screen, sent);
+        } else {
+            self.take_cells(screen, sent, quiet);
+        }
+    }
+
+    // The same by rows of the screen, which are longer than those of cells.
+    fn take_whole(&mut self, screen: &Picture<Colour>, sent: &Session)
+        requires about { Follows screen.now self.old }
+        requires asked { (x y : ℕ) → x < self.old.known.width → y < self.old.known.height
+            → asked_at self.old.area x y ≡ true }
+        requires columns { sent.now.known.width ≡ self.old.known.width }
+        requires rows { sent.now.known.height ≡ self.old.known.height }
+        requires shown { ShowsAll screen.now self.old.format sent.now.known }
+        ensures about { Follows screen.now self.new }
+        ensures taken { HasTakenOver screen.now self.old self.new }
+    {
+        let all = Rect::whole(self.known.width(), self.known.height());
+        self.take_cell(sent, all);
+        self.settle();
+        self.claim = None;
+    }
+
+    // The same cell by cell.
+    fn take_cells(&mut self, screen: &Picture<Colour>, sent: &Session, quiet: &Quiet)
+        requires about { Follows screen.now self.old }
+        requires asked { (x y : ℕ) → x < self.old.known.width → y < self.old.known.height
+            → asked_at self.old.area x y ≡ true }
+        requires columns { sent.now.known.width ≡ self.old.known.width }
+        requires rows { sent.now.known.height ≡ self.old.known.height }
+        requires shown { ShowsAll screen.now self.old.format sent.now.known }
+        requires quiet { IsQuiet screen.now self.old quiet.now }
+        ensures about { Follows screen.now self.new }
+        ensures taken { HasTakenOver screen.now self.old self.new }
+    {
         let width = self.known.width();
         let height = self.known.height();
         let mut next = 0;

@@ -4,7 +4,7 @@ use Rattle.rfb_picture.specs.Box.{is_in}
 use Rattle.rfb_server.specs.Cells.{cell_of}
 use Rattle.rfb_server.specs.inside.Sends.{IsKept}
 use Rattle.rfb_server.specs.inside.Twins.{IsKnownAlike, TakesSome}
-use Rattle.rfb_server.proofs.session.Session.take_others.Given as goal
+use Rattle.rfb_server.proofs.session.Session.take_cells.Given as goal
 
 -- what is marked in the cells so far was taken over
 abbrev pub invariant-loop-index : goal.invariant-loop-index

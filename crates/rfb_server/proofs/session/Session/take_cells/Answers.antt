@@ -10,8 +10,8 @@ use Rattle.rfb_server.proofs.KeptLemmas.{setting_then, kept_then}
 use Rattle.rfb_server.proofs.TakenOverLemmas.{shown_known, some_more, quiet_taken, taken_more, taken_all, caught_by}
 use Rattle.rfb_server.proofs.ClaimLemmas.{nothing_claimed}
 use Rattle.rfb_server.proofs.UpdateLemmas.{caught_settled}
-use Rattle.rfb_server.proofs.session.Session.take_others.Goals.{After-settle}
-use Rattle.rfb_server.proofs.session.Session.take_others.Goals as goal
+use Rattle.rfb_server.proofs.session.Session.take_cells.Goals.{After-settle}
+use Rattle.rfb_server.proofs.session.Session.take_cells.Goals as goal
 
 pub take_cell-requires-clause-held : goal.take_cell-requires-clause-held
 take_cell-requires-clause-held c =
