@@ -44,9 +44,9 @@ impl Waiting {
         };
     }
 
-    /// The first of those kept are written, so many of them. An update that is not shared gives back
-    /// what was reserved for it, and the memory of those written where they are at least half. How
-    /// many written ones are still kept is the answer.
+    /// The first of those kept are written, so many of them. An update that is not shared gives
+    /// back what was reserved for it, and the memory of those written where they are at least half.
+    /// How many written ones are still kept is the answer.
     pub(crate) fn cut(&mut self, written: usize) -> usize
         requires { written ≤ length (kept_in self.old) }
         ensures rest { drop result (kept_in self.new) ≡ drop written (kept_in self.old) }

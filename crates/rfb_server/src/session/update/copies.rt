@@ -8,8 +8,9 @@ ghost use Rattle.rfb_server.specs.inside.Needs.{IsQuiet};
 ghost use Rattle.rfb_server.specs.KnownScreen.{Follows};
 ghost use Rattle.rfb_server.specs.inside.Sessions.{IsSame};
 ghost use Rattle.rfb_server.specs.inside.Sends.{IsKept};
-ghost use Rattle.rfb_server.specs.inside.Copies.{SendsHint, FollowsHint, IsUseful, AppendsCopies};
-ghost use Rattle.rfb_server.specs.inside.Copies.{KeepsMarks, IsMarkedFor, AreMarkedFor, usable_hints};
+ghost use Rattle.rfb_server.specs.inside.Copies.{SendsHint, FollowsHint, IsUseful};
+ghost use Rattle.rfb_server.specs.inside.Copies.{KeepsMarks, IsMarkedFor, AreMarkedFor};
+ghost use Rattle.rfb_server.specs.inside.Copies.{AppendsCopies, usable_hints};
 ghost use Rattle.rfb_server.specs.declared.hint.Hint.{Hint};
 
 use crate::claim::{Claim, led_on};

@@ -38,9 +38,9 @@ struct Tried {
 }
 
 impl Desk {
-    /// Composes an update for each viewer for which nothing waits and one is due, and gives it to all
-    /// that are left and to whom it is the same. It tells whether memory was wanting for one, which
-    /// may be composed later.
+    /// Composes an update for each viewer for which nothing waits and one is due, and gives it to
+    /// all that are left and to whom it is the same. It tells whether memory was wanting for one,
+    /// which may be composed later.
     pub(crate) fn compose(&mut self) -> bool
         ensures { ComposesAll self.old result self.new }
     {
