@@ -153,7 +153,8 @@ right_of true false wanted (Some old) e f =
     not_false false e = absurd cc
 
 -- so it has what is sent
-pub quiet_taken : (screen : Grid Colour) (first last : Session) (sent : Grid (Option ℕ)) (quiet : Quiet) (x y : ℕ) →
+pub quiet_taken : (screen : Grid Colour) (first last : Session) (sent : Grid (Option ℕ)) (quiet : Quiet)
+    (x y : ℕ) →
     x < first.known.width → y < first.known.height → asked_at first.area x y ≡ true →
     IsQuiet screen first quiet → is_quiet quiet x y ≡ true →
     at_or sent x y None ≡ Some (wanted_at screen first.format x y) →
