@@ -1,8 +1,9 @@
 -- The seats of a desk are served in their order, and what is composed for one is given to others.
 use Rattle.std.proofs.Common.{◌≡◌, ◌<◌, ◌≤◌, ◌+◌, ◌∙◌, ◌||◌, ◌&&◌, ◌⊎◌, ℕ}
 use Rattle.std.proofs.Common.{Bool, true, false, not}
-use Rattle.std.proofs.Common.{Option, refl}
+use Rattle.std.proofs.Common.{Option, None, refl}
 use Rattle.std.proofs.lemmas.Bool.{both_ways}
+use Rattle.std.proofs.lemmas.List.{get_or_past}
 use Rattle.std.proofs.Common.{sym, ap, subst, arith, inl, inr, nat_eq}
 use Rattle.std.proofs.lemmas.Bool.Decides.{eqb_tells}
 use Rattle.rfb_picture.specs.Places.{has_bit}
@@ -173,6 +174,8 @@ pub shares_done : (old : Desk) (due left : ℕ) (wants : Bool) (new : Desk) → 
     ComposesAll old wants new
 shares_done old due left wants new all = record {
   seats = λ k low. all.seats k low low;
+  later = λ k past. get_or_past new.share.seats k None (omega (arith, past, new.share.eight))
+      ∙ sym (get_or_past old.share.seats k None (omega (arith, past, old.share.eight)));
   screen = all.screen;
   beside = all.beside;
 }

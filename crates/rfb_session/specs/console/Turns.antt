@@ -80,6 +80,7 @@ pub record SharesUpTo (count : ℕ) (old : Desk) (due left : ℕ) (wants : Bool)
 pub record ComposesAll (old : Desk) (wants : Bool) (new : Desk) : Type 0 where
   pub seats : (k : ℕ) → k < 8 →
       Serves (screen_of old.share) wants (seat_in old.share k) (seat_in new.share k)
+  pub later : (k : ℕ) → 8 ≤ k → seat_in new.share k ≡ seat_in old.share k
   pub screen : KeepsScreen old.share new.share
   pub beside : KeepsBeside old new
 
