@@ -77,7 +77,8 @@ impl Kin {
 
     /// A seat and those of a set are kin from here on, and of no others. These have what they had.
     pub(crate) fn meet(&mut self, own: usize, others: Seats)
-        ensures alike { (j k : ℕ) → AreKin self.new j k → is_met own others j ≡ is_met own others k }
+        ensures alike { (j k : ℕ) → AreKin self.new j k →
+            is_met own others j ≡ is_met own others k }
         ensures old { (j k : ℕ) → AreKin self.new j k → is_met own others j ≡ false →
             AreKin self.old j k }
     {
