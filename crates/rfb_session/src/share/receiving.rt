@@ -21,7 +21,7 @@ use crate::share::Share;
 use crate::share::event::{Heard, SeatEvent, ShareFault};
 use crate::share::kin::Kin;
 use crate::share::seat::ShareSeat;
-use crate::slots::empty_others;
+use crate::slots::{empty, empty_others};
 use rfb_hello::Fed;
 use rfb_server::ServerEvent;
 
@@ -135,7 +135,7 @@ fn hear_in(slot: &mut Option<ShareSeat>, bytes: &[u8]) -> Result<Fed<ServerEvent
         Ok(fed) => Ok(fed),
         Err(fault) => {
             if is_wanting(fault) {
-                *slot = None;
+                empty(slot);
                 return Err(fault);
             }
             Err(fault)

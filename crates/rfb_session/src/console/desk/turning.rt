@@ -128,18 +128,38 @@ impl Desk {
         ensures stuck { (k : ℕ) → k < 8 →
             has_bit result.stuck k ≡ is_stuck self.now.rules now (guest_at self.now k) }
     {
+        Late {
+            slow: self.slow(now),
+            stuck: self.stuck(now),
+        }
+    }
+
+    // Whose handshake takes too long.
+    fn slow(&self, now: u64) -> Seats
+        ensures { (k : ℕ) → k < 8 →
+            has_bit result k ≡ is_slow self.now.rules now (guest_at self.now k) }
+    {
         let mut slow = Seats::none();
-        let mut stuck = Seats::none();
         for place in 0..SLOTS {
-            let guest = self.guests[place];
-            if guest.is_slow(&self.rules, now) {
+            if self.guests[place].is_slow(&self.rules, now) {
                 slow = slow.with(Seat::at(place));
             }
-            if guest.is_stuck(&self.rules, now) {
+        }
+        slow
+    }
+
+    // For whom bytes wait for too long.
+    fn stuck(&self, now: u64) -> Seats
+        ensures { (k : ℕ) → k < 8 →
+            has_bit result k ≡ is_stuck self.now.rules now (guest_at self.now k) }
+    {
+        let mut stuck = Seats::none();
+        for place in 0..SLOTS {
+            if self.guests[place].is_stuck(&self.rules, now) {
                 stuck = stuck.with(Seat::at(place));
             }
         }
-        Late { slow, stuck }
+        stuck
     }
 
     // Whether updates are held back now. A hold that lasts too long ends.
