@@ -25,11 +25,6 @@ pub const BLACK: &[u8] = b"\0\0\0\x01\0\0\0\0\0\x02\0\x01\0\0\0\0\0\0\0\0\0\0\0\
 // One of the second place, which is red.
 pub const RED: &[u8] = b"\0\0\0\x01\0\x01\0\0\0\x01\0\x01\0\0\0\0\0\0\xFF\0";
 
-// What a viewer sends up to its first request: ProtocolVersion, the security type None, ClientInit,
-// SetPixelFormat, SetEncodings, and a request for the whole screen.
-pub const VIEWER: &[u8] = b"RFB 003.008\n\x01\x01\0\0\0\0\x20\x18\0\x01\0\xFF\0\xFF\0\xFF\
-\x10\x08\0\0\0\0\x02\0\0\x01\0\0\0\0\x03\0\0\0\0\0\0\x02\0\x01";
-
 /// A rig whose every file is a picture of one place, red, or the text `ab`. A file that is written
 /// is refused.
 #[derive(Drop)]
