@@ -59,14 +59,32 @@ pub fn drive_at<P: AllocGlobal + Clock + Files + Net, R: Read, W: Write, E: Writ
     let connected = connect_in_time(context.rt, options.server, options.timeout);
     tell_unreached(options.server, &connected, notes);
     let server = connected?;
+    drive_over(context, options, server, streams, says)
+}
+
+// The same of this server.
+fn drive_over<P: AllocGlobal + Clock + Files + Net, R: Read, W: Write, E: Write>(
+    context: &mut Context<P, R, W, E>,
+    options: DriveOptions<'_>,
+    server: P::Stream,
+    streams: Streams,
+    says: bool,
+) -> Result<(), Failure>
+    ensures done { OnOk result (Drives P options.entry) }
+    ensures stopped { IfErr result (FailsToDrive P options.entry
+        (W.contents context.old.output.now) (W.contents context.new.output.now)) }
+    ensures left { OnErr result (LeavesDrive P options.entry
+        (W.contents context.old.output.now) (W.contents context.new.output.now)) }
+    ensures same { KeepsStreams context.old context.new }
+{
     let alloc = context.alloc();
+    let mut part = Vec::from_elem(alloc, 0, READ_AT_ONCE)?;
     let (input, streams) = input_of(streams, options.has_lines);
     let fd = server.as_raw_fd();
     let front = front_of(fd);
     let shell = &mut Shell::new(context.rt, alloc, None::<P::Listener>, front, streams)?;
     let rig = FileRig::new(context.rt, options.keep, says);
     let driver = &mut driver_of(alloc, &options, rig);
-    let mut part = Vec::from_elem(alloc, 0, READ_AT_ONCE)?;
     let lines = Tenant::input(context.input, input);
     let mut doors = doors_of(
         alloc,

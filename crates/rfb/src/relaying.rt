@@ -22,7 +22,7 @@ use crate::sharing::ending::result_of;
 use crate::sharing::shell::callee::Callee;
 use crate::sharing::shell::{Front, Shell};
 use crate::sharing::speaker::Reporter;
-use crate::sharing::standard::streams_for;
+use crate::sharing::standard::{Streams, streams_for};
 use crate::sharing::tenant::{Tenant, doors_of};
 pub use relay_words::{RELAY, RelayOptions, relay_options_in};
 use rfb_session::doors::live;
@@ -57,7 +57,27 @@ pub fn relay_at<P: AllocGlobal + Clock + Net, R: Read, W: Write, E: Write>(
     let server = connected?;
     let listener = listener_at(context.rt, hosting.listen, hosting.port, notes)?;
     listener.set_nonblocking(true)?;
+    relay_between(context, options, server, listener, streams, says)
+}
+
+// The same of this server, for viewers that come to this listener.
+fn relay_between<P: AllocGlobal + Clock + Net, R: Read, W: Write, E: Write>(
+    context: &mut Context<P, R, W, E>,
+    options: RelayOptions<'_>,
+    server: P::Stream,
+    listener: P::Listener,
+    streams: Streams,
+    says: bool,
+) -> Result<(), Failure>
+    ensures same { KeepsStreams context.old context.new }
+    ensures done { OnOk result (Relays options.entry) }
+    ensures stopped { IfErr result (FailsToRelay options.entry
+        (W.contents context.old.output.now) (W.contents context.new.output.now)) }
+    ensures left { OnErr result (LeavesRelay options.entry
+        (W.contents context.old.output.now) (W.contents context.new.output.now)) }
+{
     let alloc = context.alloc();
+    let mut part = Vec::from_elem(alloc, 0, READ_AT_ONCE)?;
     let front = Front {
         input: None,
         server: Some(server.as_raw_fd()),
@@ -65,7 +85,6 @@ pub fn relay_at<P: AllocGlobal + Clock + Net, R: Read, W: Write, E: Write>(
     };
     let shell = &mut Shell::new(context.rt, alloc, Some(listener), front, streams)?;
     let relay = &mut relay_of(alloc, options, says);
-    let mut part = Vec::from_elem(alloc, 0, READ_AT_ONCE)?;
     let server = Tenant::Connection(server);
     let mut doors = doors_of::<R, W, E, P::Stream>(
         alloc,

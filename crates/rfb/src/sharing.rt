@@ -27,7 +27,7 @@ use crate::sharing::ending::result_of;
 use crate::sharing::setup::setup_of;
 use crate::sharing::shell::{Front, Shell};
 use crate::sharing::speaker::Reporter;
-use crate::sharing::standard::streams_for;
+use crate::sharing::standard::{Streams, streams_for};
 use crate::sharing::tenant::{Tenant, doors_of};
 use rfb_session::console::{Console, OWNER};
 use rfb_session::doors::live;
@@ -66,10 +66,26 @@ pub fn share_at<P: AllocGlobal + Clock + Net, R: Read, W: Write, E: Write>(
     let notes = &mut Notes::new(context.errors, says);
     let listener = listener_at(context.rt, hosting.listen, hosting.port, notes)?;
     listener.set_nonblocking(true)?;
+    share_with(context, options, listener, streams, says)
+}
+
+// The same, for viewers that come to this listener.
+fn share_with<P: AllocGlobal + Clock + Net, R: Read, W: Write, E: Write>(
+    context: &mut Context<P, R, W, E>,
+    options: ShareOptions<'_>,
+    listener: P::Listener,
+    streams: Streams,
+    says: bool,
+) -> Result<(), Failure>
+    ensures done { OnOk result (Shares options.entry) }
+    ensures left { OnErr result (LeavesShare options.entry
+        (W.contents context.old.output.now) (W.contents context.new.output.now)) }
+    ensures same { KeepsStreams context.old context.new }
+{
     let alloc = context.alloc();
+    let mut part = Vec::from_elem(alloc, 0, READ_AT_ONCE)?;
     let shell = &mut Shell::new(context.rt, alloc, Some(listener), FRONT, streams)?;
     let console = &mut console_of(alloc, &options, says);
-    let mut part = Vec::from_elem(alloc, 0, READ_AT_ONCE)?;
     let input = Tenant::input(context.input, streams.input);
     let mut doors = doors_of(alloc, input, None, context.output, context.errors, streams)?;
     live(console, &mut doors, shell, &mut part);

@@ -2,12 +2,7 @@ use Rattle.std.proofs.Common.{None, sym}
 use Rattle.rfb.specs.Ends.{EndsWell, IsNoEnd}
 use Rattle.rfb.specs.Share.{SharesUntil}
 use Rattle.rfb.proofs.OutcomeLemmas.{console_fresh, ends_ill, ends_well, never_ill, until}
-use Rattle.rfb.proofs.sharing.share_at.Goals as goal
-
-pub returns-in_err-part-clause-left : goal.returns-in_err-part-clause-left
-returns-in_err-part-clause-left g c =
-    never_ill (SharesUntil c.args.options) IsNoEnd None c.from_residual-in_err-part.result _ _
-    (console_fresh c.args.options c.console_of.result c.console_of.ensures) tt
+use Rattle.rfb.proofs.sharing.share_with.Goals as goal
 
 pub returns-in_err-doors-clause-left : goal.returns-in_err-doors-clause-left
 returns-in_err-doors-clause-left g c =

@@ -3,7 +3,7 @@ use Rattle.rfb.specs.declared.fault.Fault.TheVariants.{NoMemory}
 use Rattle.rfb.specs.Ends.{EndsWell, FailsFor, IsNoEnd}
 use Rattle.rfb.specs.Relay.{RelaysUntil}
 use Rattle.rfb.proofs.OutcomeLemmas.{ends_for, ends_ill, ends_well, never_for, never_ill, relay_fresh, until}
-use Rattle.rfb.proofs.relaying.relay_at.Goals as goal
+use Rattle.rfb.proofs.relaying.relay_between.Goals as goal
 
 pub returns-in_err-doors-clause-stopped : goal.returns-in_err-doors-clause-stopped
 returns-in_err-doors-clause-stopped g c =

@@ -3,7 +3,7 @@ use Rattle.rfb.specs.declared.fault.Fault.TheVariants.{NoMemory}
 use Rattle.rfb.specs.Drive.{DrivesUntil, EndsUndone, FailsDriveFor}
 use Rattle.rfb.proofs.OutcomeLemmas.{driven_well, driver_fresh, ends_for, ends_ill, never_for}
 use Rattle.rfb.proofs.OutcomeLemmas.{never_ill, not_done, until}
-use Rattle.rfb.proofs.driving.drive_at.Goals as goal
+use Rattle.rfb.proofs.driving.drive_over.Goals as goal
 
 pub returns-in_err-doors-clause-stopped : goal.returns-in_err-doors-clause-stopped
 returns-in_err-doors-clause-stopped g c =
