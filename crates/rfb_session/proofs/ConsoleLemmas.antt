@@ -1,6 +1,6 @@
 -- What a console does for its owner.
-use Rattle.std.proofs.Common.{◌≡◌, ◌≢◌, ◌<◌, ◌≤◌, ◌+◌, ◌∙◌, ℕ, List, Option, Some, None, subst, ap, arith}
-use Rattle.std.proofs.Common.{length, take, length-take}
+use Rattle.std.proofs.Common.{◌≡◌, ◌≢◌, ◌<◌, ◌≤◌, ◌+◌, ◌∙◌, ◌⊎◌, ℕ, List, Option, Some, None, arith}
+use Rattle.std.proofs.Common.{length, take, length-take, subst, ap, inl, inr}
 use Rattle.rfb_server.specs.Strokes.{Stroke, Fill as OneFill, Copy as OneCopy, Hint as OneHint, Scroll as OneScroll}
 use Rattle.rfb_session.specs.declared.console.Console.{Console}
 use Rattle.rfb_session.specs.declared.console.Outcome.{Outcome}
@@ -84,6 +84,15 @@ module _ (door : ℕ) (owner : Type 0) (seat : ℕ → Type 0) (lines other : Ty
     at_other = λ far. other_does;
   }
 
+-- what ended it was its owner's
+pub at_owner_ends : {A B : Type 0} (door : ℕ) → door ≡ 0 → A ⊎ B → A ⊎ ((door ≡ 0) × B)
+at_owner_ends door is (inl goes) = inl goes
+at_owner_ends door is (inr ends) = inr (is, ends)
+
+pub at_owner_fails : {A B C : Type 0} (door : ℕ) → door ≡ 0 → A ⊎ B → A ⊎ ((door ≡ 0) × B) ⊎ C
+at_owner_fails door is (inl goes) = inl goes
+at_owner_fails door is (inr ends) = inr (inl (is, ends))
+
 -- so many are taken
 pub many : (n : ℕ) (w : List ℕ) → n ≤ length w → n ≡ length (take n w)
 many n w bound = omega (arith, bound, length-take n w)
@@ -107,10 +116,11 @@ module _ {S : Type 0} where
 
   -- bytes that left, as many as waited at least, are those that waited first
   pub wrote_so : (old new : Console S) (door count : ℕ) → count ≤ length (waiting_at old door) →
-      Does old (Wrote door (take count (waiting_at old door))) new → Stays old new →
+      Does old (Wrote door (take count (waiting_at old door))) new → new.outcome ≡ old.outcome → Stays old new →
       Steps old (Wrote door (take count (waiting_at old door))) new
-  wrote_so old new door count bound does stays = record {
+  wrote_so old new door count bound does ends stays = record {
     does = does;
+    ends = ends;
     left = ap (λ (n : ℕ). take n (waiting_at old door)) (many count (waiting_at old door) bound);
     stays = stays;
   }

@@ -69,6 +69,16 @@ pub data OnDesk (does : Desk → Desk → Type 0) (old : Option Desk) (ended : O
   Done : (a b : Desk) → old ≡ Some a → new ≡ Some b → does a b → OnDesk does old ended new ends
   RanOut : ends ≡ Some NoMemory → OnDesk does old ended new ends
 
+-- ---- how all ends
+
+-- it goes on as it did, or memory was wanting, with which all ends
+abbrev pub RunsOut : Option Outcome → Option Outcome → Type 0
+RunsOut old new = (new ≡ old) ⊎ (new ≡ Some NoMemory)
+
+-- the owner has ended it: by a line, or by one that gives no screen
+abbrev pub OwnerEnds : Option Desk → Option Outcome → Type 0
+OwnerEnds desk new = (new ≡ Some Quit) ⊎ ((desk ≡ None) × ((line : ℕ) × (new ≡ Some (BadLine line))))
+
 -- ---- what the owner says
 
 -- a drawing is done, or leaves the screen
@@ -282,6 +292,20 @@ module _ {S : Type 0} where
       (DoesAlways (λ a b. WritesLines a (length bytes) b) old new) (KeepsDesk old new)
   Does old (Turned now) new = TurnsDesk old now new × NamesNext new × OpensRooms new
 
+  -- all ends for want of memory, or by its owner's doing; where lines are lost; or in a turn without viewers, if
+  -- that is wanted
+  abbrev pub EndsAs : Console S → Event → Console S → Type 0
+  EndsAs old (Received door bytes) new =
+      RunsOut old.outcome new.outcome ⊎ ((door ≡ 0) × OwnerEnds new.desk new.outcome)
+  EndsAs old (Ended door) new =
+      RunsOut old.outcome new.outcome ⊎ ((door ≡ 0) × OwnerEnds new.desk new.outcome)
+  EndsAs old (Failed door) new =
+      RunsOut old.outcome new.outcome ⊎ ((door ≡ 0) × OwnerEnds new.desk new.outcome)
+      ⊎ ((door ≡ 9) × (new.outcome ≡ Some Device))
+  EndsAs old (Wrote door bytes) new = new.outcome ≡ old.outcome
+  EndsAs old (Turned now) new =
+      RunsOut old.outcome new.outcome ⊎ ((old.rules.until_idle ≡ true) × (new.outcome ≡ Some Idle))
+
   -- bytes that left are those that waited first
   abbrev pub Left : Console S → Event → Type 0
   Left old (Received door bytes) = Unit {0}
@@ -293,6 +317,7 @@ module _ {S : Type 0} where
   -- so it is at each event
   pub record Steps (old : Console S) (event : Event) (new : Console S) : Type 0 where
     pub does : Does old event new
+    pub ends : EndsAs old event new
     pub left : Left old event
     pub stays : Stays old new
 

@@ -1,12 +1,14 @@
 //! Bytes that come to a console, and ends.
 
-ghost use Rattle.std.specs.Prelude.{◌≡◌, ◌≢◌, ◌≤◌, ◌<◌, ◌+◌, ℕ, false, nat_eq, length, take, None};
+ghost use Rattle.std.specs.Prelude.{◌≡◌, ◌≢◌, ◌≤◌, ◌<◌, ◌+◌, ◌⊎◌, ℕ, false};
+ghost use Rattle.std.specs.Prelude.{nat_eq, length, take, None};
 ghost use Rattle.rfb_session.specs.doors.Events.{Received};
 ghost use Rattle.rfb_session.specs.console.Console.{Does, space_at, KeepsSide, KeepsButRooms};
 ghost use Rattle.rfb_session.specs.console.Console.{KeepsButNotes};
 ghost use Rattle.rfb_session.specs.console.Console.{ObeysOrder, Stays};
 ghost use Rattle.rfb_session.specs.console.Console.{HearsOwner, EndsOwner, LosesOwner, HearsBytes};
 ghost use Rattle.rfb_session.specs.console.Console.{LeavesSeat, LosesSeat};
+ghost use Rattle.rfb_session.specs.console.Console.{EndsAs, OwnerEnds, RunsOut};
 
 use crate::console::entrances::seat_at;
 use crate::console::speaker::{Speaker, Why};
@@ -51,6 +53,8 @@ impl<S: Speaker + Drop> Console<S> {
         requires some { 0 < length bytes.now }
         ensures used { (0 < result) × (result ≤ length bytes.now) }
         ensures hears { HearsOwner self.old (take result bytes.now) self.new }
+        ensures ends { RunsOut self.old.outcome self.new.outcome
+            ⊎ OwnerEnds self.new.desk self.new.outcome }
         ensures rooms { self.new.rooms ≡ self.old.rooms }
         ensures stays { Stays self.old self.new }
     {
@@ -69,6 +73,8 @@ impl<S: Speaker + Drop> Console<S> {
     /// ends.
     pub(crate) fn end_owner(&mut self)
         ensures ends { EndsOwner self.old self.new }
+        ensures outcome { RunsOut self.old.outcome self.new.outcome
+            ⊎ OwnerEnds self.new.desk self.new.outcome }
         ensures stays { Stays self.old self.new }
     {
         if self.has_input_ended {
@@ -87,6 +93,8 @@ impl<S: Speaker + Drop> Console<S> {
     // Does what the last line says. Where it is bad and there is no screen, it is why all ends.
     fn follow_last(&mut self, order: Order)
         ensures obeys { ObeysOrder self.old order self.new }
+        ensures ends { RunsOut self.old.outcome self.new.outcome
+            ⊎ OwnerEnds self.new.desk self.new.outcome }
         ensures side { KeepsSide self.old self.new }
     {
         match order {
@@ -102,6 +110,8 @@ impl<S: Speaker + Drop> Console<S> {
     /// They can't be read any more. What came of a line is passed over.
     pub(crate) fn lose_owner(&mut self)
         ensures loses { LosesOwner self.old self.new }
+        ensures ends { RunsOut self.old.outcome self.new.outcome
+            ⊎ OwnerEnds self.new.desk self.new.outcome }
         ensures stays { Stays self.old self.new }
     {
         self.has_input_ended = true;
@@ -112,6 +122,8 @@ impl<S: Speaker + Drop> Console<S> {
     fn end_without_screen(&mut self)
         ensures desk { self.new.desk ≡ self.old.desk }
         ensures outcome { self.old.outcome ≢ None → self.new.outcome ≡ self.old.outcome }
+        ensures ends { (self.new.outcome ≡ self.old.outcome)
+            ⊎ OwnerEnds self.new.desk self.new.outcome }
         ensures side { KeepsSide self.old self.new }
     {
         if self.desk.is_none() && self.outcome.is_none() {
@@ -126,6 +138,7 @@ impl<S: Speaker + Drop> Console<S> {
         requires some { 0 < length bytes.now }
         ensures used { (0 < result.used) × (result.used ≤ length bytes.now) }
         ensures hears { HearsBytes self.old seat bytes.now result.used result.event self.new }
+        ensures ends { RunsOut self.old.outcome self.new.outcome }
         ensures ended { self.old.outcome ≢ None → result.event ≡ None }
         ensures nobody { self.old.desk ≡ None → result.event ≡ None }
         ensures side { KeepsSide self.old self.new }
@@ -154,6 +167,7 @@ impl<S: Speaker + Drop> Console<S> {
     /// The viewer of a seat is let go, with nothing wrong.
     pub(crate) fn let_seat_go(&mut self, seat: Seat, why: Why)
         ensures leaves { LeavesSeat self.old seat self.new }
+        ensures ends { RunsOut self.old.outcome self.new.outcome }
         ensures side { KeepsSide self.old self.new }
     {
         let Some(desk) = &mut self.desk else {
@@ -169,6 +183,7 @@ impl<S: Speaker + Drop> Console<S> {
     /// The connection of a seat has failed.
     pub(crate) fn lose_seat(&mut self, seat: Seat)
         ensures loses { LosesSeat self.old seat self.new }
+        ensures ends { RunsOut self.old.outcome self.new.outcome }
         ensures side { KeepsSide self.old self.new }
     {
         let Some(desk) = &mut self.desk else {
@@ -186,6 +201,7 @@ impl<S: Speaker + Drop> Console<S> {
         requires some { 0 < length bytes.now }
         ensures used { (0 < result) × (result ≤ length bytes.now) }
         ensures does { Does self.old (Received door (take result bytes.now)) self.new }
+        ensures ends { EndsAs self.old (Received door (take result bytes.now)) self.new }
         ensures rooms { self.new.rooms ≡ self.old.rooms }
         ensures stays { Stays self.old self.new }
     {

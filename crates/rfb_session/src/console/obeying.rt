@@ -8,7 +8,8 @@ ghost use Rattle.rfb_session.specs.console.Turns.{HoldsAs, ShowsAs};
 ghost use Rattle.rfb_session.specs.declared.console.desk.Hold.TheVariants.{Begins};
 ghost use Rattle.rfb_session.specs.console.Console.{ObeysOrder, ObeysLine, OpensDesk, Draws};
 ghost use Rattle.rfb_session.specs.console.Console.{OnDesk};
-ghost use Rattle.rfb_session.specs.console.Console.{KeepsSide};
+ghost use Rattle.rfb_session.specs.console.Console.{KeepsSide, RunsOut};
+ghost use Rattle.rfb_session.specs.declared.console.Outcome.TheVariants.{Quit};
 
 use crate::console::desk::{Desk, Hold};
 use crate::console::speaker::{Speaker, Why};
@@ -22,6 +23,8 @@ impl<S: Speaker + Drop> Console<S> {
     /// Does what the owner says, or notes why not.
     pub(crate) fn follow(&mut self, order: Order)
         ensures obeys { ObeysOrder self.old order self.new }
+        ensures ends { RunsOut self.old.outcome self.new.outcome
+            ⊎ (self.new.outcome ≡ Some Quit) }
         ensures side { KeepsSide self.old self.new }
     {
         self.count = self.count.saturating_add(1);
@@ -34,6 +37,8 @@ impl<S: Speaker + Drop> Console<S> {
     // Does what the owner says, and gives why not, if it can't be done.
     fn obey(&mut self, order: Order) -> Option<Refusal>
         ensures obeys { ObeysOrder self.old order self.new }
+        ensures ends { RunsOut self.old.outcome self.new.outcome
+            ⊎ (self.new.outcome ≡ Some Quit) }
         ensures side { KeepsSide self.old self.new }
     {
         match order {
@@ -47,6 +52,8 @@ impl<S: Speaker + Drop> Console<S> {
     fn obey_line(&mut self, line: OwnerLine) -> Option<Refusal>
         ensures obeys { ObeysLine self.old.name.items self.old.rules line
             self.old.desk self.old.outcome self.new.desk self.new.outcome }
+        ensures ends { RunsOut self.old.outcome self.new.outcome
+            ⊎ (self.new.outcome ≡ Some Quit) }
         ensures side { KeepsSide self.old self.new }
     {
         match line {
@@ -76,6 +83,7 @@ impl<S: Speaker + Drop> Console<S> {
     fn open(&mut self, screen: Screen) -> Option<Refusal>
         ensures opens { OpensDesk self.old.name.items self.old.rules screen
             self.new.desk self.new.outcome }
+        ensures ends { RunsOut self.old.outcome self.new.outcome }
         ensures side { KeepsSide self.old self.new }
     {
         match Desk::new(self.alloc, screen, self.rules, self.name.as_slice()) {
@@ -92,6 +100,7 @@ impl<S: Speaker + Drop> Console<S> {
         ensures lets_go { ((8 ≤ number) × (self.new.desk ≡ self.old.desk))
             ⊎ OnDesk (λ a b. (taken : Bool) × LetsGo a number taken (leave_line number) b)
             self.old.desk self.old.outcome self.new.desk self.new.outcome }
+        ensures ends { RunsOut self.old.outcome self.new.outcome }
         ensures side { KeepsSide self.old self.new }
     {
         if let Some(seat) = Seat::new(number) {
@@ -104,6 +113,7 @@ impl<S: Speaker + Drop> Console<S> {
     fn hold(&mut self) -> Option<Refusal>
         ensures holds { OnDesk (λ a b. HoldsAs a Begins b)
             self.old.desk self.old.outcome self.new.desk self.new.outcome }
+        ensures outcome { self.new.outcome ≡ self.old.outcome }
         ensures side { KeepsSide self.old self.new }
     {
         match &mut self.desk {
@@ -119,6 +129,7 @@ impl<S: Speaker + Drop> Console<S> {
     fn show(&mut self) -> Option<Refusal>
         ensures shows { OnDesk ShowsAs
             self.old.desk self.old.outcome self.new.desk self.new.outcome }
+        ensures outcome { self.new.outcome ≡ self.old.outcome }
         ensures side { KeepsSide self.old self.new }
     {
         match &mut self.desk {
@@ -134,6 +145,7 @@ impl<S: Speaker + Drop> Console<S> {
     fn draw(&mut self, drawing: &Drawing<'_>) -> Option<Refusal>
         ensures draws { Draws (stroke drawing.now)
             self.old.desk self.old.outcome self.new.desk self.new.outcome }
+        ensures outcome { self.new.outcome ≡ self.old.outcome }
         ensures side { KeepsSide self.old self.new }
     {
         let Some(desk) = &mut self.desk else {

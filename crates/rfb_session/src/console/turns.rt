@@ -1,10 +1,11 @@
 //! The turns of a console.
 
-ghost use Rattle.std.specs.Prelude.{◌≡◌, ◌<◌, ◌+◌, ℕ, None};
+ghost use Rattle.std.specs.Prelude.{◌≡◌, ◌<◌, ◌+◌, ◌⊎◌, ℕ, None, Some, true};
 ghost use Rattle.rfb_session.specs.console.Console.{TurnsDesk, NamesNext, Stays};
 ghost use Rattle.rfb_session.specs.console.Console.{KeepsSide, KeepsOwner, KeepsButRooms};
 ghost use Rattle.rfb_session.specs.console.Console.{KeepsButNotes, OpensRooms, space_at};
-ghost use Rattle.rfb_session.specs.console.Console.{room_of_owner, room_of_seat};
+ghost use Rattle.rfb_session.specs.console.Console.{room_of_owner, room_of_seat, RunsOut};
+ghost use Rattle.rfb_session.specs.declared.console.Outcome.TheVariants.{Idle};
 
 use crate::console::desk::turning::Late;
 use crate::console::listening::{ROOM_OF_OWNER, ROOM_OF_SEAT};
@@ -23,6 +24,8 @@ impl<S: Speaker + Drop> Console<S> {
     /// The desk's turn, at this time.
     pub(crate) fn turn_desk(&mut self, now: u64)
         ensures turns { TurnsDesk self.old now self.new }
+        ensures ends { RunsOut self.old.outcome self.new.outcome
+            ⊎ ((self.old.rules.until_idle ≡ true) × (self.new.outcome ≡ Some Idle)) }
         ensures next { NamesNext self.new }
         ensures side { KeepsSide self.old self.new }
     {
@@ -59,6 +62,8 @@ impl<S: Speaker + Drop> Console<S> {
     // All ends with the last viewer, if that is wanted.
     fn end_if_idle(&mut self)
         ensures desk { self.new.desk ≡ self.old.desk }
+        ensures ends { (self.new.outcome ≡ self.old.outcome)
+            ⊎ ((self.old.rules.until_idle ≡ true) × (self.new.outcome ≡ Some Idle)) }
         ensures next { self.new.next ≡ self.old.next }
         ensures side { KeepsSide self.old self.new }
     {

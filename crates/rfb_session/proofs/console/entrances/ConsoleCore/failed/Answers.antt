@@ -1,7 +1,7 @@
-use Rattle.std.proofs.Common.{◌≡◌, Some, None, ◌∙◌}
+use Rattle.std.proofs.Common.{◌≡◌, Some, None, ◌∙◌, inl, inr}
 use Rattle.rfb_session.specs.declared.console.Outcome.{Outcome}
 use Rattle.rfb_session.proofs.ConsoleLemmas.{by_owner, by_seat, by_lines, by_notes, by_none, does_then, kept_by}
-use Rattle.rfb_session.proofs.ConsoleLemmas.{rooms_kept, stays_then}
+use Rattle.rfb_session.proofs.ConsoleLemmas.{at_owner_fails, rooms_kept, stays_then}
 use Rattle.rfb_session.proofs.console.entrances.ConsoleCore.failed.Goals.{then-door-eq-OWNER}
 use Rattle.rfb_session.proofs.console.entrances.ConsoleCore.failed.Goals.{else-door-eq-OWNER+then-door-eq-LINES}
 use Rattle.rfb_session.proofs.console.entrances.ConsoleCore.failed.Goals.{
@@ -31,6 +31,8 @@ returns g c =
               reader = keeps.owner.reader ∙ w.lose_owner.ensures.loses.reader;
               input = keeps.owner.input ∙ w.lose_owner.ensures.loses.input;
             });
+            ends = rw (keeps.desk, keeps.outcome) (at_owner_fails c.args.door w.if-door-eq-OWNER.true
+                w.lose_owner.ensures.ends);
             left = tt;
             stays = stays_then old w.lose_owner.new.self new w.lose_owner.ensures.stays keeps.stays;
           }
@@ -44,6 +46,7 @@ returns g c =
               },
               keeps.outcome,
             );
+            ends = inr (inr (w.if-door-eq-LINES.true, keeps.outcome));
             left = tt;
             stays = record {
               rules = keeps.stays.rules;
@@ -62,6 +65,7 @@ returns g c =
                 input = keeps.owner.input ∙ loses.side.owner.input;
               };
             });
+            ends = inl (inl (keeps.outcome ∙ loses.outcome));
             left = tt;
             stays = stays_then old w.lose_notes.new.self new loses.side.stays keeps.stays;
           }
@@ -71,6 +75,7 @@ returns g c =
             does = by_seat c.args.door _ _ _ _ w.in-Some.seat w.in-Some.ensures.some.1 w.in-Some.ensures.some.0
                 (does_then _ old w.lose_seat.new.self new w.lose_seat.ensures.loses keeps.desk keeps.outcome
                 keeps.owner);
+            ends = inl (rw keeps.outcome w.lose_seat.ensures.ends);
             left = tt;
             stays = stays_then old w.lose_seat.new.self new w.lose_seat.ensures.side.stays keeps.stays;
           }
@@ -80,6 +85,7 @@ returns g c =
             does = by_none c.args.door _ _ _ _ (w.seat_at.ensures.none w.in_default.is)
                 (λ is. absurd (w.if-door-eq-OWNER.false is)) (λ is. absurd (w.if-door-eq-LINES.false is))
                 (kept_by _ _ keeps);
+            ends = inl (inl keeps.outcome);
             left = tt;
             stays = keeps.stays;
           }

@@ -9,6 +9,7 @@ returns-clause-steps g c =
     record {
       does = received_then c.args.self.now c.hear_at-used.new.self c.spend.new.self c.args.door
           (take c.hear_at-used.result c.args.bytes.now) hears.does keeps;
+      ends = rw (keeps.desk, keeps.outcome) hears.ends;
       left = tt;
       stays = stays_then c.args.self.now c.hear_at-used.new.self c.spend.new.self hears.stays keeps.stays;
     }

@@ -12,7 +12,7 @@ returns-then-door-eq-LINES-clause-steps g c =
           (subst (λ (n : ℕ). WritesLines c.in-Some.desk n c.written_lines.new.self)
           (many c.args.count (waiting_at c.args.self.now c.args.door) c.requires.bound) c.written_lines.ensures);
       owner = record { reader = refl; input = refl };
-    })) (record { rules = refl; name = refl; ended = λ was. was })
+    })) refl (record { rules = refl; name = refl; ended = λ was. was })
 
 pub returns-in-Some-seat_at-clause-steps : goal.returns-in-Some-seat_at-clause-steps
 returns-in-Some-seat_at-clause-steps g c =
@@ -23,4 +23,4 @@ returns-in-Some-seat_at-clause-steps g c =
           (subst (λ (n : ℕ). WritesSeat c.in-Some.desk c.in-Some-seat_at.seat n c.written.new.self)
           (many c.args.count (waiting_at c.args.self.now c.args.door) c.requires.bound) c.written.ensures);
       owner = record { reader = refl; input = refl };
-    })) (record { rules = refl; name = refl; ended = λ was. was })
+    })) refl (record { rules = refl; name = refl; ended = λ was. was })
