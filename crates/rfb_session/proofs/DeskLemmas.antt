@@ -98,6 +98,8 @@ tells_of_is old mid told new k heard parts tells counts = record {
       (parts_not k heard.ended old mid parts none);
   since = λ none. counts.since ∙ tells.since
       ∙ ap (λ (g : Guest). g.since) (parts_not k heard.ended old mid parts none);
+  idle = λ none. counts.idle ∙ tells.idle
+      ∙ ap (λ (g : Guest). g.idle) (parts_not k heard.ended old mid parts none);
   told = λ none. counts.told
       ∙ ap (λ (n : ℕ). counted_on n (length (lines_of told) - length (lines_of mid)))
       (tells.told ∙ ap (λ (g : Guest). g.told) (parts_not k heard.ended old mid parts none))

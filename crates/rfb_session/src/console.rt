@@ -119,6 +119,7 @@ impl<S: Speaker + Drop> Console<S> {
         requires name { length setup.now.name.now ≤ 255 }
         ensures fresh { IsFreshConsole result }
         ensures rules { result.rules ≡ setup.now.rules }
+        ensures name { result.name.items ≡ setup.now.name.now }
     {
         let mut name = ArrayVec::new();
         let _ = name.try_extend_from_slice(setup.name);

@@ -19,7 +19,7 @@ use Rattle.rfb_session.specs.doors.Events.{Event, Received, Ended, Failed, Wrote
 use Rattle.rfb_session.specs.owner.Reader.{Feeds, ClosesFrom, IsFreshReader}
 use Rattle.rfb_session.specs.owner.ShareLines.{leave_line}
 use Rattle.rfb_session.specs.Share.{waits_at}
-use Rattle.rfb_session.specs.console.Desk.{guest_at, lines_of, is_over, is_heard}
+use Rattle.rfb_session.specs.console.Desk.{guest_at, lines_of, is_over, is_heard, is_idle}
 use Rattle.rfb_session.specs.console.Viewers.{HearsAt, LetsGo, LetsGoFor, Admits}
 use Rattle.rfb_session.specs.console.Turns.{TurnsAs, IsFreshDesk, DrawsAs, HoldsAs, ShowsAs}
 use Rattle.rfb_session.specs.console.Turns.{WritesLines, WritesSeat}
@@ -78,6 +78,11 @@ RunsOut old new = (new ≡ old) ⊎ (new ≡ Some NoMemory)
 -- the owner has ended it: by a line, or by one that gives no screen
 abbrev pub OwnerEnds : Option Desk → Option Outcome → Type 0
 OwnerEnds desk new = (new ≡ Some Quit) ⊎ ((desk ≡ None) × ((line : ℕ) × (new ≡ Some (BadLine line))))
+
+-- viewers came, and the last of them has gone
+abbrev pub IsIdle : Option Desk → Type 0
+IsIdle None = ⊥
+IsIdle (Some desk) = is_idle desk ≡ true
 
 -- ---- what the owner says
 
@@ -304,7 +309,8 @@ module _ {S : Type 0} where
       ⊎ ((door ≡ 9) × (new.outcome ≡ Some Device))
   EndsAs old (Wrote door bytes) new = new.outcome ≡ old.outcome
   EndsAs old (Turned now) new =
-      RunsOut old.outcome new.outcome ⊎ ((old.rules.until_idle ≡ true) × (new.outcome ≡ Some Idle))
+      RunsOut old.outcome new.outcome
+      ⊎ ((old.rules.until_idle ≡ true) × IsIdle new.desk × (new.outcome ≡ Some Idle))
 
   -- bytes that left are those that waited first
   abbrev pub Left : Console S → Event → Type 0

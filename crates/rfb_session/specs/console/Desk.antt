@@ -53,6 +53,10 @@ seated_in desk (suc count) = seated_in desk count + cond (is_here (guest_at desk
 abbrev pub seated : Desk → ℕ
 seated desk = seated_in desk 8
 
+-- viewers came, and there is none
+abbrev pub is_idle : Desk → Bool
+is_idle desk = desk.came && nat_eq (seated desk) 0
+
 -- of the seats of a set it is told that their viewers go, but of those that were told to have failed
 abbrev pub tells_in : Desk → ℕ → ℕ → Bool
 tells_in desk set k = has_bit set k && not (is_over (guest_at desk k).progress)

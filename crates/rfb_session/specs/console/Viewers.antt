@@ -122,6 +122,7 @@ pub record TellsEvent (old : Desk) (k : ℕ) (event : Option SeatEvent) (new : D
   pub share : new.share ≡ old.share
   pub progress : (guest_at new k).progress ≡ progress_after event (guest_at old k).progress
   pub since : (guest_at new k).since ≡ (guest_at old k).since
+  pub idle : (guest_at new k).idle ≡ (guest_at old k).idle
   pub told : (guest_at new k).told ≡ (guest_at old k).told
   pub others : OtherGuests old k new
   pub lines : lines_of new ≡ lines_of old ++ told_line old.rules.view_only k event
@@ -132,6 +133,7 @@ pub record CountsTold (old : Desk) (k before : ℕ) (new : Desk) : Type 0 where
   pub share : new.share ≡ old.share
   pub progress : (guest_at new k).progress ≡ (guest_at old k).progress
   pub since : (guest_at new k).since ≡ (guest_at old k).since
+  pub idle : (guest_at new k).idle ≡ (guest_at old k).idle
   pub told : (guest_at new k).told ≡ counted_on (guest_at old k).told (length (lines_of old) - before)
   pub others : OtherGuests old k new
   pub lines : lines_of new ≡ lines_of old
@@ -147,6 +149,7 @@ pub record TellsOf (old : Desk) (k : ℕ) (heard : Heard) (new : Desk) : Type 0 
   pub progress : has_bit heard.ended k ≡ false →
       (guest_at new k).progress ≡ progress_after heard.event (guest_at old k).progress
   pub since : has_bit heard.ended k ≡ false → (guest_at new k).since ≡ (guest_at old k).since
+  pub idle : has_bit heard.ended k ≡ false → (guest_at new k).idle ≡ (guest_at old k).idle
   pub told : has_bit heard.ended k ≡ false →
       (guest_at new k).told ≡ told_after old.rules.view_only k heard.event (guest_at old k).told
   pub others : (j : ℕ) → j < 8 → nat_eq j k ≡ false →
@@ -160,6 +163,8 @@ pub record Fails (old : Desk) (k : ℕ) (told : Bool) (new : Desk) : Type 0 wher
   pub share : new.share ≡ old.share
   pub told_is : told ≡ not (is_over (guest_at old k).progress)
   pub progress : (guest_at new k).progress ≡ cond told Failing (guest_at old k).progress
+  pub since : (guest_at new k).since ≡ cond told None (guest_at old k).since
+  pub idle : (guest_at new k).idle ≡ (guest_at old k).idle
   pub others : OtherGuests old k new
   pub lines : AddsFault k told (lines_of old) (lines_of new)
   pub rules : KeepsRules old new
@@ -239,6 +244,7 @@ pub record Welcomes (old : Desk) (k : ℕ) (new : Desk) : Type 0 where
   pub share : new.share ≡ old.share
   pub more : seated new ≤ suc (seated old)
   pub guest : guest_at new k ≡ newcomer
+  pub came : new.came ≡ true
   pub others : OtherGuests old k new
   pub lines : lines_of new ≡ lines_of old
   pub rules : KeepsRules old new

@@ -54,7 +54,8 @@ impl Desk {
     ghost use Rattle.rfb_server.specs.Server.{black};
     ghost use Rattle.rfb_server.specs.Strokes.{stroke};
     ghost use Rattle.rfb_session.specs.Share.{waits_at, screen_of};
-    ghost use Rattle.rfb_session.specs.console.Desk.{lines_of, guest_at, is_over, is_heard, nobody};
+    ghost use Rattle.rfb_session.specs.console.Desk.{lines_of, guest_at, is_over, is_heard};
+    ghost use Rattle.rfb_session.specs.console.Desk.{is_idle, nobody};
     ghost use Rattle.rfb_session.specs.declared.console.desk.Hold.TheVariants.{Shown};
     ghost use Rattle.rfb_session.specs.console.Turns.{IsFreshDesk, DrawsAs, HoldsAs, ShowsAs};
     ghost use Rattle.rfb_session.specs.console.Turns.{WritesLines, WritesSeat, ForgetsTold};
@@ -196,12 +197,10 @@ impl Desk {
     }
 
     /// Whether viewers came, and the last of them has gone.
-    pub(crate) fn is_idle(&self) -> bool {
-        self.came
-            && self
-                .guests
-                .iter()
-                .all(|guest| guest.progress == Progress::Absent)
+    pub(crate) fn is_idle(&self) -> bool
+        ensures { result ≡ is_idle self.now }
+    {
+        self.came && self.seated() == 0
     }
 
     /// Whether a newcomer could be told of.

@@ -4,7 +4,7 @@ ghost use Rattle.std.specs.Prelude.{◌≡◌, ◌<◌, ◌+◌, ◌⊎◌, ℕ,
 ghost use Rattle.rfb_session.specs.console.Console.{TurnsDesk, NamesNext, Stays};
 ghost use Rattle.rfb_session.specs.console.Console.{KeepsSide, KeepsOwner, KeepsButRooms};
 ghost use Rattle.rfb_session.specs.console.Console.{KeepsButNotes, OpensRooms, space_at};
-ghost use Rattle.rfb_session.specs.console.Console.{room_of_owner, room_of_seat, RunsOut};
+ghost use Rattle.rfb_session.specs.console.Console.{room_of_owner, room_of_seat, RunsOut, IsIdle};
 ghost use Rattle.rfb_session.specs.declared.console.Outcome.TheVariants.{Idle};
 
 use crate::console::desk::turning::Late;
@@ -25,7 +25,8 @@ impl<S: Speaker + Drop> Console<S> {
     pub(crate) fn turn_desk(&mut self, now: u64)
         ensures turns { TurnsDesk self.old now self.new }
         ensures ends { RunsOut self.old.outcome self.new.outcome
-            ⊎ ((self.old.rules.until_idle ≡ true) × (self.new.outcome ≡ Some Idle)) }
+            ⊎ ((self.old.rules.until_idle ≡ true) × IsIdle self.new.desk
+            × (self.new.outcome ≡ Some Idle)) }
         ensures next { NamesNext self.new }
         ensures side { KeepsSide self.old self.new }
     {
@@ -63,7 +64,8 @@ impl<S: Speaker + Drop> Console<S> {
     fn end_if_idle(&mut self)
         ensures desk { self.new.desk ≡ self.old.desk }
         ensures ends { (self.new.outcome ≡ self.old.outcome)
-            ⊎ ((self.old.rules.until_idle ≡ true) × (self.new.outcome ≡ Some Idle)) }
+            ⊎ ((self.old.rules.until_idle ≡ true) × IsIdle self.new.desk
+            × (self.new.outcome ≡ Some Idle)) }
         ensures next { self.new.next ≡ self.old.next }
         ensures side { KeepsSide self.old self.new }
     {

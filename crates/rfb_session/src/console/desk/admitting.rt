@@ -90,8 +90,8 @@ impl Desk {
         self.seated() >= self.rules.viewers
     }
 
-    // How many viewers there are.
-    fn seated(&self) -> u8
+    /// How many viewers there are.
+    pub(super) fn seated(&self) -> u8
         ensures { result ≡ seated self.now }
     {
         let mut count = 0;

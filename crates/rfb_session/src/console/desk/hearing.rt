@@ -1,6 +1,6 @@
 //! Bytes that a viewer sent to a console.
 
-ghost use Rattle.std.specs.Prelude.{◌≡◌, ◌≤◌, ◌<◌, ◌++◌, ℕ, List, length, IfOk, OnOk, []};
+ghost use Rattle.std.specs.Prelude.{◌≡◌, ◌≤◌, ◌<◌, ◌++◌, ℕ, List, length, IfOk, OnOk, [], None};
 ghost use Rattle.rfb_session.specs.console.SeatLines.{told_line};
 ghost use Rattle.rfb_session.specs.console.Desk.{guest_at, lines_of, KeepsRules, OtherGuests};
 ghost use Rattle.rfb_session.specs.console.Viewers.{HearsAt, Stirs, TellsOf, TellsEvent};
@@ -39,6 +39,7 @@ impl Desk {
         ensures used { IfOk result (λ heard. (0 < heard.used) × (heard.used ≤ length bytes.now)) }
         ensures hears { IfOk result (λ heard.
             HearsAt self.old seat bytes.now heard.used heard.ended heard.event self.new) }
+        ensures idle { IfOk result (λ heard. (guest_at self.new seat).idle ≡ None) }
     {
         self.stir(seat);
         let heeds = !self.rules.always_shared;

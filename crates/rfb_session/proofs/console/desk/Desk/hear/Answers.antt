@@ -1,5 +1,5 @@
-use Rattle.std.proofs.Common.{refl}
-use Rattle.rfb_session.proofs.DeskLemmas.{hears_took, hears_not}
+use Rattle.std.proofs.Common.{refl, ◌∙◌}
+use Rattle.rfb_session.proofs.DeskLemmas.{hears_took, hears_not, not_itself}
 use Rattle.rfb_session.proofs.console.desk.Desk.hear.Goals as goal
 
 pub returns-in_ok-tell_of-in-Ok-clause-hears : goal.returns-in_ok-tell_of-in-Ok-clause-hears
@@ -13,3 +13,8 @@ returns-after-is_new-clause-hears c =
     hears_not c.args.self.now c.stir.new.self _ _ c.args.seat c.args.bytes.now c.stir.ensures (λ j. refl) refl
     (record { rules = refl; hold = refl; first = refl }) c.in-Err.fault c.none.result c.in_ok-is_new-in-Err.is_new
     c.in-Err.ensures.refused c.none.ensures c.in_ok-is_new-in-Err.ensures
+
+pub returns-in_ok-tell_of-in-Ok-clause-idle : goal.returns-in_ok-tell_of-in-Ok-clause-idle
+returns-in_ok-tell_of-in-Ok-clause-idle c =
+    c.in_ok-tell_of-in-Ok.ensures.idle
+    (not_itself _ _ _ c.args.seat c.args.bytes.now c.in-Ok.heard c.in-Ok.ensures.heard) ∙ c.stir.ensures.idle

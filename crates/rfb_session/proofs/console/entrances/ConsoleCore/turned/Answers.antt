@@ -14,7 +14,7 @@ returns-clause-steps g c =
             ends.next was ∙ turns.next was desk (sym ends.desk ∙ is),
         ends.rooms,
       );
-      ends = rw ends.outcome turns.ends;
+      ends = rw (ends.desk, ends.outcome) turns.ends;
       left = tt;
       stays = stays_then c.args.self.now c.turn_desk.new.self c.end_turn.new.self turns.side.stays ends.stays;
     }
