@@ -239,6 +239,14 @@ module _ {S : Type 0} where
         viewers = λ k within. rw (rooms, plans.beside.noted.passed, desk, outcome) (opens.viewers k within);
       }
 
+some_none : (ends : Outcome) → Some ends ≡ None → ⊥
+some_none ends same = cc
+
+-- what goes on after the server was asked went on before
+pub asks_on : {old new : Option Outcome} → (new ≡ old) ⊎ (new ≡ Some NoMemory) → new ≡ None → old ≡ None
+asks_on (inl same) none = sym same ∙ none
+asks_on (inr ended) none = absurd (some_none NoMemory (sym ended ∙ none))
+
 -- and whether it has gone stays so
 pub planned_gone : (retry : Option ℕ) (ended : Option Outcome) (now : ℕ) (p : Presence) →
     is_gone (planned_for retry ended now p) ≡ is_gone p

@@ -91,6 +91,7 @@ module _ {S : Type 0} where
   pub record KeepsButDesk (old new : Relay S) : Type 0 where
     pub server : KeepsButWaits old new
     pub goes_on : (new.console.outcome ≡ old.console.outcome) ⊎ (new.console.outcome ≡ Some NoMemory)
+    pub next : new.console.next ≡ old.console.next
     pub side : KeepsSide old.console new.console
 
   -- nothing but how much is taken at each door

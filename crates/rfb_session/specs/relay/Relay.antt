@@ -17,6 +17,8 @@ use Rattle.rfb_session.specs.doors.Events.{Event, Received, Ended, Failed, Wrote
 use Rattle.rfb_session.specs.console.Console.{HearsBytes, KeepsSide, KeepsButRooms}
 use Rattle.rfb_session.specs.console.Console.{Stays, Steps, TurnsDesk}
 use Rattle.rfb_session.specs.console.Console.{OpensAs, DeclinesAs}
+use Rattle.rfb_session.specs.console.Time.{IsBy}
+use Rattle.rfb_session.specs.declared.console.desk.Desk.{Desk}
 use Rattle.rfb_session.specs.relay.Calls.{passed, Passes, Asks}
 use Rattle.rfb_session.specs.relay.Presence.{is_shown, is_called}
 use Rattle.rfb_session.specs.relay.Setup.{viewing_by}
@@ -63,7 +65,7 @@ module _ {S : Type 0} where
     pub keeps : KeepsAllButRooms mid new
 
   -- a turn: the desk's, and before it and after it the server is asked where somebody waits for an update; or its
-  -- call is planned
+  -- call is planned. The next one is wanted no later than the desk wants it
   pub record TurnsRelay (old : Relay S) (now : ℕ) (new : Relay S) : Type 0 where
     pub asked : Relay S
     pub asks_first : Asks (is_shown old.presence) old.console.outcome old.console.desk asked.console.desk
@@ -77,6 +79,8 @@ module _ {S : Type 0} where
     pub coming : new.coming ≡ old.coming
     pub presence : new.presence ≡ planned_for new.console.rules.retry new.console.outcome now old.presence
     pub wakes : WakesFor new.console.rules.retry new.console.outcome new.presence new.console.next
+    pub sooner : new.console.outcome ≡ None → (desk : Desk) → mid.desk ≡ Some desk → (limit : ℕ) →
+        IsBy limit desk.next → IsBy limit new.console.next
     pub rooms : OpensDoors new
 
   abbrev pub DoesRelay : Relay S → Event → Relay S → Type 0

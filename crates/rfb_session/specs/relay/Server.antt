@@ -26,6 +26,7 @@ use Rattle.rfb_session.specs.Mirrors.{TakesBytes, FailsAt}
 use Rattle.rfb_session.specs.Share.{viewer_of}
 use Rattle.rfb_session.specs.console.Console.{IsFreshConsole, KeepsSide}
 use Rattle.rfb_session.specs.console.Console.{KeepsButNext}
+use Rattle.rfb_session.specs.console.Time.{IsBy}
 use Rattle.rfb_session.specs.relay.Calls.{Queues, TakesRequest, is_shown_size}
 use Rattle.rfb_session.specs.relay.Desk.{IsShareOf, IsOver, FeedsDesk, FailsDesk, HoldsWithin, LosesDesk, TellsSome}
 use Rattle.rfb_session.specs.relay.Desk.{told_of_server, ShowsAgain, BeginsAnew, TellsServer, up_of}
@@ -211,9 +212,10 @@ module _ {S : Type 0} where
     Shows : old.coming ≡ None → (mid : Relay S) → TakesViewer old mid → HearsShown mid bytes used new →
         HearsServer old bytes used new
 
-  -- where it is called again after a pause, that is planned, and the turn is wanted in which it is
+  -- where it is called again after a pause, that is planned, and the turn is wanted in which it is, or sooner
   pub record PlansCall (old : Relay S) (now : ℕ) (new : Relay S) : Type 0 where
     pub presence : new.presence ≡ planned_for old.console.rules.retry old.console.outcome now old.presence
     pub wakes : WakesFor old.console.rules.retry old.console.outcome new.presence new.console.next
+    pub sooner : (limit : ℕ) → IsBy limit old.console.next → IsBy limit new.console.next
     pub beside : KeepsBeside old new
     pub console : KeepsButNext old.console new.console

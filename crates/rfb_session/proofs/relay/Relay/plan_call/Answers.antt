@@ -7,6 +7,7 @@ returns-clause-plans g c = record {
   presence = plan_so _ c.args.self.now.console.outcome c.in-Some.pause c.args.now _ _ c.in-Some.is
       (sym c.if-is_some.ensures) c.planned-self.ensures;
   wakes = wakes_so _ _ _ c.call_time.result _ c.call_time.ensures c.sooner-self.ensures.second;
+  sooner = c.sooner-self.ensures.first;
   beside = assumption refl;
   console = record {
     desk = refl;

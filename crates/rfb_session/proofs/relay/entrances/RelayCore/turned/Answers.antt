@@ -1,6 +1,6 @@
-use Rattle.std.proofs.Common.{◌∙◌}
+use Rattle.std.proofs.Common.{◌∙◌, sym}
 use Rattle.rfb_session.proofs.ConsoleLemmas.{stays_then}
-use Rattle.rfb_session.proofs.RelayStepLemmas.{planned_gone, rooms_planned, rooms_so}
+use Rattle.rfb_session.proofs.RelayStepLemmas.{asks_on, planned_gone, rooms_planned, rooms_so}
 use Rattle.rfb_session.proofs.relay.entrances.RelayCore.turned.Goals as goal
 
 pub returns-clause-steps : goal.returns-clause-steps
@@ -33,6 +33,16 @@ returns-clause-steps g c =
             ∙ first.keeps.server.noted.coming;
         presence = rw (plans.console.side.stays.rules, plans.console.outcome, ← presence) plans.presence;
         wakes = rw (plans.console.side.stays.rules, plans.console.outcome) plans.wakes;
+        sooner = λ going desk is limit by.
+            let was = sym (plans.console.outcome ∙ spares.keeps.console.outcome ∙ opens.keeps.console.outcome
+            ∙ ends.outcome) ∙ going in
+            plans.sooner limit (rw (
+              spares.keeps.console.next,
+              opens.keeps.console.next,
+              ends.next was,
+              asks.keeps.next,
+              turns.next (asks_on asks.keeps.goes_on was) desk is,
+            ) by);
         rooms = rooms_planned c.spare_seats.new.self c.args.now c.plan_call.new.self plans
             (rooms_so _ c.open_server.new.self c.spare_seats.new.self ends.rooms opens.keeps opens.room opens.others
             spares) (rw plans.presence (planned_gone _ _ _ _));
