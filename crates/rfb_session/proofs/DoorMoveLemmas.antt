@@ -2,12 +2,14 @@
 use Rattle.std.proofs.Common.{◌≡◌, ℕ, ◌+◌, ◌-◌, ◌<◌, ◌≤◌, Bool, List, [], ◌∷◌}
 use Rattle.std.proofs.Common.{◌++◌, Option, Some, None, take, drop, length}
 use Rattle.std.proofs.Common.{refl, sym, ap, ◌∙◌, subst, append-nil, append_assoc, take-append-drop, arith, length-drop}
+use Rattle.std.proofs.Common.{inl, inr}
+use Rattle.std.proofs.lemmas.Bool.Decides.{eqb_tells}
 use Rattle.std.specs.Io.KnownBytes.{Appends, Consumes, Keeps, IsAtEnd}
 use Rattle.std.proofs.lemmas.List.{take_all, take-take, length-take}
 use Rattle.std.proofs.KnownBytes.{Keeps-refl}
-use Rattle.rfb_session.specs.doors.Events.{Event, Ended, Failed, Wrote, Received, Stepping, Runs, Brings, Nothing}
+use Rattle.rfb_session.specs.doors.Events.{Event, Ended, Failed, Wrote, Received, Stepping, Runs, Brings, Nothing, left}
 use Rattle.rfb_session.specs.doors.Devices.{Stays, Gave, Took, HasEnded}
-use Rattle.rfb_session.specs.doors.Turns.{Moves}
+use Rattle.rfb_session.specs.doors.Turns.{Moves, MovesIn, MovesOut}
 use Rattle.rfb_session.proofs.DoorEventLemmas.{Tells, nothing_told, end_told, fault_told, bytes_left, brought}
 use Rattle.rfb_session.proofs.DoorEventLemmas.{brings_more}
 
@@ -26,6 +28,14 @@ none_written (Some x) (Some y) kept = kept ∙ sym (append-nil x)
 at_end : (a b : Option (List ℕ)) → IsAtEnd b → HasEnded a b
 at_end None b all = tt
 at_end (Some x) b all = all
+
+-- where no byte left at a door, and nothing was told of another, none left anywhere
+none_left : (door : ℕ) (events : List Event) (bytes : List ℕ) (ended faults : ℕ) →
+    Tells door events bytes [] ended faults → (d : ℕ) → left d events ≡ []
+none_left door events bytes ended faults tells d = elim (eqb_tells d door) [
+  | inl same ↦ subst (λ (n : ℕ). left n events ≡ []) (sym same.1) tells.left_is
+  | inr other ↦ (tells.others d other.1).none_left
+]
 
 -- ---- one door
 
@@ -84,25 +94,68 @@ module _ {C D : Type 0} {steps : Stepping C} {unread written : D → Option (Lis
   pub moves_in : (count : ℕ) (buf : List ℕ) → Brings steps door old (take count buf) new →
       Gave count (unread device) (unread device') (written device) (written device')
       (failed device) (failed device') buf → stands device' ≡ stands device →
-      Moves steps unread written failed stands door old new device device'
+      MovesIn steps unread written failed stands door old new device device'
+  unfolding moves_by
   moves_in count buf brings gave still =
-      let told = brought steps door old (take count buf) new brings in
-      moves_by told.events (take count buf) [] 0 0 told.runs told.tells gave.came
-      (none_written (written device) (written device') gave.none_left)
-      (λ some. absurd (omega arith)) (omega (arith, gave.no_fault)) still
+      let told = brought steps door old (take count buf) new brings in (
+        moves_by told.events (take count buf) [] 0 0 told.runs told.tells gave.came
+            (none_written (written device) (written device') gave.none_left)
+            (λ some. absurd (omega arith)) (omega (arith, gave.no_fault)) still,
+        none_left door told.events (take count buf) 0 0 told.tells,
+      )
+
+  -- an end and a failure, at which no byte went
+  pub moves_in_end : steps old (Ended door) new → IsAtEnd (unread device') →
+      Stays (unread device) (unread device') (written device) (written device')
+      (failed device) (failed device') 0 → stands device' ≡ stands device →
+      MovesIn steps unread written failed stands door old new device device'
+  unfolding moves_end moves_by
+  moves_in_end step all stays still = (moves_end step all stays still, λ d. refl)
+
+  pub moves_in_fault : steps old (Failed door) new →
+      Stays (unread device) (unread device') (written device) (written device')
+      (failed device) (failed device') 1 → stands device' ≡ stands device →
+      MovesIn steps unread written failed stands door old new device device'
+  unfolding moves_fault moves_by
+  moves_in_fault step stays still = (moves_fault step stays still, λ d. refl)
+
+  pub moves_out_fault : steps old (Failed door) new →
+      Stays (unread device) (unread device') (written device) (written device')
+      (failed device) (failed device') 1 → stands device' ≡ stands device →
+      MovesOut steps unread written failed stands door old new device device'
+  unfolding moves_fault moves_by
+  moves_out_fault step stays still = (moves_fault step stays still, λ d. refl)
+
+  -- nothing was done
+  pub moves_in_none : new ≡ old →
+      Stays (unread device) (unread device') (written device) (written device')
+      (failed device) (failed device') 0 → stands device' ≡ stands device →
+      MovesIn steps unread written failed stands door old new device device'
+  unfolding moves_none moves_by
+  moves_in_none same stays still = (moves_none same stays still, λ d. refl)
+
+  pub moves_out_none : new ≡ old →
+      Stays (unread device) (unread device') (written device) (written device')
+      (failed device) (failed device') 0 → stands device' ≡ stands device →
+      MovesOut steps unread written failed stands door old new device device'
+  unfolding moves_none moves_by
+  moves_out_none same stays still = (moves_none same stays still, λ d. refl)
 
   -- bytes left, and it was told so
   pub moves_out : (count : ℕ) (buf waiting : List ℕ) → buf ≡ waiting →
       steps old (Wrote door (take count waiting)) new →
       Took count (unread device) (unread device') (written device) (written device')
       (failed device) (failed device') buf → stands device' ≡ stands device →
-      Moves steps unread written failed stands door old new device device'
-  moves_out count buf waiting same step took still =
-      moves_by (Wrote door (take count waiting) ∷ []) [] (take count waiting) 0 0 (new, step, refl)
-      (bytes_left door (take count waiting))
-      (none_read (unread device) (unread device') took.none_came)
-      (subst (λ (l : List ℕ). Appends (written device) (written device') (take count l)) same took.left)
-      (λ some. absurd (omega arith)) (omega (arith, took.no_fault)) still
+      MovesOut steps unread written failed stands door old new device device'
+  unfolding moves_by
+  moves_out count buf waiting same step took still = (
+    moves_by (Wrote door (take count waiting) ∷ []) [] (take count waiting) 0 0 (new, step, refl)
+        (bytes_left door (take count waiting))
+        (none_read (unread device) (unread device') took.none_came)
+        (subst (λ (l : List ℕ). Appends (written device) (written device') (take count l)) same took.left)
+        (λ some. absurd (omega arith)) (omega (arith, took.no_fault)) still,
+    λ d. refl,
+  )
 
 -- what a write took of some bytes in front it took of all
 pub took_front : {u u' w w' : Option (List ℕ)} {f f' : ℕ} (count n : ℕ) (buf : List ℕ) →
@@ -127,6 +180,14 @@ module _ {C D : Type 0} (steps : Stepping C) (unread written : D → Option (Lis
     none_left = Keeps-refl (written device);
     count = omega arith;
   }) refl
+
+  pub moves_in_not : MovesIn steps unread written failed stands door core core device device
+  unfolding moves_not moves_none moves_by
+  moves_in_not = (moves_not, λ d. refl)
+
+  pub moves_out_not : MovesOut steps unread written failed stands door core core device device
+  unfolding moves_not moves_none moves_by
+  moves_out_not = (moves_not, λ d. refl)
 
 -- ---- bytes on their way to the core
 

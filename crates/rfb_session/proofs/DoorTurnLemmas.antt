@@ -10,7 +10,8 @@ use Rattle.std.specs.Io.KnownBytes.{Appends, Consumes}
 use Rattle.std.proofs.KnownBytes.{Consumes-nil, Consumes-trans, Appends-nil, Appends-trans}
 use Rattle.rfb_session.specs.doors.Events.{Event, Turned, Stepping, Runs, IsQuiet, came, left, ends, faults}
 use Rattle.rfb_session.specs.doors.Devices.{HasEnded, known_of, known_at, number_of, number_at, flag_of, flag_at}
-use Rattle.rfb_session.specs.doors.Turns.{Moves, Turns, TurnsOnce}
+use Rattle.rfb_session.specs.doors.Turns.{Moves, MovesIn, MovesOut, Turns, TurnsIn, TurnsOnce}
+use Rattle.rfb_session.specs.doors.Turns.{TurnsOut}
 use Rattle.rfb_session.proofs.DoorEventLemmas.{came-append, left-append, ends-append, faults-append}
 use Rattle.rfb_session.proofs.DoorEventLemmas.{quiet_none, quiet_both, runs_then}
 
@@ -136,13 +137,42 @@ module _ {C D : Type 0} {steps : Stepping C} {unread written : D → Option (Lis
             | inr second ↦ ended_then u v w (came d one.events) (one.reads d) (two.ended d second)
           ]
 
+  pub turns_in_none : {core : C} {doors : List D} →
+      TurnsIn steps unread written failed stands core core doors doors
+  unfolding turns_none quiet_turns
+  turns_in_none = (turns_none, λ d. refl)
+
+  pub turns_out_none : {core : C} {doors : List D} →
+      TurnsOut steps unread written failed stands core core doors doors
+  unfolding turns_none quiet_turns
+  turns_out_none = (turns_none, λ d. refl)
+
+  -- the same while nothing leaves, and while nothing comes
+  pub turns_in_then : {a b c : C} {xs ys zs : List D} → TurnsIn steps unread written failed stands a b xs ys →
+      TurnsIn steps unread written failed stands b c ys zs → TurnsIn steps unread written failed stands a c xs zs
+  unfolding turns_then
+  turns_in_then one two = (
+    turns_then one.0 two.0,
+    λ d. left-append d one.0.events two.0.events
+        ∙ ap (λ (l : List ℕ). l ++ left d two.0.events) (one.1 d) ∙ two.1 d,
+  )
+
+  pub turns_out_then : {a b c : C} {xs ys zs : List D} → TurnsOut steps unread written failed stands a b xs ys →
+      TurnsOut steps unread written failed stands b c ys zs → TurnsOut steps unread written failed stands a c xs zs
+  unfolding turns_then
+  turns_out_then one two = (
+    turns_then one.0 two.0,
+    λ d. came-append d one.0.events two.0.events
+        ∙ ap (λ (l : List ℕ). l ++ came d two.0.events) (one.1 d) ∙ two.1 d,
+  )
+
   -- a whole turn
   pub turns_once : {due : C → Option ℕ} {next : Option ℕ} {old new : C} {doors doors' : List D} →
       TurnsOnce steps due unread written failed stands next old new doors doors' →
       Turns steps unread written failed stands old new doors doors'
   turns_once once =
-      turns_then once.hears
-      (turns_then (turns_turned once.heard once.turned once.mid once.now once.turns) once.tells)
+      turns_then once.hears.0
+      (turns_then (turns_turned once.heard once.turned once.mid once.now once.turns) once.tells.0)
 
   -- what was done at one of them
   pub turns_at : {old new : C} {doors : List D} (door : ℕ) (any : D) {device' : D} → door < length doors →
@@ -181,3 +211,15 @@ module _ {C D : Type 0} {steps : Stepping C} {unread written : D → Option (Lis
 
       is : slice_get (set doors door device') door ≡ Some device'
       is = slice_get-set_same doors door device' within
+
+  pub turns_in_at : {old new : C} {doors : List D} (door : ℕ) (any : D) {device' : D} → door < length doors →
+      MovesIn steps unread written failed stands door old new (get_or doors door any) device' →
+      TurnsIn steps unread written failed stands old new doors (set doors door device')
+  unfolding turns_at
+  turns_in_at door any within moves = (turns_at door any within moves.0, moves.1)
+
+  pub turns_out_at : {old new : C} {doors : List D} (door : ℕ) (any : D) {device' : D} → door < length doors →
+      MovesOut steps unread written failed stands door old new (get_or doors door any) device' →
+      TurnsOut steps unread written failed stands old new doors (set doors door device')
+  unfolding turns_at
+  turns_out_at door any within moves = (turns_at door any within moves.0, moves.1)

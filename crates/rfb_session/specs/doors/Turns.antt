@@ -1,5 +1,5 @@
 -- What a loop did at one door, and at all of them.
-use Rattle.std.specs.Prelude.{◌≡◌, ◌≢◌, ℕ, ◌+◌, ◌<◌, ◌≤◌, Bool, List, Option, take, length}
+use Rattle.std.specs.Prelude.{◌≡◌, ◌≢◌, ℕ, ◌+◌, ◌<◌, ◌≤◌, Bool, List, [], Option, take, length}
 use Rattle.std.specs.Io.KnownBytes.{Appends, Consumes}
 use Rattle.rfb_session.specs.doors.Events.{Event, Wrote, Turned, Stepping, Runs, Brings, IsQuiet, came, left, ends}
 use Rattle.rfb_session.specs.doors.Events.{faults}
@@ -53,8 +53,34 @@ module _ {C D : Type 0} where
     pub beyond : (d : ℕ) → length doors ≤ d → IsQuiet d events
     pub many : length doors' ≡ length doors
 
-  -- one turn: what was ready was heard, then the core was told the time and wanted to be called next at
-  -- that one, and then what waited was written
+  -- one door where no byte leaves, and one where none comes
+  abbrev pub MovesIn : Stepping C → (D → Option (List ℕ)) → (D → Option (List ℕ)) → (D → ℕ) → (D → Bool) → ℕ →
+      C → C → D → D → Type 0
+  MovesIn steps unread written failed stands door old new device device' =
+      (moves : Moves steps unread written failed stands door old new device device')
+      × ((d : ℕ) → left d moves.events ≡ [])
+
+  abbrev pub MovesOut : Stepping C → (D → Option (List ℕ)) → (D → Option (List ℕ)) → (D → ℕ) → (D → Bool) → ℕ →
+      C → C → D → D → Type 0
+  MovesOut steps unread written failed stands door old new device device' =
+      (moves : Moves steps unread written failed stands door old new device device')
+      × ((d : ℕ) → came d moves.events ≡ [])
+
+  -- the same of all doors
+  abbrev pub TurnsIn : Stepping C → (D → Option (List ℕ)) → (D → Option (List ℕ)) → (D → ℕ) → (D → Bool) →
+      C → C → List D → List D → Type 0
+  TurnsIn steps unread written failed stands old new doors doors' =
+      (turns : Turns steps unread written failed stands old new doors doors')
+      × ((d : ℕ) → left d turns.events ≡ [])
+
+  abbrev pub TurnsOut : Stepping C → (D → Option (List ℕ)) → (D → Option (List ℕ)) → (D → ℕ) → (D → Bool) →
+      C → C → List D → List D → Type 0
+  TurnsOut steps unread written failed stands old new doors doors' =
+      (turns : Turns steps unread written failed stands old new doors doors')
+      × ((d : ℕ) → came d turns.events ≡ [])
+
+  -- one turn: what was ready was heard, while nothing left; then the core was told the time and wanted to be
+  -- called next at that one; and then what waited was written, while nothing came
   pub record TurnsOnce (steps : Stepping C) (due : C → Option ℕ) (unread written : D → Option (List ℕ))
       (failed : D → ℕ) (stands : D → Bool) (next : Option ℕ) (old new : C) (doors doors' : List D)
       : Type 0 where
@@ -62,7 +88,7 @@ module _ {C D : Type 0} where
     pub turned : C
     pub mid : List D
     pub now : ℕ
-    pub hears : Turns steps unread written failed stands old heard doors mid
+    pub hears : TurnsIn steps unread written failed stands old heard doors mid
     pub turns : steps heard (Turned now) turned
     pub next_is : next ≡ due turned
-    pub tells : Turns steps unread written failed stands turned new mid doors'
+    pub tells : TurnsOut steps unread written failed stands turned new mid doors'

@@ -2,7 +2,7 @@
 
 ghost use Rattle.std.specs.Prelude.{◌≡◌, ◌≤◌, ◌<◌, length};
 ghost use Rattle.rfb_session.specs.doors.Events.{Brings};
-ghost use Rattle.rfb_session.specs.doors.Turns.{Moves, Hears};
+ghost use Rattle.rfb_session.specs.doors.Turns.{MovesIn, Hears};
 
 use crate::doors::cores::Core;
 use crate::doors::device::{Answer, Device};
@@ -16,7 +16,7 @@ pub fn hear<C: Core, D: Device>(
     door: usize,
     part: &mut [u8],
 ) -> Answer
-    ensures moves { Moves C.steps D.unread D.written D.failed D.stands
+    ensures moves { MovesIn C.steps D.unread D.written D.failed D.stands
         door core.old core.new device.old device.new }
     ensures hears { Hears C.steps door result core.old core.new }
     ensures waits { result ≡ Answer.Waits → 0 < C.space core.old door }

@@ -1,7 +1,7 @@
 //! One write at one door.
 
 ghost use Rattle.std.specs.Prelude.{◌≡◌, ◌<◌, length};
-ghost use Rattle.rfb_session.specs.doors.Turns.{Moves, Learns};
+ghost use Rattle.rfb_session.specs.doors.Turns.{MovesOut, Learns};
 
 use crate::doors::cores::Core;
 use crate::doors::device::{Answer, Device};
@@ -13,7 +13,7 @@ const PIECE: usize = 1 << 20;
 /// core how much of it has left. Where nothing waits it answers `Again`, so what is known of the
 /// door's readiness stays.
 pub fn tell<C: Core, D: Device>(core: &mut C, device: &mut D, door: usize) -> Answer
-    ensures moves { Moves C.steps D.unread D.written D.failed D.stands
+    ensures moves { MovesOut C.steps D.unread D.written D.failed D.stands
         door core.old core.new device.old device.new }
     ensures learns { Learns C.steps door (C.waiting core.old door) result core.old core.new }
     ensures waits { result ≡ Answer.Waits → 0 < length (C.waiting core.old door) }

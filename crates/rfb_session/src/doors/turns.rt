@@ -1,7 +1,7 @@
 //! All doors, turn after turn.
 
 ghost use Rattle.std.specs.Prelude.{◌<◌, length};
-ghost use Rattle.rfb_session.specs.doors.Turns.{Turns, TurnsOnce};
+ghost use Rattle.rfb_session.specs.doors.Turns.{Turns, TurnsIn, TurnsOnce, TurnsOut};
 
 use crate::doors::clock::{Clock, Pause};
 use crate::doors::cores::Core;
@@ -67,7 +67,7 @@ fn hear_at<C: Core, D: Device, K: Clock>(
     door: usize,
 )
     requires { door < length doors.old }
-    ensures { Turns C.steps D.unread D.written D.failed D.stands
+    ensures { TurnsIn C.steps D.unread D.written D.failed D.stands
         core.old core.new doors.old doors.new }
 {
     if clock.reads(door) {
@@ -79,7 +79,7 @@ fn hear_at<C: Core, D: Device, K: Clock>(
 // Writes once at a door, if it is worth it.
 fn tell_at<C: Core, D: Device, K: Clock>(core: &mut C, doors: &mut [D], clock: &mut K, door: usize)
     requires { door < length doors.old }
-    ensures { Turns C.steps D.unread D.written D.failed D.stands
+    ensures { TurnsOut C.steps D.unread D.written D.failed D.stands
         core.old core.new doors.old doors.new }
 {
     if clock.writes(door) {

@@ -1,18 +1,18 @@
 use Rattle.rfb_session.specs.doors.Turns.{TurnsOnce}
-use Rattle.rfb_session.proofs.DoorTurnLemmas.{turns_none, turns_then, turns_once}
+use Rattle.rfb_session.proofs.DoorTurnLemmas.{turns_in_none, turns_in_then, turns_once, turns_out_none, turns_out_then}
 use Rattle.rfb_session.proofs.doors.turns.turn.Goals as goal
 
 pub loop-door-init : goal.loop-door-init
-loop-door-init g c = turns_none
+loop-door-init g c = turns_in_none
 
 pub loop-door-preserved : goal.loop-door-preserved
-loop-door-preserved g c = turns_then c.loop-door.invariant c.hear_at.ensures
+loop-door-preserved g c = turns_in_then c.loop-door.invariant c.hear_at.ensures
 
 pub loop-door-2-init : goal.loop-door-2-init
-loop-door-2-init g c = turns_none
+loop-door-2-init g c = turns_out_none
 
 pub loop-door-2-preserved : goal.loop-door-2-preserved
-loop-door-2-preserved g c = turns_then c.loop-door-2.invariant c.tell_at.ensures
+loop-door-2-preserved g c = turns_out_then c.loop-door-2.invariant c.tell_at.ensures
 
 pub returns : goal.returns
 returns g c =
