@@ -75,7 +75,11 @@ fn run<P: AllocGlobal + Net, R, W: Write, E: Write>(
     let notes = &mut Notes::new(context.errors, context.explains);
     let mut link = connected_or_told(context.rt, notes)?;
     let mut ends = Ends::new(context.alloc(), script.screen, &script.wants)?;
-    finish(context, &mut ends, &mut link, &script.steps)
+    let finished = finish(context, &mut ends, &mut link, &script.steps);
+    // By calls, for the prover's sake, as in `script`.
+    drop(ends);
+    drop(link);
+    finished
 }
 
 // A connection of this process to itself. Where there is none, it says why.

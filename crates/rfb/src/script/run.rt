@@ -80,7 +80,10 @@ fn run<P: AllocGlobal, R, W: Write, E: Write>(
     ensures same { KeepsStreams context.old context.new }
 {
     let mut world = fresh_world(context.alloc(), script.screen, &script.wants)?;
-    finish(context, &mut world, &script.steps)
+    let finished = finish(context, &mut world, &script.steps);
+    // By a call: a world whose parts go one by one here takes the prover a minute.
+    drop(world);
+    finished
 }
 
 // Takes all steps, and writes what the viewer shows then.
