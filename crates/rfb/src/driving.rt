@@ -82,20 +82,29 @@ fn drive_over<P: AllocGlobal + Clock + Files + Net, R: Read, W: Write, E: Write>
     let (input, streams) = input_of(streams, options.has_lines);
     let fd = server.as_raw_fd();
     let front = front_of(fd);
-    let shell = &mut Shell::new(context.rt, alloc, None::<P::Listener>, front, streams)?;
+    let mut shell = Shell::new(context.rt, alloc, None::<P::Listener>, front, streams)?;
     let rig = FileRig::new(context.rt, options.keep, says);
-    let driver = &mut driver_of(alloc, &options, rig);
+    let mut driver = driver_of(alloc, &options, rig);
     let lines = Tenant::input(context.input, input);
-    let mut doors = doors_of(
+    let doors = doors_of(
         alloc,
         Tenant::Connection(server),
         Some(lines),
         context.output,
         context.errors,
         streams,
-    )?;
-    live(driver, &mut doors, shell, &mut part);
-    drive_result(driver.outcome(), fd)
+    );
+    // What there is then is dropped by calls, as in a relay.
+    let ended = match doors {
+        Ok(mut doors) => {
+            live(&mut driver, &mut doors, &mut shell, &mut part);
+            drive_result(driver.outcome(), fd)
+        }
+        Err(error) => Err(Failure::from(error)),
+    };
+    drop(driver);
+    drop(shell);
+    ended
 }
 
 // A driver that was told nothing, as the options ask for it.

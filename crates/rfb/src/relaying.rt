@@ -83,19 +83,28 @@ fn relay_between<P: AllocGlobal + Clock + Net, R: Read, W: Write, E: Write>(
         server: Some(server.as_raw_fd()),
         callee: Some(Callee::new(options.server)),
     };
-    let shell = &mut Shell::new(context.rt, alloc, Some(listener), front, streams)?;
-    let relay = &mut relay_of(alloc, options, says);
+    let mut shell = Shell::new(context.rt, alloc, Some(listener), front, streams)?;
+    let mut relay = relay_of(alloc, options, says);
     let server = Tenant::Connection(server);
-    let mut doors = doors_of::<R, W, E, P::Stream>(
+    let doors = doors_of::<R, W, E, P::Stream>(
         alloc,
         server,
         None,
         context.output,
         context.errors,
         streams,
-    )?;
-    live(relay, &mut doors, shell, &mut part);
-    result_of(relay.outcome())
+    );
+    // What there is then is dropped by calls: the prover walks through all else here.
+    let ended = match doors {
+        Ok(mut doors) => {
+            live(&mut relay, &mut doors, &mut shell, &mut part);
+            result_of(relay.outcome())
+        }
+        Err(error) => Err(Failure::from(error)),
+    };
+    drop(relay);
+    drop(shell);
+    ended
 }
 
 // A relay that was told nothing, as the options ask for it. It says sentences, or none.

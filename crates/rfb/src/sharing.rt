@@ -84,12 +84,21 @@ fn share_with<P: AllocGlobal + Clock + Net, R: Read, W: Write, E: Write>(
 {
     let alloc = context.alloc();
     let mut part = Vec::from_elem(alloc, 0, READ_AT_ONCE)?;
-    let shell = &mut Shell::new(context.rt, alloc, Some(listener), FRONT, streams)?;
-    let console = &mut console_of(alloc, &options, says);
+    let mut shell = Shell::new(context.rt, alloc, Some(listener), FRONT, streams)?;
+    let mut console = console_of(alloc, &options, says);
     let input = Tenant::input(context.input, streams.input);
-    let mut doors = doors_of(alloc, input, None, context.output, context.errors, streams)?;
-    live(console, &mut doors, shell, &mut part);
-    result_of(console.outcome())
+    let doors = doors_of(alloc, input, None, context.output, context.errors, streams);
+    // What there is then is dropped by calls, as in a relay.
+    let ended = match doors {
+        Ok(mut doors) => {
+            live(&mut console, &mut doors, &mut shell, &mut part);
+            result_of(console.outcome())
+        }
+        Err(error) => Err(Failure::from(error)),
+    };
+    drop(console);
+    drop(shell);
+    ended
 }
 
 // A console that was told nothing, as the options ask for it. It says sentences, or none.
