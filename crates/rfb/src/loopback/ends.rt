@@ -45,7 +45,14 @@ impl Ends {
         ensures to_viewer { IfOk result (λ ends. ends.to_viewer.items ≡ version_text V38) }
     {
         let server = fresh_server(alloc, screen)?;
-        let to_viewer = in_flight(alloc, &server.greeting())?;
+        let to_viewer = match in_flight(alloc, &server.greeting()) {
+            Ok(to_viewer) => to_viewer,
+            Err(error) => {
+                // By a call, for the prover's sake.
+                drop(server);
+                return Err(error);
+            }
+        };
         let (format, encodings) = wishes(wants);
         Ok(Ends {
             alloc,

@@ -133,6 +133,8 @@ fn follow_over<R: Read + Drop, V: Write + Drop, C: Clock, W: Write, N: Write>(
     if !matches!(&judged, Err(Failure::Fault(_))) {
         tell_filmed(came.updates, notes);
     }
+    // By a call, for the prover's sake.
+    drop(viewer);
     judged
 }
 

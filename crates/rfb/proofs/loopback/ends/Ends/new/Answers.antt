@@ -7,4 +7,4 @@ returns-clause-viewer c =
 
 pub returns-clause-to_viewer : goal.returns-clause-to_viewer
 returns-clause-to_viewer c =
-    c.in_ok-to_viewer.ensures ∙ c.greeting.ensures _ _ _ c.in_ok-server.ensures
+    c.in-Ok.ensures ∙ c.greeting.ensures _ _ _ c.in_ok-server.ensures
