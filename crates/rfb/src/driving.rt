@@ -9,14 +9,15 @@ ghost use Rattle.rfb.specs.Context.{KeepsStreams};
 ghost use Rattle.rfb.specs.Drive.{Drives, FailsToDrive, IsDriverOf, LeavesDrive};
 
 mod drive_words;
-mod ending;
 mod files;
+mod result;
 mod rig;
 mod sentences;
 mod setup;
 
 use crate::context::Context;
-use crate::driving::ending::drive_result;
+use crate::disposal::dispose;
+use crate::driving::result::drive_result;
 use crate::driving::rig::FileRig;
 use crate::driving::setup::setup_of;
 use crate::explain::{Notes, tell_unreached};
@@ -94,7 +95,6 @@ fn drive_over<P: AllocGlobal + Clock + Files + Net, R: Read, W: Write, E: Write>
         context.errors,
         streams,
     );
-    // What there is then is dropped by calls, as in a relay.
     let ended = match doors {
         Ok(mut doors) => {
             live(&mut driver, &mut doors, &mut shell, &mut part);
@@ -102,8 +102,8 @@ fn drive_over<P: AllocGlobal + Clock + Files + Net, R: Read, W: Write, E: Write>
         }
         Err(error) => Err(Failure::from(error)),
     };
-    drop(driver);
-    drop(shell);
+    dispose(driver);
+    dispose(shell);
     ended
 }
 

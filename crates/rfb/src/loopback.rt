@@ -13,6 +13,7 @@ mod link;
 mod sent;
 
 use crate::context::Context;
+use crate::disposal::dispose;
 use crate::explain::{Notes, tell_unlinked};
 use crate::fault::{Failure, Fault};
 use crate::help::Topic;
@@ -76,9 +77,8 @@ fn run<P: AllocGlobal + Net, R, W: Write, E: Write>(
     let mut link = connected_or_told(context.rt, notes)?;
     let mut ends = Ends::new(context.alloc(), script.screen, &script.wants)?;
     let finished = finish(context, &mut ends, &mut link, &script.steps);
-    // By calls, for the prover's sake, as in `script`.
-    drop(ends);
-    drop(link);
+    dispose(ends);
+    dispose(link);
     finished
 }
 

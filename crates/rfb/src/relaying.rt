@@ -12,6 +12,7 @@ mod relay_words;
 mod setup;
 
 use crate::context::Context;
+use crate::disposal::dispose;
 use crate::explain::{Notes, tell_unreached};
 use crate::fault::Failure;
 use crate::reaching::connect_once;
@@ -94,7 +95,6 @@ fn relay_between<P: AllocGlobal + Clock + Net, R: Read, W: Write, E: Write>(
         context.errors,
         streams,
     );
-    // What there is then is dropped by calls: the prover walks through all else here.
     let ended = match doors {
         Ok(mut doors) => {
             live(&mut relay, &mut doors, &mut shell, &mut part);
@@ -102,8 +102,8 @@ fn relay_between<P: AllocGlobal + Clock + Net, R: Read, W: Write, E: Write>(
         }
         Err(error) => Err(Failure::from(error)),
     };
-    drop(relay);
-    drop(shell);
+    dispose(relay);
+    dispose(shell);
     ended
 }
 

@@ -20,6 +20,7 @@ pub mod standard;
 pub mod tenant;
 
 use crate::context::Context;
+use crate::disposal::dispose;
 use crate::explain::Notes;
 use crate::fault::Failure;
 use crate::serving::listener_at;
@@ -88,7 +89,6 @@ fn share_with<P: AllocGlobal + Clock + Net, R: Read, W: Write, E: Write>(
     let mut console = console_of(alloc, &options, says);
     let input = Tenant::input(context.input, streams.input);
     let doors = doors_of(alloc, input, None, context.output, context.errors, streams);
-    // What there is then is dropped by calls, as in a relay.
     let ended = match doors {
         Ok(mut doors) => {
             live(&mut console, &mut doors, &mut shell, &mut part);
@@ -96,8 +96,8 @@ fn share_with<P: AllocGlobal + Clock + Net, R: Read, W: Write, E: Write>(
         }
         Err(error) => Err(Failure::from(error)),
     };
-    drop(console);
-    drop(shell);
+    dispose(console);
+    dispose(shell);
     ended
 }
 

@@ -8,6 +8,7 @@ ghost use Rattle.rfb.specs.ScriptRun.{IsFreshServer, encodings_of, format_of};
 ghost use Rattle.rfb.specs.Recording.{IsFresh};
 
 use crate::defaults::{copy_of, fresh_server, fresh_viewer};
+use crate::disposal::dispose;
 use crate::fault::Fault;
 use crate::loopback::arriving::{reach_server, reach_viewer, take_some};
 use crate::loopback::link::{Link, PART};
@@ -48,8 +49,7 @@ impl Ends {
         let to_viewer = match in_flight(alloc, &server.greeting()) {
             Ok(to_viewer) => to_viewer,
             Err(error) => {
-                // By a call, for the prover's sake.
-                drop(server);
+                dispose(server);
                 return Err(error);
             }
         };

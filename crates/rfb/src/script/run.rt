@@ -10,6 +10,7 @@ ghost use Rattle.rfb_session.specs.Devices.{AppendsBeginning};
 ghost use Rattle.rfb_session.specs.InFlight.{AreMade};
 
 use crate::context::Context;
+use crate::disposal::dispose;
 use crate::explain::Notes;
 use crate::fault::{Failure, Fault};
 use crate::help::Topic;
@@ -81,8 +82,7 @@ fn run<P: AllocGlobal, R, W: Write, E: Write>(
 {
     let mut world = fresh_world(context.alloc(), script.screen, &script.wants)?;
     let finished = finish(context, &mut world, &script.steps);
-    // By a call: a world whose parts go one by one here takes the prover a minute.
-    drop(world);
+    dispose(world);
     finished
 }
 

@@ -6,6 +6,7 @@ ghost use Rattle.rfb.specs.Service.{IsServed, IsServedFrom};
 ghost use Rattle.rfb.specs.declared.serving.screen.ServedScreen.TheVariants as ServedScreen;
 
 use crate::defaults::fresh_server;
+use crate::disposal::dispose;
 use crate::scene::TestScene;
 use crate::serving::screen::ServedScreen;
 use crate::serving::still::{Still, draw_picture};
@@ -42,8 +43,7 @@ fn serve_scene<R: Read + Drop, W: Write + Drop>(
 {
     let mut server = fresh_server(alloc, size)?;
     let served = serve_first_scene(alloc, size, &mut server, reader, writer);
-    // By a call: a server whose parts go one by one here takes the prover ten seconds.
-    drop(server);
+    dispose(server);
     served
 }
 
@@ -78,8 +78,7 @@ fn serve_picture<R: Read + Drop, W: Write + Drop>(
     };
     let mut server = fresh_server(alloc, size)?;
     let served = serve_first_picture(alloc, size, pixmap, &mut server, reader, writer);
-    // As with the test scene.
-    drop(server);
+    dispose(server);
     served
 }
 

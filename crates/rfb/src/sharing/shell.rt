@@ -1,8 +1,8 @@
 //! The system as the loop of a core knows it: which doors are ready, the time, and who comes.
 
 pub mod callee;
+mod clock;
 mod entry;
-mod pace;
 
 use crate::sharing::ready::Ready;
 use crate::sharing::shell::callee::Callee;

@@ -12,6 +12,7 @@ ghost use Rattle.rfb.specs.Recording.{IsFresh};
 
 use crate::context::Context;
 use crate::defaults::{copy_of, fresh_viewer};
+use crate::disposal::dispose;
 use crate::explain::{
     Early, Heard, Hearing, Notes, Origin, Shared, Telling, Writing, tell_closed, tell_filmed,
     tell_server, tell_unreached, tell_unsent,
@@ -133,8 +134,7 @@ fn follow_over<R: Read + Drop, V: Write + Drop, C: Clock, W: Write, N: Write>(
     if !matches!(&judged, Err(Failure::Fault(_))) {
         tell_filmed(came.updates, notes);
     }
-    // By a call, for the prover's sake.
-    drop(viewer);
+    dispose(viewer);
     judged
 }
 
