@@ -71,12 +71,12 @@ fn drive_over<P: AllocGlobal + Clock + Files + Net, R: Read, W: Write, E: Write>
     streams: Streams,
     says: bool,
 ) -> Result<(), Failure>
-    ensures done { OnOk result (Drives P options.entry) }
-    ensures stopped { IfErr result (FailsToDrive P options.entry
-        (W.contents context.old.output.now) (W.contents context.new.output.now)) }
+    ensures same { KeepsStreams context.old context.new }
     ensures left { OnErr result (LeavesDrive P options.entry
         (W.contents context.old.output.now) (W.contents context.new.output.now)) }
-    ensures same { KeepsStreams context.old context.new }
+    ensures stopped { IfErr result (FailsToDrive P options.entry
+        (W.contents context.old.output.now) (W.contents context.new.output.now)) }
+    ensures done { OnOk result (Drives P options.entry) }
 {
     let alloc = context.alloc();
     let mut part = Vec::from_elem(alloc, 0, READ_AT_ONCE)?;
@@ -87,9 +87,10 @@ fn drive_over<P: AllocGlobal + Clock + Files + Net, R: Read, W: Write, E: Write>
     let rig = FileRig::new(context.rt, options.keep, says);
     let mut driver = driver_of(alloc, &options, rig);
     let lines = Tenant::input(context.input, input);
+    let server = Tenant::Connection(server);
     let doors = doors_of(
         alloc,
-        Tenant::Connection(server),
+        server,
         Some(lines),
         context.output,
         context.errors,
@@ -98,6 +99,7 @@ fn drive_over<P: AllocGlobal + Clock + Files + Net, R: Read, W: Write, E: Write>
     let ended = match doors {
         Ok(mut doors) => {
             live(&mut driver, &mut doors, &mut shell, &mut part);
+            // All lines are done, or one cannot be, or the server has gone.
             drive_result(driver.outcome(), fd)
         }
         Err(error) => Err(Failure::from(error)),

@@ -70,12 +70,12 @@ fn relay_between<P: AllocGlobal + Clock + Net, R: Read, W: Write, E: Write>(
     streams: Streams,
     says: bool,
 ) -> Result<(), Failure>
-    ensures same { KeepsStreams context.old context.new }
-    ensures done { OnOk result (Relays options.entry) }
-    ensures stopped { IfErr result (FailsToRelay options.entry
-        (W.contents context.old.output.now) (W.contents context.new.output.now)) }
     ensures left { OnErr result (LeavesRelay options.entry
         (W.contents context.old.output.now) (W.contents context.new.output.now)) }
+    ensures stopped { IfErr result (FailsToRelay options.entry
+        (W.contents context.old.output.now) (W.contents context.new.output.now)) }
+    ensures done { OnOk result (Relays options.entry) }
+    ensures same { KeepsStreams context.old context.new }
 {
     let alloc = context.alloc();
     let mut part = Vec::from_elem(alloc, 0, READ_AT_ONCE)?;

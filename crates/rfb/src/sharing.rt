@@ -67,16 +67,16 @@ pub fn share_at<P: AllocGlobal + Clock + Net, R: Read, W: Write, E: Write>(
     let notes = &mut Notes::new(context.errors, says);
     let listener = listener_at(context.rt, hosting.listen, hosting.port, notes)?;
     listener.set_nonblocking(true)?;
-    share_with(context, options, listener, streams, says)
+    share_with(context, streams, says, options, listener)
 }
 
 // The same, for viewers that come to this listener.
 fn share_with<P: AllocGlobal + Clock + Net, R: Read, W: Write, E: Write>(
     context: &mut Context<P, R, W, E>,
-    options: ShareOptions<'_>,
-    listener: P::Listener,
     streams: Streams,
     says: bool,
+    options: ShareOptions<'_>,
+    listener: P::Listener,
 ) -> Result<(), Failure>
     ensures done { OnOk result (Shares options.entry) }
     ensures left { OnErr result (LeavesShare options.entry
@@ -90,11 +90,11 @@ fn share_with<P: AllocGlobal + Clock + Net, R: Read, W: Write, E: Write>(
     let input = Tenant::input(context.input, streams.input);
     let doors = doors_of(alloc, input, None, context.output, context.errors, streams);
     let ended = match doors {
+        Err(error) => Err(Failure::from(error)),
         Ok(mut doors) => {
             live(&mut console, &mut doors, &mut shell, &mut part);
             result_of(console.outcome())
         }
-        Err(error) => Err(Failure::from(error)),
     };
     dispose(console);
     dispose(shell);
