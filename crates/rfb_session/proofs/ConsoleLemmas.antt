@@ -1,6 +1,6 @@
 -- What a console does for its owner.
-use Rattle.std.proofs.Common.{◌≡◌, ◌≢◌, ◌<◌, ◌≤◌, ◌+◌, ◌∙◌, ◌⊎◌, ℕ, List, Option, Some, None, arith}
-use Rattle.std.proofs.Common.{length, take, length-take, subst, ap, inl, inr}
+use Rattle.std.proofs.Common.{◌≡◌, ◌≢◌, ◌<◌, ◌≤◌, ◌+◌, ◌∙◌, ◌⊎◌, ℕ, List}
+use Rattle.std.proofs.Common.{Option, Some, None, length, take, length-take, subst, ap, inl, inr, arith}
 use Rattle.rfb_server.specs.Strokes.{Stroke, Fill as OneFill, Copy as OneCopy, Hint as OneHint, Scroll as OneScroll}
 use Rattle.rfb_session.specs.declared.console.Console.{Console}
 use Rattle.rfb_session.specs.declared.console.Outcome.{Outcome}

@@ -1,5 +1,6 @@
 -- What a loop did at one door, and at all of them.
-use Rattle.std.specs.Prelude.{◌≡◌, ◌≢◌, ℕ, ◌+◌, ◌<◌, ◌≤◌, Bool, List, [], Option, take, length}
+use Rattle.std.specs.Prelude.{◌≡◌, ◌≢◌, ℕ, ◌+◌, ◌<◌, ◌≤◌, Bool, Option}
+use Rattle.std.specs.Prelude.{List, [], take, length}
 use Rattle.std.specs.Io.KnownBytes.{Appends, Consumes}
 use Rattle.rfb_session.specs.doors.Events.{Event, Wrote, Turned, Stepping, Runs, Brings, IsQuiet, came, left, ends}
 use Rattle.rfb_session.specs.doors.Events.{faults}
@@ -53,31 +54,29 @@ module _ {C D : Type 0} where
     pub beyond : (d : ℕ) → length doors ≤ d → IsQuiet d events
     pub many : length doors' ≡ length doors
 
-  -- one door where no byte leaves, and one where none comes
-  abbrev pub MovesIn : Stepping C → (D → Option (List ℕ)) → (D → Option (List ℕ)) → (D → ℕ) → (D → Bool) → ℕ →
-      C → C → D → D → Type 0
-  MovesIn steps unread written failed stands door old new device device' =
-      (moves : Moves steps unread written failed stands door old new device device')
-      × ((d : ℕ) → left d moves.events ≡ [])
+  module _ (steps : Stepping C) (unread written : D → Option (List ℕ)) (failed : D → ℕ) (stands : D → Bool)
+    where
+      -- one door where no byte leaves, and one where none comes
+      abbrev pub MovesIn : ℕ → C → C → D → D → Type 0
+      MovesIn door old new device device' =
+          (moves : Moves steps unread written failed stands door old new device device')
+          × ((d : ℕ) → left d moves.events ≡ [])
 
-  abbrev pub MovesOut : Stepping C → (D → Option (List ℕ)) → (D → Option (List ℕ)) → (D → ℕ) → (D → Bool) → ℕ →
-      C → C → D → D → Type 0
-  MovesOut steps unread written failed stands door old new device device' =
-      (moves : Moves steps unread written failed stands door old new device device')
-      × ((d : ℕ) → came d moves.events ≡ [])
+      abbrev pub MovesOut : ℕ → C → C → D → D → Type 0
+      MovesOut door old new device device' =
+          (moves : Moves steps unread written failed stands door old new device device')
+          × ((d : ℕ) → came d moves.events ≡ [])
 
-  -- the same of all doors
-  abbrev pub TurnsIn : Stepping C → (D → Option (List ℕ)) → (D → Option (List ℕ)) → (D → ℕ) → (D → Bool) →
-      C → C → List D → List D → Type 0
-  TurnsIn steps unread written failed stands old new doors doors' =
-      (turns : Turns steps unread written failed stands old new doors doors')
-      × ((d : ℕ) → left d turns.events ≡ [])
+      -- the same of all doors
+      abbrev pub TurnsIn : C → C → List D → List D → Type 0
+      TurnsIn old new doors doors' =
+          (turns : Turns steps unread written failed stands old new doors doors')
+          × ((d : ℕ) → left d turns.events ≡ [])
 
-  abbrev pub TurnsOut : Stepping C → (D → Option (List ℕ)) → (D → Option (List ℕ)) → (D → ℕ) → (D → Bool) →
-      C → C → List D → List D → Type 0
-  TurnsOut steps unread written failed stands old new doors doors' =
-      (turns : Turns steps unread written failed stands old new doors doors')
-      × ((d : ℕ) → came d turns.events ≡ [])
+      abbrev pub TurnsOut : C → C → List D → List D → Type 0
+      TurnsOut old new doors doors' =
+          (turns : Turns steps unread written failed stands old new doors doors')
+          × ((d : ℕ) → came d turns.events ≡ [])
 
   -- one turn: what was ready was heard, while nothing left; then the core was told the time and wanted to be
   -- called next at that one; and then what waited was written, while nothing came
