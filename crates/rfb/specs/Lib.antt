@@ -8,7 +8,7 @@ pub mod Ends
 pub mod Fault
 pub mod Few
 pub mod Film
-pub mod Hosting
+pub mod HostRules
 pub mod HubRun
 pub mod HubScript
 pub mod Lines

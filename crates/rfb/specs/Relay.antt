@@ -10,7 +10,7 @@ use Rattle.rfb_session.specs.relay.Setup.{viewing_by}
 use Rattle.rfb_session.specs.relay.Relay.{DeclinesRelay, OpensRelay, RelaySteps}
 use Rattle.rfb.specs.Outcomes.{HappensUntil, LeavesCore}
 use Rattle.rfb.specs.Ends.{EndsWell, FailsFor, IsNoEnd}
-use Rattle.rfb.specs.Hosting.{IsHosted}
+use Rattle.rfb.specs.HostRules.{IsHosted}
 use Rattle.rfb.specs.Recording.{viewing_of}
 use Rattle.rfb.specs.declared.fault.Failure.{Failure}
 use Rattle.rfb.specs.declared.relaying.relay_words.RelayOptions.{RelayOptions}

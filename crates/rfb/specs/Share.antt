@@ -7,7 +7,7 @@ use Rattle.rfb_session.specs.console.Console.{IsFreshConsole}
 use Rattle.rfb_session.specs.console.History.{Lasts}
 use Rattle.rfb.specs.Outcomes.{HappensUntil, LeavesCore}
 use Rattle.rfb.specs.Ends.{EndsWell, IsNoEnd}
-use Rattle.rfb.specs.Hosting.{IsHosted}
+use Rattle.rfb.specs.HostRules.{IsHosted}
 use Rattle.rfb.specs.declared.sharing.share_words.ShareOptions.{ShareOptions}
 use Rattle.rfb.specs.declared.sharing.speaker.Reporter.{Reporter}
 

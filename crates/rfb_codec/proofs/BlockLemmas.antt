@@ -13,7 +13,7 @@ use Rattle.rfb_picture.specs.declared.rect.Rect.{Rect}
 use Rattle.rfb_picture.specs.Grid.{Grid, grid, row_of}
 use Rattle.rfb_picture.proofs.GridLaws.{place_below, slice_index_or-row_of}
 use Rattle.rfb_codec.specs.Pixels.{IsPixel}
-use Rattle.rfb_codec.specs.inside.Encode.{PacksRows}
+use Rattle.rfb_codec.specs.encoder.Encode.{PacksRows}
 use Rattle.rfb_codec.specs.Codec.{PacksRect}
 
 -- one row more of a rectangle

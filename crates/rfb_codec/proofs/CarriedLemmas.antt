@@ -3,7 +3,7 @@ use Rattle.std.proofs.Common.{◌≡◌, ℕ, List, [], ◌∷◌, ◌++◌, Boo
 use Rattle.std.proofs.Common.{sym, subst, ◌∙◌, ap, append-nil, append_assoc}
 use Rattle.rfb_codec.specs.Tile.{Tile, later, last_of, is_missing}
 use Rattle.rfb_codec.specs.Hextile.{after_last, NoneIs, KeepsRule, CarriesColours}
-use Rattle.rfb_codec.specs.inside.Carried.{IsCarried, IsCarriedIf, IsNamed}
+use Rattle.rfb_codec.specs.encoder.Carried.{IsCarried, IsCarriedIf, IsNamed}
 use Rattle.rfb_codec.proofs.TileSpellingLemmas.{IsInForce}
 
 -- ---- one tile more

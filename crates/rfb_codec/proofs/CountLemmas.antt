@@ -4,7 +4,7 @@ use Rattle.std.proofs.Common.{arith, refl, sym, ap, ◌∙◌, inl, inr, ◌⊎�
 use Rattle.std.proofs.lemmas.Bool.{cases_lt, cases_eq}
 use Rattle.std.proofs.lemmas.List.{get_or-set_same, get_or-set_other, take_all, length-append, length-replicate}
 use Rattle.rfb_codec.specs.Choice.{IsPixelOf, places_of, IsBackground}
-use Rattle.rfb_codec.specs.inside.Background.{IsLed, IsRun}
+use Rattle.rfb_codec.specs.encoder.Background.{IsLed, IsRun}
 use Rattle.rfb_codec.proofs.PlacesLemmas.{run_counted, run_passed, is_pixel, has_place, places-append, copies_counted}
 use Rattle.rfb_codec.proofs.PlacesLemmas.{copies_passed}
 use Rattle.rfb_codec.proofs.TallyLemmas.{Yields}

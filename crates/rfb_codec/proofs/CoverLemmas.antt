@@ -10,7 +10,7 @@ use Rattle.rfb_picture.proofs.GridLaws.{place_below, contains_true}
 use Rattle.rfb_wire.specs.RectHead.{IsOnScreen}
 use Rattle.rfb_codec.specs.declared.subrect.Subrect.{Subrect}
 use Rattle.rfb_codec.specs.Rre.{pixel_at}
-use Rattle.rfb_codec.specs.inside.Cover.{IsPartOf, ArePartsOf}
+use Rattle.rfb_codec.specs.encoder.Cover.{IsPartOf, ArePartsOf}
 use Rattle.rfb_codec.proofs.RreLaws.{pixel_at-last}
 
 -- ---- subrectangles

@@ -13,12 +13,12 @@ use Rattle.rfb_codec.specs.declared.hextile.encode.carried.Carried.{Carried}
 use Rattle.rfb_codec.specs.Pixels.{IsPixel, HasPixels}
 use Rattle.rfb_codec.specs.Rre.{pixel_at}
 use Rattle.rfb_codec.specs.Choice.{IsPixelOf}
-use Rattle.rfb_codec.specs.inside.Cover.{ArePartsOf, IsCover}
+use Rattle.rfb_codec.specs.encoder.Cover.{ArePartsOf, IsCover}
 use Rattle.rfb_codec.specs.Tile.{background_of, foreground_of}
-use Rattle.rfb_codec.specs.inside.TileSpelling.{tile_of, AreTileParts}
+use Rattle.rfb_codec.specs.encoder.TileSpelling.{tile_of, AreTileParts}
 use Rattle.rfb_codec.specs.SentTile.{are_some}
 use Rattle.rfb_codec.specs.Hextile.{is_raw_tile, is_raw_or_colored, uses_foreground}
-use Rattle.rfb_codec.specs.inside.Carried.{IsNamed, Sends}
+use Rattle.rfb_codec.specs.encoder.Carried.{IsNamed, Sends}
 use Rattle.rfb_codec.proofs.TileSpellingLemmas.{IsTileSize, IsColourOf, spells_raw, spells_plain, spells_colored_tile}
 use Rattle.rfb_codec.proofs.TileSpellingLemmas.{fits_tile}
 use Rattle.rfb_codec.proofs.CarriedLemmas.{carried_kept, carried_on, in_force, unbroken}

@@ -5,7 +5,7 @@ use Rattle.std.proofs.lemmas.List.{get_or-append-add, get_or-drop}
 use Rattle.std.proofs.Math.Nat.{mul-le-mul_right}
 use Rattle.std.proofs.lemmas.Bool.Decides.{nat_tests}
 use Rattle.rfb_pixel.specs.FormatBytes.{AreBytes}
-use Rattle.rfb_wire.specs.stream.Reading.{Next, Got, Reading}
+use Rattle.rfb_wire.specs.stream.Prefix.{Next, Got, Reading}
 use Rattle.rfb_wire.specs.stream.Parts.{done, and_then, valued, optional, each, many}
 use Rattle.rfb_codec.specs.declared.fault.PaintFault.{PaintFault}
 use Rattle.rfb_codec.specs.Tile.{counted}

@@ -12,7 +12,7 @@ use Rattle.rfb_picture.specs.Rect.{contains}
 use Rattle.rfb_picture.specs.Grid.{Grid, IsGrid, grid, by_index, changed}
 use Rattle.rfb_wire.specs.declared.encoding.Encoding.{Encoding}
 use Rattle.rfb_wire.specs.declared.encoding.Encoding.TheVariants.{Raw, CopyRect, Rre, Hextile}
-use Rattle.rfb_wire.specs.stream.Reading.{More, Bad}
+use Rattle.rfb_wire.specs.stream.Prefix.{More, Bad}
 use Rattle.rfb_wire.proofs.stream_laws.FeedLaws.{take_add}
 use Rattle.rfb_wire.proofs.stream_laws.ReadingLaws.{reads_bad}
 use Rattle.rfb_codec.specs.declared.fault.PaintFault.{PaintFault}
@@ -23,7 +23,7 @@ use Rattle.rfb_codec.specs.RectData.{data_says, rect_data}
 use Rattle.rfb_codec.specs.Front.{ShowsFront}
 use Rattle.rfb_codec.specs.Stage.{encoding_at, is_ended, is_sound, StandsAt, IsRefused}
 use Rattle.rfb_codec.specs.declared.painter.rectangle.Rectangle.{Rectangle}
-use Rattle.rfb_codec.specs.inside.Step.{stage_of, GoesOn, Stops, Reaches, Takes, Breaks}
+use Rattle.rfb_codec.specs.decoder.Step.{stage_of, GoesOn, Stops, Reaches, Takes, Breaks}
 use Rattle.rfb_codec.specs.UnderWay.{Paints, Waits, Refuses, ShowsWith}
 use Rattle.rfb_codec.proofs.RectDataLaws.{rect_data_reads}
 use Rattle.rfb_codec.proofs.VerdictLemmas.{whole_under, stage_ended, stage_waits}

@@ -13,7 +13,7 @@ use Rattle.rfb_codec.specs.declared.painter.stage.Stage.{Stage}
 use Rattle.rfb_codec.specs.declared.painter.stage.Step.{Step}
 use Rattle.rfb_codec.specs.Front.{SpellsPixels}
 use Rattle.rfb_codec.specs.Stage.{encoding_at, is_sound, places_before}
-use Rattle.rfb_codec.specs.inside.Step.{GoesOn, PaintsRun, StandsPixels, Takes}
+use Rattle.rfb_codec.specs.decoder.Step.{GoesOn, PaintsRun, StandsPixels, Takes}
 
 -- ---- pixels
 

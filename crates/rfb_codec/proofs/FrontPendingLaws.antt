@@ -9,8 +9,8 @@ use Rattle.rfb_pixel.specs.declared.colour.Colour.{Colour}
 use Rattle.rfb_pixel.specs.Format.{PixelFormat, size_of}
 use Rattle.rfb_picture.specs.declared.rect.Rect.{Rect}
 use Rattle.rfb_picture.specs.Grid.{Grid}
-use Rattle.rfb_wire.specs.stream.Reading.{More, Got, Listed, ListedAfter}
-use Rattle.rfb_wire.specs.stream.Pending.{in_pieces}
+use Rattle.rfb_wire.specs.stream.Prefix.{More, Got, Listed, ListedAfter}
+use Rattle.rfb_wire.specs.stream.PendingBytes.{in_pieces}
 use Rattle.rfb_codec.specs.declared.subrect.Subrect.{Subrect}
 use Rattle.rfb_codec.specs.declared.painter.stage.Stage.{Stage}
 use Rattle.rfb_codec.specs.declared.painter.stage.Stage.TheVariants.{BeforeSource, Copied, InPixels, BeforeHead}
@@ -19,7 +19,7 @@ use Rattle.rfb_codec.specs.Rre.{SpellsInside}
 use Rattle.rfb_codec.specs.Tile.{Tile}
 use Rattle.rfb_codec.specs.Hextile.{tile_count, tile_width, tile_height, SpellsNextTile}
 use Rattle.rfb_codec.specs.Hextile.{next_tile}
-use Rattle.rfb_codec.specs.Pending.{tile_pending, tiles_pending, data_pending}
+use Rattle.rfb_codec.specs.PendingBytes.{tile_pending, tiles_pending, data_pending}
 use Rattle.rfb_codec.specs.Front.{NoSource, TheSource, SomePixels, NoHead, SomeParts, SomeTiles, SomeOfRaw}
 use Rattle.rfb_codec.specs.Front.{SpellsPixels, BeginsTile, ShowsFront}
 use Rattle.rfb_codec.specs.Stage.{StandsAt, encoding_at, places_before}

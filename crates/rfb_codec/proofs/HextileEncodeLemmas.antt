@@ -10,14 +10,14 @@ use Rattle.std.proofs.lemmas.List.{get_or-drop}
 use Rattle.std.proofs.lemmas.Nat.{div-mul-add, mod-mul-add, div-add-mod', mod_below}
 use Rattle.rfb_pixel.specs.Format.{PixelFormat}
 use Rattle.rfb_picture.proofs.GridLaws.{place_below}
-use Rattle.rfb_wire.specs.stream.Reading.{ListedAfter}
+use Rattle.rfb_wire.specs.stream.Prefix.{ListedAfter}
 use Rattle.rfb_codec.specs.declared.subrect.Subrect.{Subrect}
 use Rattle.rfb_codec.specs.declared.hextile.layout.TileLayout.TheVariants.{Raw, Plain, Colored}
 use Rattle.rfb_codec.specs.Pixels.{IsPixel}
 use Rattle.rfb_codec.specs.Rre.{pixel_at}
 use Rattle.rfb_codec.specs.Tile.{Tile, RawTile, PlainTile, ColoredTile, background_of, foreground_of, last_of}
 use Rattle.rfb_codec.specs.Tile.{colour_or_zero, in_pixel, rect_in, tile_pixel}
-use Rattle.rfb_codec.specs.inside.TileSpelling.{tile_of}
+use Rattle.rfb_codec.specs.encoder.TileSpelling.{tile_of}
 use Rattle.rfb_codec.specs.SentTile.{are_some}
 use Rattle.rfb_codec.specs.Hextile.{across, tile_count, tile_width, tile_at, pixel_of_tiles}
 use Rattle.rfb_codec.proofs.PixelLemmas.{pixel_number-pixels}

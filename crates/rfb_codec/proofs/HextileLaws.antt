@@ -3,7 +3,7 @@
 use Rattle.std.proofs.Common.{◌≡◌, ℕ, inl, inr, List, [], length, refl, sym, subst, append-nil}
 use Rattle.rfb_pixel.specs.Format.{PixelFormat}
 use Rattle.rfb_picture.specs.Grid.{Grid}
-use Rattle.rfb_wire.specs.stream.Reading.{Reading, Says, Reads, Same, ListedAfter}
+use Rattle.rfb_wire.specs.stream.Prefix.{Reading, Says, Reads, Same, ListedAfter}
 use Rattle.rfb_wire.specs.stream.Parts.{done, and_then, each}
 use Rattle.rfb_wire.proofs.stream_laws.PartLaws.{alone, done_says, done_reads, then_says, then_reads, same_reads}
 use Rattle.rfb_wire.proofs.stream_laws.RepeatLaws.{each_says, each_reads}

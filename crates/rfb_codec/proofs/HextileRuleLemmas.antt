@@ -15,10 +15,10 @@ use Rattle.rfb_codec.specs.Choice.{IsPixelOf, places_of, IsBackground, AreRuleSu
 use Rattle.rfb_codec.specs.Tile.{Tile, PlainTile, ColoredTile, rect_in}
 use Rattle.rfb_codec.specs.HextileRule.{Held, named_in, IsOnePixel, IsTwoPixels, HasThird, IsManyPixels, IsDrawn}
 use Rattle.rfb_codec.specs.HextileRule.{colour_length, parts_length, tile_length, IsRuleTile}
-use Rattle.rfb_codec.specs.inside.Background.{HasMore}
-use Rattle.rfb_codec.specs.inside.Cover.{IsGivenUp}
-use Rattle.rfb_codec.specs.inside.Palette.{HasPalette}
-use Rattle.rfb_codec.specs.inside.TileSpelling.{tile_of, mask_of, own_place, tile_bytes}
+use Rattle.rfb_codec.specs.encoder.Background.{HasMore}
+use Rattle.rfb_codec.specs.encoder.Cover.{IsGivenUp}
+use Rattle.rfb_codec.specs.encoder.Palette.{HasPalette}
+use Rattle.rfb_codec.specs.encoder.TileSpelling.{tile_of, mask_of, own_place, tile_bytes}
 use Rattle.rfb_codec.specs.SentTile.{are_some, colour_bytes, place_bytes, counted_bytes, sent_as}
 use Rattle.rfb_codec.proofs.PixelLemmas.{length-pixel_bytes}
 use Rattle.rfb_codec.proofs.TileLengthLemmas.{length-spelled_plain, length-spelled_colored}

@@ -9,7 +9,7 @@ use Rattle.rfb_pixel.specs.declared.colour.Colour.{Colour}
 use Rattle.rfb_pixel.specs.Format.{PixelFormat, size_of}
 use Rattle.rfb_picture.specs.declared.rect.Rect.{Rect}
 use Rattle.rfb_picture.specs.Grid.{Grid}
-use Rattle.rfb_wire.specs.stream.Reading.{Next, More, Bad}
+use Rattle.rfb_wire.specs.stream.Prefix.{Next, More, Bad}
 use Rattle.rfb_codec.specs.declared.fault.PaintFault.{PaintFault}
 use Rattle.rfb_codec.specs.declared.painter.stage.Stage.{Stage}
 use Rattle.rfb_codec.specs.declared.painter.stage.Stage.TheVariants.{BeforeSource, Copied, InPixels, BeforeHead}
@@ -19,9 +19,9 @@ use Rattle.rfb_codec.specs.Hextile.{tile_count, tile_width, tile_height, next_ti
 use Rattle.rfb_codec.specs.Front.{BeginsTile, tile_places}
 use Rattle.rfb_codec.specs.Stage.{StandsAt, is_ended, is_sound}
 use Rattle.rfb_codec.specs.UnderWay.{Waits}
-use Rattle.rfb_codec.specs.inside.TileRead.{least_size}
+use Rattle.rfb_codec.specs.decoder.TileRead.{least_size}
 use Rattle.rfb_codec.specs.declared.hextile.paint.tile_read.Seen.{Seen}
-use Rattle.rfb_codec.specs.inside.Step.{GoesOn, piece_size, Joins}
+use Rattle.rfb_codec.specs.decoder.Step.{GoesOn, piece_size, Joins}
 use Rattle.rfb_codec.proofs.FrontLemmas.{walk_waits}
 use Rattle.rfb_codec.proofs.TakeTileLemmas.{tile_stays}
 use Rattle.rfb_codec.proofs.RawTileLemmas.{raw_goes_on}

@@ -7,11 +7,11 @@ use Rattle.std.proofs.lemmas.Bool.{cases_lt}
 use Rattle.std.proofs.lemmas.Bool.Decides.{nat_tests}
 use Rattle.rfb_pixel.specs.Format.{PixelFormat, size_of, pixel_number}
 use Rattle.rfb_wire.specs.Fields.{u8_at}
-use Rattle.rfb_wire.specs.stream.Reading.{More, Got}
+use Rattle.rfb_wire.specs.stream.Prefix.{More, Got}
 use Rattle.rfb_wire.specs.stream.Parts.{valued, optional}
 use Rattle.rfb_codec.specs.Tile.{is_raw, background_specified, foreground_specified, any_subrects, subrects_colored}
 use Rattle.rfb_codec.specs.Tile.{tile_colour, place_of, colored_of, counted, after_mask}
-use Rattle.rfb_codec.specs.inside.TileRead.{sub_size, colour_size, colours_end, list_end, least_size}
+use Rattle.rfb_codec.specs.decoder.TileRead.{sub_size, colour_size, colours_end, list_end, least_size}
 use Rattle.rfb_codec.proofs.PaintTileLemmas.{valued_got, valued_short, counted_short}
 
 -- ---- colours

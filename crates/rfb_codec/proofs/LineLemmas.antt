@@ -7,7 +7,7 @@ use Rattle.rfb_picture.specs.declared.rect.Rect.{Rect}
 use Rattle.rfb_picture.specs.Grid.{Grid}
 use Rattle.rfb_wire.proofs.stream_laws.FeedLaws.{take_add}
 use Rattle.rfb_codec.specs.Front.{pixels_over}
-use Rattle.rfb_codec.specs.inside.Step.{PaintsRun}
+use Rattle.rfb_codec.specs.decoder.Step.{PaintsRun}
 
 -- no pixels are painted
 pub runs_none : (f : PixelFormat) (rect : Rect) (from n m : ℕ) (bytes : List ℕ) (g : Grid Colour) → n ≡ 0 → m ≡ 0 →

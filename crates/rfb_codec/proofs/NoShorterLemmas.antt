@@ -6,8 +6,8 @@ use Rattle.rfb_picture.specs.Grid.{Grid}
 use Rattle.rfb_codec.specs.declared.subrect.Subrect.{Subrect}
 use Rattle.rfb_codec.specs.Codec.{raw_of}
 use Rattle.rfb_codec.specs.Choice.{IsBackground, AreRuleSubs, IsRuleChoice, IsNoShorter}
-use Rattle.rfb_codec.specs.inside.Background.{HasMore}
-use Rattle.rfb_codec.specs.inside.Cover.{IsGivenUp}
+use Rattle.rfb_codec.specs.encoder.Background.{HasMore}
+use Rattle.rfb_codec.specs.encoder.Cover.{IsGivenUp}
 use Rattle.rfb_codec.proofs.RuleCountLemmas.{same_background, no_more, fewer, enough_subs, over_limit}
 
 module _ (f : PixelFormat) (block : Grid ℕ) where

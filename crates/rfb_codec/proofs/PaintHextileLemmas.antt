@@ -5,7 +5,7 @@ use Rattle.rfb_pixel.specs.declared.colour.Colour.{Colour}
 use Rattle.rfb_pixel.specs.Format.{PixelFormat, colour_of, size_of}
 use Rattle.rfb_picture.specs.declared.rect.Rect.{Rect}
 use Rattle.rfb_picture.specs.Grid.{Grid}
-use Rattle.rfb_wire.specs.stream.Reading.{Next}
+use Rattle.rfb_wire.specs.stream.Prefix.{Next}
 use Rattle.rfb_wire.specs.stream.Parts.{continue_with, done}
 use Rattle.rfb_codec.specs.declared.fault.PaintFault.{PaintFault}
 use Rattle.rfb_codec.specs.declared.hextile.layout.TileLayout.{TileLayout}
@@ -16,7 +16,7 @@ use Rattle.rfb_codec.specs.Rre.{pixel_at}
 use Rattle.rfb_codec.specs.Tile.{Tile, PlainTile, background_of, last_of, colour_or_zero, tile_pixel, place_of}
 use Rattle.rfb_codec.specs.Tile.{colored_of, in_pixel}
 use Rattle.rfb_codec.specs.Hextile.{pixel_of_tiles, hextile}
-use Rattle.rfb_codec.specs.inside.TileRead.{values_in, tile_in, subs_in, all_tiles}
+use Rattle.rfb_codec.specs.decoder.TileRead.{values_in, tile_in, subs_in, all_tiles}
 use Rattle.rfb_codec.specs.Stage.{Sees}
 use Rattle.rfb_codec.specs.Painter.{over}
 

@@ -17,7 +17,7 @@ use Rattle.rfb_codec.specs.Pixels.{drawn}
 use Rattle.rfb_codec.specs.Raw.{raw_pixel}
 use Rattle.rfb_codec.specs.RectData.{replaced}
 use Rattle.rfb_codec.specs.Painter.{over}
-use Rattle.rfb_codec.specs.inside.Step.{PaintsOver}
+use Rattle.rfb_codec.specs.decoder.Step.{PaintsOver}
 use Rattle.rfb_codec.proofs.PixelLaws.{at-drawn}
 
 -- ---- pixels

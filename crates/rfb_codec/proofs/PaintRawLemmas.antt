@@ -1,7 +1,7 @@
 -- Laws of Raw data that are painted: when they are all there, and what they stand for.
 use Rattle.std.proofs.Common.{◌≡◌, ℕ, ◌<◌, List, length, ap}
 use Rattle.rfb_pixel.specs.Format.{PixelFormat}
-use Rattle.rfb_wire.specs.stream.Reading.{More}
+use Rattle.rfb_wire.specs.stream.Prefix.{More}
 use Rattle.rfb_wire.specs.stream.Parts.{continue_with, done}
 use Rattle.rfb_wire.proofs.stream_laws.PartLaws.{piece_short}
 use Rattle.rfb_codec.specs.declared.fault.PaintFault.{PaintFault}

@@ -11,7 +11,7 @@ use Rattle.rfb_picture.specs.declared.rect.Rect.{Rect}
 use Rattle.rfb_picture.specs.Rect.{contains}
 use Rattle.rfb_picture.specs.Grid.{Grid, IsGrid, at_or, filled}
 use Rattle.rfb_picture.proofs.GridLaws.{changed_twice, same_changes}
-use Rattle.rfb_wire.specs.stream.Reading.{More, Next}
+use Rattle.rfb_wire.specs.stream.Prefix.{More, Next}
 use Rattle.rfb_wire.specs.stream.Parts.{continue_with, done, many}
 use Rattle.rfb_wire.specs.RectHead.{IsOnScreen}
 use Rattle.rfb_wire.proofs.stream_laws.PartLaws.{piece_short}

@@ -9,7 +9,7 @@ use Rattle.std.proofs.lemmas.Bool.Decides.{nat_tests}
 use Rattle.rfb_pixel.specs.Format.{PixelFormat, size_of}
 use Rattle.rfb_picture.specs.declared.rect.Rect.{Rect}
 use Rattle.rfb_wire.specs.Fields.{u8_at}
-use Rattle.rfb_wire.specs.stream.Reading.{More, Got}
+use Rattle.rfb_wire.specs.stream.Prefix.{More, Got}
 use Rattle.rfb_wire.specs.stream.Parts.{valued, optional, each}
 use Rattle.rfb_wire.specs.RectStream.{is_on_screen}
 use Rattle.rfb_wire.proofs.stream_laws.PartLaws.{piece_short}
@@ -20,7 +20,7 @@ use Rattle.rfb_codec.specs.declared.hextile.paint.tile_read.TileRead.{TileRead}
 use Rattle.rfb_codec.specs.Tile.{Tile, has_bit, is_raw, background_specified, foreground_specified, any_subrects}
 use Rattle.rfb_codec.specs.Tile.{subrects_colored, tile_colour, place_of, colored_of, counted, after_mask, rect_in}
 use Rattle.rfb_codec.specs.Tile.{are_inside, mask_fault, places_of, tile_after}
-use Rattle.rfb_codec.specs.inside.TileRead.{values_in, tile_of_read, LiesIn, IsCount, places_from}
+use Rattle.rfb_codec.specs.decoder.TileRead.{values_in, tile_of_read, LiesIn, IsCount, places_from}
 
 -- ---- values
 

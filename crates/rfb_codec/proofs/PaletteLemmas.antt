@@ -4,9 +4,9 @@ use Rattle.std.proofs.Common.{List, length}
 use Rattle.std.proofs.Common.{slice_index, take, arith, refl, sym, ◌∙◌}
 use Rattle.std.proofs.lemmas.List.{take_all}
 use Rattle.std.proofs.lemmas.Bool.{cases_lt}
-use Rattle.rfb_codec.specs.inside.Background.{Leads}
+use Rattle.rfb_codec.specs.encoder.Background.{Leads}
 use Rattle.rfb_codec.specs.Choice.{IsPixelOf, places_of}
-use Rattle.rfb_codec.specs.inside.Palette.{IsMoreFrequent}
+use Rattle.rfb_codec.specs.encoder.Palette.{IsMoreFrequent}
 use Rattle.rfb_codec.proofs.PlacesLemmas.{more_no, more_yes}
 
 -- where each place has one of two, the places of both are all: first of the first `n`

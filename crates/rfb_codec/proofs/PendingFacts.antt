@@ -4,7 +4,7 @@ use Rattle.rfb_pixel.specs.Format.{rgb565, bgr233}
 use Rattle.rfb_picture.specs.declared.rect.Rect.{Rect}
 use Rattle.rfb_wire.specs.declared.encoding.Encoding.TheVariants.{Raw, CopyRect, Rre, Hextile}
 use Rattle.rfb_codec.specs.UpdateStream.{UpdatePoint}
-use Rattle.rfb_codec.specs.Pending.{data_pending, update_pending}
+use Rattle.rfb_codec.specs.PendingBytes.{data_pending, update_pending}
 
 -- what is pending once each byte has come
 abbrev byte_by_byte : (List ℕ → ℕ) → List ℕ → List ℕ → List ℕ

@@ -11,11 +11,11 @@ use Rattle.rfb_wire.specs.declared.encoding.Encoding.{Encoding}
 use Rattle.rfb_wire.specs.declared.encoding.Encoding.TheVariants.{Raw, CopyRect, Rre, Hextile}
 use Rattle.rfb_wire.specs.declared.rect_head.RectHead.{RectHead}
 use Rattle.rfb_wire.specs.Fields.{s32_at}
-use Rattle.rfb_wire.specs.stream.Reading.{More, Got, Listed, ListedAfter}
+use Rattle.rfb_wire.specs.stream.Prefix.{More, Got, Listed, ListedAfter}
 use Rattle.rfb_wire.specs.RectHead.{SpellsRectHead, IsOnScreen}
 use Rattle.rfb_wire.specs.RectStream.{rect_head, rect_head_of, rect_of, head_fault, encoding_of}
-use Rattle.rfb_wire.specs.stream.Pending.{in_pieces, after_piece}
-use Rattle.rfb_wire.specs.Pending.{server_piece_size, server_pending, rect_pending}
+use Rattle.rfb_wire.specs.stream.PendingBytes.{in_pieces, after_piece}
+use Rattle.rfb_wire.specs.MessagePieces.{server_piece_size, server_pending, rect_pending}
 use Rattle.rfb_wire.specs.ServerHead.{server_head_size}
 use Rattle.rfb_wire.proofs.stream_laws.PendingLaws.{counted_pending, pieces_pending, piece_pending, past_piece}
 use Rattle.rfb_wire.proofs.stream_laws.PendingLaws.{pieces_within, piece_within, piece_below, message_within}
@@ -26,7 +26,7 @@ use Rattle.rfb_codec.specs.Tile.{Tile}
 use Rattle.rfb_codec.specs.Hextile.{tile_count, SpellsNextTile}
 use Rattle.rfb_codec.specs.Hextile.{next_tile}
 use Rattle.rfb_codec.specs.UpdateStream.{UpdatePoint}
-use Rattle.rfb_codec.specs.Pending.{tile_pending, data_pending, pending_after_head, next_pending, update_pending}
+use Rattle.rfb_codec.specs.PendingBytes.{tile_pending, data_pending, pending_after_head, next_pending, update_pending}
 use Rattle.rfb_wire.proofs.stream_laws.RepeatLaws.{checked_reads}
 use Rattle.rfb_wire.proofs.RectStreamLaws.{rect_head_reads}
 use Rattle.rfb_codec.proofs.EnoughLaws.{bytes_dropped}

@@ -7,7 +7,7 @@ use Rattle.std.proofs.lemmas.Bool.{cases_lt}
 use Rattle.std.proofs.lemmas.Bool.Decides.{nat_tests}
 use Rattle.rfb_pixel.specs.Format.{PixelFormat, IsFormat, size_of, pixel_number}
 use Rattle.rfb_pixel.specs.FormatBytes.{AreBytes}
-use Rattle.rfb_wire.specs.stream.Reading.{Next, More, Got, Bad, Reading, ListedAfter}
+use Rattle.rfb_wire.specs.stream.Prefix.{Next, More, Got, Bad, Reading, ListedAfter}
 use Rattle.rfb_wire.specs.stream.Parts.{valued, done, continue_with, judged, and_then, optional}
 use Rattle.rfb_wire.proofs.stream_laws.PendingLaws.{counted_pending, pieces_within}
 use Rattle.rfb_codec.specs.declared.fault.PaintFault.{PaintFault}
@@ -16,7 +16,7 @@ use Rattle.rfb_codec.specs.Tile.{any_subrects, mask_fault, tile_colour, counted,
 use Rattle.rfb_codec.specs.Tile.{ColoredTile, after_mask, tile_layout, tile_fault, tile_after}
 use Rattle.rfb_codec.specs.Hextile.{tile_width, tile_height, SpellsNextTile}
 use Rattle.rfb_codec.specs.Hextile.{next_tile}
-use Rattle.rfb_codec.specs.Pending.{tile_pending, after_tile, tiles_pending}
+use Rattle.rfb_codec.specs.PendingBytes.{tile_pending, after_tile, tiles_pending}
 use Rattle.rfb_codec.proofs.TileLaws.{tile_reads}
 use Rattle.rfb_codec.proofs.EnoughLaws.{bytes_after, Suffices, done_suffices, valued_suffices, then_suffices}
 use Rattle.rfb_codec.proofs.EnoughLaws.{optional_suffices, counted_suffices}

@@ -2,7 +2,7 @@
 use Rattle.std.proofs.Common.{◌≡◌, ℕ, List, length, sym, subst}
 use Rattle.rfb_pixel.specs.Format.{PixelFormat}
 use Rattle.rfb_picture.specs.Grid.{Grid}
-use Rattle.rfb_wire.specs.stream.Reading.{Says, Reads, Same}
+use Rattle.rfb_wire.specs.stream.Prefix.{Says, Reads, Same}
 use Rattle.rfb_wire.specs.stream.Parts.{valued}
 use Rattle.rfb_wire.proofs.stream_laws.PartLaws.{same_reads}
 use Rattle.rfb_wire.proofs.stream_laws.RepeatLaws.{valued_says, valued_reads}

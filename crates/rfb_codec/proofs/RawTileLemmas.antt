@@ -19,7 +19,7 @@ use Rattle.rfb_codec.specs.Hextile.{across, tile_width, tile_height, SpellsNextT
 use Rattle.rfb_codec.specs.Painter.{over}
 use Rattle.rfb_codec.specs.Front.{pixels_over, tiles_over, tile_places}
 use Rattle.rfb_codec.specs.Stage.{places_before, StandsAt}
-use Rattle.rfb_codec.specs.inside.Step.{StandsPixels}
+use Rattle.rfb_codec.specs.decoder.Step.{StandsPixels}
 use Rattle.rfb_codec.proofs.CarriedLemmas.{last_of-more}
 use Rattle.rfb_codec.proofs.HextileEncodeLemmas.{listed_more}
 use Rattle.rfb_codec.proofs.FrontLemmas.{run_within}

@@ -13,13 +13,13 @@ use Rattle.rfb_picture.specs.declared.rect.Rect.{Rect}
 use Rattle.rfb_picture.specs.Grid.{Grid, IsGrid}
 use Rattle.rfb_picture.proofs.GridLaws.{place_below}
 use Rattle.rfb_wire.specs.Fields.{IsRectAt, rect_bytes}
-use Rattle.rfb_wire.specs.stream.Reading.{Listed}
+use Rattle.rfb_wire.specs.stream.Prefix.{Listed}
 use Rattle.rfb_wire.specs.RectHead.{IsOnScreen}
 use Rattle.rfb_codec.specs.declared.subrect.Subrect.{Subrect}
 use Rattle.rfb_codec.specs.Pixels.{IsPixel, HasPixels}
 use Rattle.rfb_codec.specs.Rre.{SpellsRreHead, SpellsSubrect, SpellsInside}
 use Rattle.rfb_codec.specs.Choice.{IsPixelOf, IsBackground, AreRuleSubs, subrect_bytes, StandsRreByRule}
-use Rattle.rfb_codec.specs.inside.Cover.{ArePartsOf, IsCover}
+use Rattle.rfb_codec.specs.encoder.Cover.{ArePartsOf, IsCover}
 use Rattle.rfb_codec.proofs.PixelLemmas.{length-pixel_bytes}
 
 -- a pixel of the format is read back from its bytes

@@ -6,7 +6,7 @@ use Rattle.rfb_pixel.specs.Format.{PixelFormat, size_of}
 use Rattle.rfb_picture.specs.declared.rect.Rect.{Rect}
 use Rattle.rfb_picture.specs.Rect.{contains}
 use Rattle.rfb_picture.specs.Grid.{Grid}
-use Rattle.rfb_wire.specs.stream.Reading.{Says, Reads, Same, Listed}
+use Rattle.rfb_wire.specs.stream.Prefix.{Says, Reads, Same, Listed}
 use Rattle.rfb_wire.specs.stream.Parts.{done, and_then, valued, many}
 use Rattle.rfb_wire.specs.RectHead.{IsOnScreen}
 use Rattle.rfb_wire.specs.RectStream.{is_on_screen}

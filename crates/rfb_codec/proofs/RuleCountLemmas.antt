@@ -13,7 +13,7 @@ use Rattle.rfb_picture.proofs.GridLaws.{contains_true, contains_row, place_below
 use Rattle.rfb_codec.specs.declared.subrect.Subrect.{Subrect}
 use Rattle.rfb_codec.specs.Choice.{IsPixelOf, IsBackground, is_in_any, IsLeft, IsBefore, IsNextSub, AreNextSubs}
 use Rattle.rfb_codec.specs.Choice.{AreRuleSubs}
-use Rattle.rfb_codec.specs.inside.Background.{HasMore, AllDiffer}
+use Rattle.rfb_codec.specs.encoder.Background.{HasMore, AllDiffer}
 use Rattle.rfb_codec.proofs.RuleLemmas.{in_push}
 
 -- ---- one background

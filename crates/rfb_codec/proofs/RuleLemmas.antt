@@ -10,7 +10,7 @@ use Rattle.rfb_picture.proofs.GridLaws.{contains_true, contains_row}
 use Rattle.rfb_wire.specs.RectHead.{IsOnScreen}
 use Rattle.rfb_codec.specs.declared.subrect.Subrect.{Subrect}
 use Rattle.rfb_codec.specs.Choice.{is_in_any, IsLeft, IsBefore, IsNextSub, AreNextSubs}
-use Rattle.rfb_codec.specs.inside.Cover.{IsOpen, IsUncovered, AreNoted, HasRun, HasRuns, IsGivenUp}
+use Rattle.rfb_codec.specs.encoder.Cover.{IsOpen, IsUncovered, AreNoted, HasRun, HasRuns, IsGivenUp}
 use Rattle.rfb_codec.proofs.CoverLemmas.{zeros}
 
 -- ---- one more

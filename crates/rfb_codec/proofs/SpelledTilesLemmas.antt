@@ -8,18 +8,18 @@ use Rattle.rfb_pixel.specs.Format.{PixelFormat}
 use Rattle.rfb_picture.specs.declared.rect.Rect.{Rect}
 use Rattle.rfb_picture.specs.Grid.{Grid, IsGrid}
 use Rattle.rfb_picture.proofs.GridLaws.{place_below}
-use Rattle.rfb_wire.specs.stream.Reading.{ListedAfter}
+use Rattle.rfb_wire.specs.stream.Prefix.{ListedAfter}
 use Rattle.rfb_codec.specs.declared.subrect.Subrect.{Subrect}
 use Rattle.rfb_codec.specs.declared.hextile.layout.TileLayout.{TileLayout}
 use Rattle.rfb_codec.specs.declared.hextile.encode.carried.Carried.{Carried}
 use Rattle.rfb_codec.specs.Tile.{Tile, tile_pixel, FitsTile, SpellsTile}
-use Rattle.rfb_codec.specs.inside.TileSpelling.{tile_of, tile_bytes}
+use Rattle.rfb_codec.specs.encoder.TileSpelling.{tile_of, tile_bytes}
 use Rattle.rfb_codec.specs.SentTile.{sent_as}
 use Rattle.rfb_codec.specs.Hextile.{across, tile_count, tile_width, tile_height, tile_at, SpellsNextTile}
 use Rattle.rfb_codec.specs.Hextile.{pixel_of_tiles, CarriesColours}
 use Rattle.rfb_codec.specs.HextileRule.{Held, nothing_held, left_by, IsRuleTile, IsRuleTileOf, HasPixelsOf}
 use Rattle.rfb_codec.specs.HextileRule.{AreRuleTiles, tiles_length, StandsByRule}
-use Rattle.rfb_codec.specs.inside.Carried.{Remembers, Sends, held_of}
+use Rattle.rfb_codec.specs.encoder.Carried.{Remembers, Sends, held_of}
 use Rattle.rfb_codec.proofs.CarriedLemmas.{carries_more}
 use Rattle.rfb_codec.proofs.HextileRuleLemmas.{tile_length_is, sent_is}
 use Rattle.rfb_codec.proofs.HextileTilesLemmas.{left_by_all, left_more, tiles_more, length_more}

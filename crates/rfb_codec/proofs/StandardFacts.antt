@@ -4,7 +4,7 @@ use Rattle.std.proofs.Common.{◌≡◌, [], ◌∷◌, refl}
 use Rattle.rfb_pixel.specs.Format.{rgb888, bgr233}
 use Rattle.rfb_picture.specs.Grid.{grid, changed, uniform}
 use Rattle.rfb_wire.specs.declared.encoding.Encoding.TheVariants.{CopyRect}
-use Rattle.rfb_wire.specs.stream.Reading.{More, Got, Bad}
+use Rattle.rfb_wire.specs.stream.Prefix.{More, Got, Bad}
 use Rattle.rfb_codec.specs.declared.fault.PaintFault.TheVariants.{SubrectOutside, SourceOutside, NoBackground}
 use Rattle.rfb_codec.specs.declared.fault.PaintFault.TheVariants.{NoForeground, BothColourBits}
 use Rattle.rfb_codec.specs.Raw.{raw}

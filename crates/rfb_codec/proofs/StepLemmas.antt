@@ -7,7 +7,7 @@ use Rattle.std.proofs.lemmas.List.Elements.{All-cons, All-weaker}
 use Rattle.std.proofs.lemmas.List.{get_or-set_same, get_or-set_other, length-take, length-set}
 use Rattle.std.proofs.lemmas.List.Sums.{count_by-le-length}
 use Rattle.rfb_codec.specs.Choice.{IsPixelOf, places_of}
-use Rattle.rfb_codec.specs.inside.Background.{AllDiffer, Claims, HasMore, IsRun, Leads}
+use Rattle.rfb_codec.specs.encoder.Background.{AllDiffer, Claims, HasMore, IsRun, Leads}
 use Rattle.rfb_codec.proofs.TallyLemmas.{Yields}
 use Rattle.rfb_codec.proofs.CountLemmas.{IsOwner, Tallied, passed, slot_claimed, run_noted, run_aside}
 

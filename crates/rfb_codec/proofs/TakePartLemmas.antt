@@ -11,7 +11,7 @@ use Rattle.rfb_picture.specs.Grid.{Grid, IsGrid, filled}
 use Rattle.rfb_picture.proofs.GridLaws.{whole_before}
 use Rattle.rfb_wire.specs.declared.encoding.Encoding.{Encoding}
 use Rattle.rfb_wire.specs.declared.encoding.Encoding.TheVariants.{CopyRect, Rre}
-use Rattle.rfb_wire.specs.stream.Reading.{Bad}
+use Rattle.rfb_wire.specs.stream.Prefix.{Bad}
 use Rattle.rfb_wire.specs.RectHead.{IsOnScreen}
 use Rattle.rfb_wire.specs.Fields.{u16_at}
 use Rattle.rfb_wire.proofs.stream_laws.RepeatLaws.{listed_from, listed_to}
@@ -22,7 +22,7 @@ use Rattle.rfb_codec.specs.declared.painter.stage.Stage.TheVariants.{BeforeSourc
 use Rattle.rfb_codec.specs.Rre.{SpellsInside, subrect_of}
 use Rattle.rfb_codec.specs.RectData.{FaultsData, moved_to, rect_data}
 use Rattle.rfb_codec.specs.Front.{NoSource, NoHead, SomeParts, Shows}
-use Rattle.rfb_codec.specs.inside.Step.{moved_into, IsRefusedWith}
+use Rattle.rfb_codec.specs.decoder.Step.{moved_into, IsRefusedWith}
 use Rattle.rfb_codec.specs.Stage.{StandsAt}
 use Rattle.rfb_codec.proofs.HextileEncodeLemmas.{listed_more}
 use Rattle.rfb_pixel.proofs.FormatLaws.{pixel_number-take}

@@ -12,7 +12,7 @@ use Rattle.rfb_picture.specs.Rect.{contains}
 use Rattle.rfb_picture.specs.Grid.{Grid, IsGrid, at_or}
 use Rattle.rfb_picture.proofs.GridLaws.{same_changes, same_grid, at-changed, whole-changed, whole_before, width-changed}
 use Rattle.rfb_picture.proofs.GridLaws.{height-changed}
-use Rattle.rfb_wire.specs.stream.Reading.{Next, More, Got}
+use Rattle.rfb_wire.specs.stream.Prefix.{Next, More, Got}
 use Rattle.rfb_wire.specs.RectHead.{IsOnScreen}
 use Rattle.rfb_wire.specs.declared.encoding.Encoding.TheVariants.{Hextile}
 use Rattle.rfb_codec.specs.declared.fault.PaintFault.{PaintFault}
@@ -25,13 +25,13 @@ use Rattle.rfb_codec.specs.Raw.{raw_pixel}
 use Rattle.rfb_codec.specs.Tile.{Tile, PlainTile, is_raw, later, tile_pixel, tile_after}
 use Rattle.rfb_codec.specs.Hextile.{across, tile_count, tile_width, tile_height, tile_at, pixel_of_tiles}
 use Rattle.rfb_codec.specs.Hextile.{SpellsNextTile}
-use Rattle.rfb_codec.specs.inside.TileRead.{tile_of_read, TellsTile, background_named, foreground_named}
+use Rattle.rfb_codec.specs.decoder.TileRead.{tile_of_read, TellsTile, background_named, foreground_named}
 use Rattle.rfb_codec.specs.Stage.{Sees}
 use Rattle.rfb_codec.specs.Hextile.{next_tile}
 use Rattle.rfb_codec.specs.Painter.{over}
 use Rattle.rfb_codec.specs.Front.{SpellsTiles, BeginsTile, pixels_over, tiles_over, tile_places}
 use Rattle.rfb_codec.specs.Stage.{StandsAt, encoding_at, is_sound}
-use Rattle.rfb_codec.specs.inside.Step.{DrawsTile, TellsNext, IsGoodTile}
+use Rattle.rfb_codec.specs.decoder.Step.{DrawsTile, TellsNext, IsGoodTile}
 use Rattle.rfb_codec.proofs.HextileEncodeLemmas.{listed_more, shown_before}
 use Rattle.rfb_codec.proofs.TileLaws.{tile_says, tile_reads}
 use Rattle.rfb_codec.proofs.TileReadLemmas.{sees_more}

@@ -7,7 +7,7 @@ use Rattle.std.proofs.lemmas.List.{take_all}
 use Rattle.std.proofs.lemmas.List.{take-append-le}
 use Rattle.std.specs.List.{refill}
 use Rattle.rfb_codec.specs.Choice.{places_of}
-use Rattle.rfb_codec.specs.inside.Background.{EndsRun, IsLed, IsRun, Leads}
+use Rattle.rfb_codec.specs.encoder.Background.{EndsRun, IsLed, IsRun, Leads}
 use Rattle.rfb_codec.proofs.PlacesLemmas.{run_counted, run_passed, none_before}
 
 -- ---- the best of two counts, and of those of more pixels

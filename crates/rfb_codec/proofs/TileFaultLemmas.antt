@@ -8,7 +8,7 @@ use Rattle.std.proofs.lemmas.Bool.Decides.{nat_tests}
 use Rattle.rfb_pixel.specs.Format.{PixelFormat}
 use Rattle.rfb_picture.specs.declared.rect.Rect.{Rect}
 use Rattle.rfb_wire.specs.declared.encoding.Encoding.TheVariants.{Hextile}
-use Rattle.rfb_wire.specs.stream.Reading.{Next, More, Got, Bad, ListedAfter}
+use Rattle.rfb_wire.specs.stream.Prefix.{Next, More, Got, Bad, ListedAfter}
 use Rattle.rfb_wire.specs.Fields.{u8_at}
 use Rattle.rfb_wire.specs.stream.Parts.{named}
 use Rattle.rfb_wire.proofs.stream_laws.PartLaws.{piece_short}

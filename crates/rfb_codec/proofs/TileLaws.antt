@@ -5,7 +5,7 @@ use Rattle.std.proofs.Common.{length, if◌then◌else◌, ◌&&◌, refl, sym, 
 use Rattle.rfb_pixel.specs.Format.{PixelFormat, size_of}
 use Rattle.rfb_picture.specs.declared.rect.Rect.{Rect}
 use Rattle.rfb_wire.specs.Fields.{u8_at}
-use Rattle.rfb_wire.specs.stream.Reading.{Says, Reads, Same}
+use Rattle.rfb_wire.specs.stream.Prefix.{Says, Reads, Same}
 use Rattle.rfb_wire.specs.stream.Parts.{piece, done, judged, and_then, valued, checked, optional}
 use Rattle.rfb_wire.specs.RectStream.{is_on_screen}
 use Rattle.rfb_wire.proofs.stream_laws.PartLaws.{alone, piece_says, piece_reads, done_says, done_reads, judged_says}

@@ -5,7 +5,7 @@ use Rattle.std.specs.List.{flat_map}
 use Rattle.rfb_pixel.specs.Format.{PixelFormat, size_of, pixel_bytes}
 use Rattle.rfb_codec.specs.declared.subrect.Subrect.{Subrect}
 use Rattle.rfb_codec.specs.declared.hextile.layout.TileLayout.TheVariants.{Raw, Plain, Colored}
-use Rattle.rfb_codec.specs.inside.TileSpelling.{own_place, tile_bytes, IsTilePart, AreTileParts}
+use Rattle.rfb_codec.specs.encoder.TileSpelling.{own_place, tile_bytes, IsTilePart, AreTileParts}
 use Rattle.rfb_codec.specs.SentTile.{are_some, colour_bytes, count_bytes, colored_bytes, counted_bytes}
 use Rattle.rfb_codec.proofs.PixelLemmas.{length-pixel_bytes, length-pixels}
 

@@ -7,7 +7,7 @@ use Rattle.std.proofs.lemmas.Bool.Decides.{nat_tests}
 use Rattle.rfb_pixel.specs.Format.{PixelFormat}
 use Rattle.rfb_picture.specs.declared.rect.Rect.{Rect}
 use Rattle.rfb_wire.specs.Fields.{u8_at}
-use Rattle.rfb_wire.specs.stream.Reading.{Got}
+use Rattle.rfb_wire.specs.stream.Prefix.{Got}
 use Rattle.rfb_wire.specs.stream.Parts.{judged, continue_with}
 use Rattle.rfb_wire.specs.stream.FaultPlace.{FaultsWith}
 use Rattle.rfb_codec.specs.declared.fault.Flaw.{Flaw}
@@ -18,7 +18,7 @@ use Rattle.rfb_codec.specs.Tile.{Tile, is_raw, subrects_colored, mask_fault, aft
 use Rattle.rfb_codec.specs.Tile.{are_inside, tile_fault, tile_after}
 use Rattle.rfb_codec.specs.Hextile.{tile_width, tile_height}
 use Rattle.rfb_codec.specs.Stage.{Sees}
-use Rattle.rfb_codec.specs.inside.Step.{FaultsNext}
+use Rattle.rfb_codec.specs.decoder.Step.{FaultsNext}
 use Rattle.rfb_codec.proofs.ByteLemmas.{last_awaited}
 use Rattle.rfb_codec.proofs.TakeTileLemmas.{some_before}
 use Rattle.rfb_codec.proofs.TileLaws.{layout_says, layout_reads}

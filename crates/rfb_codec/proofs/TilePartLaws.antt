@@ -5,7 +5,7 @@ use Rattle.std.proofs.lemmas.Nat.{div-mul-add, mod-mul-add, div-add-mod', mod_be
 use Rattle.rfb_pixel.specs.Format.{PixelFormat, size_of, pixel_number}
 use Rattle.rfb_picture.specs.declared.rect.Rect.{Rect}
 use Rattle.rfb_wire.specs.Fields.{u8_at}
-use Rattle.rfb_wire.specs.stream.Reading.{Reading, Says, Reads, Same}
+use Rattle.rfb_wire.specs.stream.Prefix.{Reading, Says, Reads, Same}
 use Rattle.rfb_wire.specs.stream.Parts.{valued, many}
 use Rattle.rfb_wire.proofs.stream_laws.PartLaws.{done_says, done_reads, then_says, then_reads, same_reads}
 use Rattle.rfb_wire.proofs.stream_laws.RepeatLaws.{valued_says, valued_reads, many_says, many_reads}

@@ -11,8 +11,8 @@ use Rattle.rfb_codec.specs.declared.hextile.layout.TileLayout.TheVariants.{Raw, 
 use Rattle.rfb_codec.specs.declared.hextile.paint.tile_read.Seen.{Seen}
 use Rattle.rfb_codec.specs.Tile.{Tile, background_of, foreground_of, later, last_of, AreInside, place_of, colored_of}
 use Rattle.rfb_codec.specs.Tile.{rect_in, in_pixel}
-use Rattle.rfb_codec.specs.inside.TileRead.{values_in, tile_in, background_named, foreground_named, sub_after, subs_in}
-use Rattle.rfb_codec.specs.inside.TileRead.{AreSubsInside}
+use Rattle.rfb_codec.specs.decoder.TileRead.{values_in, tile_in, background_named, foreground_named, sub_after, subs_in}
+use Rattle.rfb_codec.specs.decoder.TileRead.{AreSubsInside}
 use Rattle.rfb_codec.specs.Stage.{Sees}
 use Rattle.rfb_codec.proofs.CarriedLemmas.{last_of-more}
 

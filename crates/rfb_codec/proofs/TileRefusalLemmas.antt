@@ -8,7 +8,7 @@ use Rattle.rfb_pixel.specs.Format.{PixelFormat}
 use Rattle.rfb_picture.specs.declared.rect.Rect.{Rect}
 use Rattle.rfb_picture.specs.Grid.{Grid}
 use Rattle.rfb_wire.specs.declared.encoding.Encoding.TheVariants.{Hextile}
-use Rattle.rfb_wire.specs.stream.Reading.{More, Bad}
+use Rattle.rfb_wire.specs.stream.Prefix.{More, Bad}
 use Rattle.rfb_codec.specs.declared.fault.PaintFault.{PaintFault}
 use Rattle.rfb_codec.specs.declared.hextile.paint.tile_read.Seen.{Seen}
 use Rattle.rfb_codec.specs.declared.painter.rectangle.Rectangle.{Rectangle}
@@ -21,10 +21,10 @@ use Rattle.rfb_codec.specs.Hextile.{next_tile}
 use Rattle.rfb_codec.specs.RectData.{rect_data}
 use Rattle.rfb_codec.specs.Front.{SomeTiles, BeginsTile, Shows, ShowsFront}
 use Rattle.rfb_codec.specs.Stage.{StandsAt}
-use Rattle.rfb_codec.specs.inside.Step.{TellsNext, Reaches, Steps}
+use Rattle.rfb_codec.specs.decoder.Step.{TellsNext, Reaches, Steps}
 use Rattle.rfb_codec.proofs.TakeTileLemmas.{tiles_wait}
 use Rattle.rfb_codec.specs.declared.fault.Flaw.{Flaw}
-use Rattle.rfb_codec.specs.inside.Step.{FaultsNext, IsRefusedWith}
+use Rattle.rfb_codec.specs.decoder.Step.{FaultsNext, IsRefusedWith}
 use Rattle.rfb_codec.proofs.TileFaultLemmas.{raw_is_good, hextile_bad, hextile_data}
 use Rattle.rfb_codec.proofs.VerdictLemmas.{refused_with, tiles_are_awaited}
 

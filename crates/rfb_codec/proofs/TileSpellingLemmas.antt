@@ -6,7 +6,7 @@ use Rattle.std.proofs.Math.Nat.{mod-eq_of_lt}
 use Rattle.std.proofs.lemmas.List.{drop_at}
 use Rattle.rfb_pixel.specs.Format.{PixelFormat, size_of, pixel_bytes, pixel_number}
 use Rattle.rfb_pixel.proofs.FormatLaws.{pixel_number-pixel_bytes}
-use Rattle.rfb_wire.specs.stream.Reading.{Listed, Optionally}
+use Rattle.rfb_wire.specs.stream.Prefix.{Listed, Optionally}
 use Rattle.rfb_codec.specs.declared.subrect.Subrect.{Subrect}
 use Rattle.rfb_codec.specs.declared.hextile.layout.TileLayout.{TileLayout}
 use Rattle.rfb_codec.specs.declared.hextile.layout.TileLayout.TheVariants.{Raw, Plain, Colored}
@@ -14,8 +14,8 @@ use Rattle.rfb_codec.specs.Pixels.{IsPixel}
 use Rattle.rfb_codec.specs.Tile.{is_raw, background_specified, foreground_specified, any_subrects, subrects_colored}
 use Rattle.rfb_codec.specs.Tile.{Tile, background_of, foreground_of, later, last_of, is_missing, mask_fault, AreInside}
 use Rattle.rfb_codec.specs.Tile.{FitsTile, rect_in, SpellsPixel, SpellsPlace, SpellsColored, CountedIf, SpellsTile}
-use Rattle.rfb_codec.specs.inside.TileSpelling.{tile_of, mask_of, own_place, after_bytes, tile_bytes, IsTilePart}
-use Rattle.rfb_codec.specs.inside.TileSpelling.{AreTileParts}
+use Rattle.rfb_codec.specs.encoder.TileSpelling.{tile_of, mask_of, own_place, after_bytes, tile_bytes, IsTilePart}
+use Rattle.rfb_codec.specs.encoder.TileSpelling.{AreTileParts}
 use Rattle.rfb_codec.specs.SentTile.{bit_if, is_there, are_some, colour_bytes, colored_bytes, counted_bytes}
 use Rattle.rfb_codec.proofs.PixelLemmas.{length-pixel_bytes, length-pixels}
 

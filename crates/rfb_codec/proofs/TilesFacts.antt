@@ -2,7 +2,7 @@
 use Rattle.std.proofs.Common.{◌≡◌, ℕ, zero, suc, List, [], ◌∷◌, ◌++◌, replicate, refl}
 use Rattle.rfb_pixel.specs.Format.{bgr233}
 use Rattle.rfb_picture.specs.Grid.{grid, changed, uniform}
-use Rattle.rfb_wire.specs.stream.Reading.{More, Got, Bad}
+use Rattle.rfb_wire.specs.stream.Prefix.{More, Got, Bad}
 use Rattle.rfb_codec.specs.declared.fault.PaintFault.TheVariants.{SubrectOutside}
 use Rattle.rfb_codec.specs.Hextile.{tile_count, tile_part, tile_at, hextile}
 

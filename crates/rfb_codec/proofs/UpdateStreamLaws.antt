@@ -4,7 +4,7 @@ use Rattle.std.proofs.Common.{arith, length-append}
 use Rattle.rfb_wire.specs.declared.rect_head.RectHead.{RectHead}
 use Rattle.rfb_wire.specs.RectHead.{SpellsRectHead, IsOnScreen}
 use Rattle.rfb_wire.specs.RectStream.{rect_head, rect_head_says}
-use Rattle.rfb_wire.specs.stream.Reading.{Says, Reads, Same}
+use Rattle.rfb_wire.specs.stream.Prefix.{Says, Reads, Same}
 use Rattle.rfb_wire.specs.stream.Parts.{kept, renamed}
 use Rattle.rfb_wire.specs.stream.Grammar.{IsSpelled, IsGrammar}
 use Rattle.rfb_wire.specs.ServerMessage.{server_says, server_message}

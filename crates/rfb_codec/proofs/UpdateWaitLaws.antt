@@ -7,7 +7,7 @@ use Rattle.rfb_wire.specs.declared.rect_head.RectHead.{RectHead}
 use Rattle.rfb_wire.specs.declared.fault.WireFault.{WireFault}
 use Rattle.rfb_wire.specs.RectHead.{SpellsRectHead, IsOnScreen, IsRectFault}
 use Rattle.rfb_wire.specs.RectStream.{rect_head}
-use Rattle.rfb_wire.specs.stream.Reading.{More, Got, Bad}
+use Rattle.rfb_wire.specs.stream.Prefix.{More, Got, Bad}
 use Rattle.rfb_wire.specs.stream.Parts.{renamed, named}
 use Rattle.rfb_wire.specs.ServerMessage.{ServerMessage, FramebufferUpdate, ServerFault, server_message}
 use Rattle.rfb_wire.proofs.stream_laws.PartLaws.{piece_short}

@@ -12,7 +12,7 @@ use Rattle.rfb_picture.proofs.GridLaws.{whole_before}
 use Rattle.rfb_wire.specs.declared.encoding.Encoding.{Encoding}
 use Rattle.rfb_wire.specs.declared.encoding.Encoding.TheVariants.{Raw, CopyRect, Rre, Hextile}
 use Rattle.rfb_wire.specs.Fields.{u32_at}
-use Rattle.rfb_wire.specs.stream.Reading.{More, Got, Bad, Listed, ListedAfter}
+use Rattle.rfb_wire.specs.stream.Prefix.{More, Got, Bad, Listed, ListedAfter}
 use Rattle.rfb_wire.specs.stream.Parts.{continue_with, and_then, done, valued, many, named}
 use Rattle.rfb_wire.proofs.stream_laws.PartLaws.{piece_short}
 use Rattle.rfb_wire.proofs.stream_laws.ReadingLaws.{each_waits, many_waits}
@@ -31,10 +31,10 @@ use Rattle.rfb_codec.specs.Rre.{RreHead, SpellsRreHead, SpellsInside, pixel_at, 
 use Rattle.rfb_codec.specs.Tile.{Tile}
 use Rattle.rfb_codec.specs.Hextile.{tile_count, tile_width, tile_height, SpellsNextTile, pixel_of_tiles, hextile}
 use Rattle.rfb_codec.specs.Hextile.{next_tile}
-use Rattle.rfb_codec.specs.inside.TileRead.{all_tiles}
+use Rattle.rfb_codec.specs.decoder.TileRead.{all_tiles}
 use Rattle.rfb_codec.specs.RectData.{RectData, Pixels, Source, SpellsData, rect_data, painted, source_in}
 use Rattle.rfb_codec.specs.Front.{Front, SomePixels, SpellsPixels, BeginsTile, tiles_over, Shows, encoding_of}
-use Rattle.rfb_codec.specs.inside.Step.{IsRefusedWith}
+use Rattle.rfb_codec.specs.decoder.Step.{IsRefusedWith}
 use Rattle.rfb_codec.specs.Stage.{places_before, copied_from, encoding_at, is_ended, is_sound, StandsAt}
 use Rattle.rfb_codec.proofs.PixelLaws.{sized-drawn}
 use Rattle.rfb_codec.proofs.PaintLemmas.{over_drawn}

@@ -4,7 +4,7 @@ use Rattle.std.proofs.Common.{arith}
 use Rattle.rfb_pixel.specs.declared.colour.Colour.{Colour}
 use Rattle.rfb_picture.specs.Grid.{Grid, IsGrid}
 use Rattle.rfb_wire.specs.declared.rect_head.RectHead.{RectHead}
-use Rattle.rfb_wire.specs.stream.Reading.{Got}
+use Rattle.rfb_wire.specs.stream.Prefix.{Got}
 use Rattle.rfb_wire.specs.stream.Grammar.{ReadsAll, past_all}
 use Rattle.rfb_wire.specs.ServerMessage.{ServerMessage, FramebufferUpdate, SpellsServerMessage}
 use Rattle.rfb_codec.specs.UpdateStream.{UpdatePoint, Message, Rectangle, SpellsRectangle, SpellsNext, update_stream}

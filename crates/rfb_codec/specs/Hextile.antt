@@ -6,7 +6,7 @@ use Rattle.std.specs.Prelude.{take, slice_index_or, Option, None, min, if◌then
 use Rattle.rfb_pixel.specs.Format.{PixelFormat}
 use Rattle.rfb_picture.specs.declared.rect.Rect.{Rect}
 use Rattle.rfb_picture.specs.Grid.{Grid}
-use Rattle.rfb_wire.specs.stream.Reading.{Reading, ListedAfter}
+use Rattle.rfb_wire.specs.stream.Prefix.{Reading, ListedAfter}
 use Rattle.rfb_wire.specs.stream.Parts.{done, and_then, each}
 use Rattle.rfb_codec.specs.declared.fault.PaintFault.{PaintFault}
 use Rattle.rfb_codec.specs.declared.fault.PaintFault.TheVariants.{SubrectOutside}

@@ -14,8 +14,9 @@ pub mod UpdateStream
 pub mod Effect
 pub mod WholeUpdate
 pub mod Painter
-pub mod Pending
+pub mod PendingBytes
 pub mod Front
 pub mod Stage
 pub mod UnderWay
-pub mod inside
+pub mod encoder
+pub mod decoder

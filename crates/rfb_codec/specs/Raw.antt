@@ -2,7 +2,7 @@
 use Rattle.std.specs.Prelude.{◌≡◌, ℕ, ◌+◌, ◌*◌, List, length, drop}
 use Rattle.rfb_pixel.specs.Format.{PixelFormat, size_of, pixel_number}
 use Rattle.rfb_picture.specs.Grid.{Grid}
-use Rattle.rfb_wire.specs.stream.Reading.{Reading}
+use Rattle.rfb_wire.specs.stream.Prefix.{Reading}
 use Rattle.rfb_wire.specs.stream.Parts.{valued}
 use Rattle.rfb_codec.specs.declared.fault.PaintFault.{PaintFault}
 use Rattle.rfb_codec.specs.Pixels.{Shows, drawn}

@@ -4,7 +4,7 @@ use Rattle.rfb_pixel.specs.Format.{PixelFormat, size_of, pixel_number}
 use Rattle.rfb_picture.specs.Rect.{contains}
 use Rattle.rfb_picture.specs.Grid.{Grid}
 use Rattle.rfb_wire.specs.Fields.{u32_at, IsRectAt}
-use Rattle.rfb_wire.specs.stream.Reading.{Reading, Listed}
+use Rattle.rfb_wire.specs.stream.Prefix.{Reading, Listed}
 use Rattle.rfb_wire.specs.stream.Parts.{done, and_then, valued, checked, many}
 use Rattle.rfb_wire.specs.RectHead.{IsOnScreen}
 use Rattle.rfb_wire.specs.RectStream.{rect_of, is_on_screen}

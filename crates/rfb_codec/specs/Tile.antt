@@ -6,7 +6,7 @@ use Rattle.std.specs.Prelude.{◌∷◌, ◌++◌, length, drop, map, Option, So
 use Rattle.rfb_pixel.specs.Format.{PixelFormat, size_of, pixel_number}
 use Rattle.rfb_picture.specs.declared.rect.Rect.{Rect}
 use Rattle.rfb_wire.specs.Fields.{u8_at}
-use Rattle.rfb_wire.specs.stream.Reading.{Reading, Listed, Optionally}
+use Rattle.rfb_wire.specs.stream.Prefix.{Reading, Listed, Optionally}
 use Rattle.rfb_wire.specs.stream.Parts.{piece, done, judged, and_then, valued, checked, optional, many}
 use Rattle.rfb_wire.specs.RectHead.{IsOnScreen}
 use Rattle.rfb_wire.specs.RectStream.{is_on_screen}

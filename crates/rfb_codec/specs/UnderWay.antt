@@ -5,7 +5,7 @@ use Rattle.rfb_pixel.specs.declared.colour.Colour.{Colour}
 use Rattle.rfb_pixel.specs.Format.{PixelFormat}
 use Rattle.rfb_picture.specs.declared.rect.Rect.{Rect}
 use Rattle.rfb_picture.specs.Grid.{Grid}
-use Rattle.rfb_wire.specs.stream.Reading.{More, Got, Bad}
+use Rattle.rfb_wire.specs.stream.Prefix.{More, Got, Bad}
 use Rattle.rfb_wire.specs.stream.FaultPlace.{FaultsWith}
 use Rattle.rfb_codec.specs.declared.fault.PaintFault.{PaintFault}
 use Rattle.rfb_codec.specs.declared.fault.Flaw.{Flaw}

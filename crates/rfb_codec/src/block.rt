@@ -6,7 +6,7 @@ ghost use Rattle.rfb_pixel.specs.Format.{ArePixels};
 ghost use Rattle.rfb_picture.specs.Grid.{Holds};
 ghost use Rattle.rfb_codec.specs.Pixels.{HasPixels, IsSized};
 ghost use Rattle.rfb_codec.specs.Codec.{PacksRect};
-ghost use Rattle.rfb_codec.specs.inside.Encode.{PacksRows};
+ghost use Rattle.rfb_codec.specs.encoder.Encode.{PacksRows};
 
 use arrayvec::ArrayVec;
 use rfb_picture::{Picture, Rect};

@@ -6,7 +6,7 @@ ghost use Rattle.rfb_pixel.specs.Format.{PixelFormat};
 ghost use Rattle.rfb_picture.specs.declared.rect.Rect.{Rect};
 ghost use Rattle.rfb_picture.specs.Rect.{contains};
 ghost use Rattle.rfb_wire.specs.declared.encoding.Encoding.{Encoding};
-ghost use Rattle.rfb_wire.specs.stream.Reading.{Reads};
+ghost use Rattle.rfb_wire.specs.stream.Prefix.{Reads};
 ghost use Rattle.rfb_wire.specs.stream.Grammar.{IsSpelled, IsGrammar};
 ghost use Rattle.rfb_codec.specs.declared.subrect.Subrect.{Subrect};
 ghost use Rattle.rfb_codec.specs.Rre.{pixel_at};

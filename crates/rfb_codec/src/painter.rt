@@ -6,7 +6,7 @@ ghost use Rattle.rfb_picture.specs.Grid.{Grid, Holds};
 ghost use Rattle.rfb_codec.specs.UnderWay.{painting, StandsFor, Paints, CopiesFrom, Waits, Refuses};
 ghost use Rattle.rfb_codec.specs.UnderWay.{ShowsWith};
 ghost use Rattle.rfb_codec.specs.Stage.{copied_from, encoding_at, is_ended};
-ghost use Rattle.rfb_codec.specs.inside.Step.{stage_of};
+ghost use Rattle.rfb_codec.specs.decoder.Step.{stage_of};
 
 pub mod fill;
 pub mod gather;

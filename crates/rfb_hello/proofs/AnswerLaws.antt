@@ -4,7 +4,7 @@ use Rattle.byteorder.specs.Endian.{big_bytes}
 use Rattle.byteorder.specs.Numbers.{big_number-reads_back}
 use Rattle.rfb_pixel.specs.Format.{rgb888}
 use Rattle.rfb_pixel.specs.FormatBytes.{format_bytes}
-use Rattle.rfb_wire.specs.stream.Reading.{Got}
+use Rattle.rfb_wire.specs.stream.Prefix.{Got}
 use Rattle.rfb_wire.specs.stream.Grammar.{ReadsAll}
 use Rattle.rfb_hello.specs.declared.version.Version.{Version}
 use Rattle.rfb_hello.specs.declared.version.Version.TheVariants.{V33, V37, V38}

@@ -3,7 +3,7 @@ use Rattle.std.proofs.Common.{◌≡◌, ◌≢◌, ℕ, ◌≤◌, ◌<◌, ◌
 use Rattle.std.proofs.Common.{if◌then◌else◌, length, refl, sym, subst, ap, arith}
 use Rattle.std.proofs.lemmas.Bool.Decides.{nat_tests}
 use Rattle.rfb_wire.specs.Fields.{u8_at, flag_at}
-use Rattle.rfb_wire.specs.stream.Reading.{Reads, Same}
+use Rattle.rfb_wire.specs.stream.Prefix.{Reads, Same}
 use Rattle.rfb_wire.specs.stream.Grammar.{IsSpelled, IsGrammar}
 use Rattle.rfb_wire.proofs.stream_laws.PartLaws.{same_reads}
 use Rattle.rfb_wire.proofs.stream_laws.RepeatLaws.{valued_says, valued_reads, checked_says, checked_reads}

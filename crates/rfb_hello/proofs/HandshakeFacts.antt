@@ -1,7 +1,7 @@
 -- Handshakes byte for byte as RFC 6143 lays them out, computed from the readings: a wrong byte here fails
 -- the check.
 use Rattle.std.proofs.Common.{◌≡◌, ℕ, List, [], ◌∷◌, ◌++◌, true, refl}
-use Rattle.rfb_wire.specs.stream.Reading.{More, Got, Bad}
+use Rattle.rfb_wire.specs.stream.Prefix.{More, Got, Bad}
 use Rattle.rfb_wire.specs.stream.Grammar.{ReadsAll}
 use Rattle.rfb_hello.specs.declared.version.Version.TheVariants.{V33, V37, V38}
 use Rattle.rfb_hello.specs.declared.fault.HelloFault.TheVariants.{BadVersion, VersionTooHigh, BadSecurityChoice}

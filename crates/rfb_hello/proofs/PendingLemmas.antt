@@ -1,6 +1,6 @@
 -- What an end keeps of a piece that is not whole is what is pending.
 use Rattle.std.proofs.Common.{◌≡◌, ◌≢◌, ℕ, suc, ◌+◌, ◌<◌, List, [], ◌∷◌, ◌++◌, length, refl, sym, ◌∙◌, ap, arith}
-use Rattle.rfb_wire.specs.stream.Pending.{in_pieces}
+use Rattle.rfb_wire.specs.stream.PendingBytes.{in_pieces}
 use Rattle.rfb_wire.proofs.stream_laws.PendingLaws.{counted_pending, bytes_pending, piece_pending, past_piece}
 use Rattle.rfb_hello.specs.declared.version.Version.{Version}
 use Rattle.rfb_hello.specs.declared.version.Version.TheVariants.{V33, V37, V38}
@@ -19,12 +19,12 @@ use Rattle.rfb_hello.specs.declared.viewer_hello.progress.Progress.TheVariants.{
 use Rattle.rfb_hello.specs.ClientHandshake.{ClientPoint}
 use Rattle.rfb_hello.specs.ServerHandshake.{ServerPoint, AwaitsSecurity, AwaitsResult}
 use Rattle.rfb_hello.specs.ServerProgress.{ProgressStandsFor as ServerProgressStandsFor}
-use Rattle.rfb_hello.specs.inside.ServerPiece.{part_in as server_part_in}
+use Rattle.rfb_hello.specs.pieces.ServerPiece.{part_in as server_part_in}
 use Rattle.rfb_hello.specs.ViewerEnd.{OpensReason}
 use Rattle.rfb_hello.specs.ViewerProgress.{ProgressStandsFor}
-use Rattle.rfb_hello.specs.inside.ViewerPiece.{part_in}
-use Rattle.rfb_hello.specs.Pending.{client_handshake_pending, server_handshake_pending, reason_pending}
-use Rattle.rfb_hello.specs.Pending.{security_pending, types_pending}
+use Rattle.rfb_hello.specs.pieces.ViewerPiece.{part_in}
+use Rattle.rfb_hello.specs.PendingBytes.{client_handshake_pending, server_handshake_pending, reason_pending}
+use Rattle.rfb_hello.specs.PendingBytes.{security_pending, types_pending}
 
 -- a part of a piece
 part_pending : (size : ℕ) (part : List ℕ) → length part < size → in_pieces size part ≡ length part

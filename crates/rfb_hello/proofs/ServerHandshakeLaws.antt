@@ -2,7 +2,7 @@
 use Rattle.std.proofs.Common.{◌≡◌, ℕ, zero, suc, ◌<◌, ◌⊎◌, inl, inr, Bool, true, false, List, [], ◌∷◌, ◌++◌, Option}
 use Rattle.std.proofs.Common.{Some, None, if◌then◌else◌, length, refl, sym, subst, ◌∙◌, ap, append-nil, arith}
 use Rattle.rfb_wire.specs.Fields.{u8_at, u32_at}
-use Rattle.rfb_wire.specs.stream.Reading.{Says, Reads, Same}
+use Rattle.rfb_wire.specs.stream.Prefix.{Says, Reads, Same}
 use Rattle.rfb_wire.specs.stream.Parts.{piece, refused, and_then, valued}
 use Rattle.rfb_wire.proofs.stream_laws.PartLaws.{alone, done_says, piece_says, then_says, done_reads, piece_reads}
 use Rattle.rfb_wire.proofs.stream_laws.PartLaws.{then_reads, same_reads}

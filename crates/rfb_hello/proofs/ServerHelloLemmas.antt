@@ -4,7 +4,7 @@ use Rattle.std.proofs.Common.{Option, Some, None, Result, is_some, true, false, 
 use Rattle.std.proofs.Common.{refl, sym, subst, ◌∙◌, ap, append-nil, length-append, arith}
 use Rattle.std.proofs.lemmas.Bool.Decides.{nat_tests}
 use Rattle.std.proofs.lemmas.List.{length-take}
-use Rattle.rfb_wire.specs.stream.Reading.{Got, Bad}
+use Rattle.rfb_wire.specs.stream.Prefix.{Got, Bad}
 use Rattle.rfb_wire.specs.stream.End.{IsMachine, FedBy, RefusedBy, StepsBy}
 use Rattle.rfb_wire.proofs.stream_laws.RepeatLaws.{checked_reads}
 use Rattle.rfb_wire.proofs.stream_laws.FeedLaws.{step_feeds, front_refuses}
@@ -23,7 +23,7 @@ use Rattle.rfb_hello.specs.ClientHandshake.{AwaitsVersion, ProtocolVersion, afte
 use Rattle.rfb_hello.specs.ClientHandshake.{client_item}
 use Rattle.rfb_hello.specs.ServerEnd.{ServerSetup, as_reply, security_bytes, server_end}
 use Rattle.rfb_hello.specs.ServerProgress.{ProgressStandsFor, least_left}
-use Rattle.rfb_hello.specs.inside.ServerPiece.{progress_after}
+use Rattle.rfb_hello.specs.pieces.ServerPiece.{progress_after}
 use Rattle.rfb_hello.specs.ServerModel.{StandsFor, setup_of}
 use Rattle.rfb_hello.proofs.ClientHandshakeLaws.{client_handshake_laws}
 

@@ -2,7 +2,7 @@
 use Rattle.std.proofs.Common.{◌≡◌, ◌≢◌, ℕ, inl, inr, Bool, true, false, List}
 use Rattle.std.proofs.Common.{Option, Some, None, if◌then◌else◌, length, refl, sym, subst, ap}
 use Rattle.rfb_wire.specs.Fields.{u8_at, u32_at}
-use Rattle.rfb_wire.specs.stream.Reading.{Reads, Same}
+use Rattle.rfb_wire.specs.stream.Prefix.{Reads, Same}
 use Rattle.rfb_wire.specs.stream.Parts.{and_then, valued}
 use Rattle.rfb_wire.proofs.stream_laws.PartLaws.{then_reads, same_reads}
 use Rattle.rfb_wire.proofs.stream_laws.RepeatLaws.{valued_says, valued_reads, checked_says}

@@ -5,7 +5,7 @@ use Rattle.std.proofs.Common.{[], ◌++◌, Option, Some, None, if◌then◌else
 use Rattle.std.proofs.Common.{append-nil, length-append, arith}
 use Rattle.std.proofs.lemmas.Bool.Decides.{nat_tests}
 use Rattle.rfb_wire.specs.Fields.{u16_at, u32_at}
-use Rattle.rfb_wire.specs.stream.Reading.{Says, Reads, Same}
+use Rattle.rfb_wire.specs.stream.Prefix.{Says, Reads, Same}
 use Rattle.rfb_wire.specs.stream.Parts.{valued}
 use Rattle.rfb_wire.specs.stream.Grammar.{IsSpelled, IsGrammar}
 use Rattle.rfb_wire.proofs.stream_laws.PartLaws.{done_says, then_says, done_reads, then_reads, same_reads}

@@ -3,7 +3,7 @@ use Rattle.std.proofs.Common.{◌≡◌, ◌≢◌, ℕ, zero, suc, ◌+◌, ◌
 use Rattle.std.proofs.Common.{true, List, [], ◌∷◌, ◌++◌, Option, Some, None, Result, Ok, length, take, drop}
 use Rattle.std.proofs.Common.{refl, sym, subst, ◌∙◌, ap, append-nil, arith}
 use Rattle.rfb_wire.specs.Fields.{u16_at, u32_at}
-use Rattle.rfb_wire.specs.stream.Reading.{More, Got}
+use Rattle.rfb_wire.specs.stream.Prefix.{More, Got}
 use Rattle.rfb_wire.specs.stream.End.{FedBy, RunsOutBy, StepsBy}
 use Rattle.rfb_wire.proofs.stream_laws.RepeatLaws.{checked_reads}
 use Rattle.rfb_wire.proofs.stream_laws.PartLaws.{piece_short}
@@ -30,9 +30,9 @@ use Rattle.rfb_hello.specs.ServerHandshake.{ServerInit, after_init}
 use Rattle.rfb_hello.specs.ServerItems.{name, security, screen_fault, server_item}
 use Rattle.rfb_hello.specs.ServerEnd.{as_reply}
 use Rattle.rfb_hello.specs.ViewerEnd.{ViewerSetup, viewer_end, told_of_init, AsksMemory}
-use Rattle.rfb_hello.specs.inside.ViewerPiece.{fault_for}
+use Rattle.rfb_hello.specs.pieces.ViewerPiece.{fault_for}
 use Rattle.rfb_hello.specs.ViewerProgress.{ProgressStandsFor, fault_in}
-use Rattle.rfb_hello.specs.inside.ViewerPiece.{progress_after_version, progress_after_init}
+use Rattle.rfb_hello.specs.pieces.ViewerPiece.{progress_after_version, progress_after_init}
 use Rattle.rfb_hello.specs.ViewerModel.{StandsFor}
 use Rattle.rfb_hello.proofs.ServerStreamLaws.{screen_admitted}
 use Rattle.rfb_hello.proofs.ViewerReadingLaws.{opened, reason_short, reason_more, types_next, types_more}

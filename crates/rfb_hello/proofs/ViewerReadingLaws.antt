@@ -2,7 +2,7 @@
 use Rattle.std.proofs.Common.{◌≡◌, ◌≢◌, ℕ, zero, suc, ◌<◌, ◌||◌, ◌==◌, Bool, true, false, List, [], ◌∷◌, ◌++◌, length}
 use Rattle.std.proofs.Common.{refl, subst, ◌∙◌, ap, append-nil, arith}
 use Rattle.rfb_wire.specs.Fields.{u8_at, u32_at}
-use Rattle.rfb_wire.specs.stream.Reading.{More, Got, Bad, Reading}
+use Rattle.rfb_wire.specs.stream.Prefix.{More, Got, Bad, Reading}
 use Rattle.rfb_wire.specs.stream.Parts.{piece, refused, and_then, valued}
 use Rattle.rfb_wire.proofs.stream_laws.PartLaws.{piece_only, piece_short}
 use Rattle.rfb_hello.specs.declared.version.Version.{Version}
@@ -15,7 +15,7 @@ use Rattle.rfb_hello.specs.ServerHandshake.{ServerPoint, AwaitsSecurity, AwaitsR
 use Rattle.rfb_hello.specs.ServerHandshake.{IsWord, has_none}
 use Rattle.rfb_hello.specs.ServerItems.{reason, after_word, after_count, after_result, security, server_item}
 use Rattle.rfb_hello.specs.ViewerEnd.{OpensReason}
-use Rattle.rfb_hello.specs.inside.ViewerPiece.{fault_for}
+use Rattle.rfb_hello.specs.pieces.ViewerPiece.{fault_for}
 
 module _ {A B F : Type 0} where
   -- after n bytes

@@ -3,7 +3,7 @@ use Rattle.std.proofs.Common.{◌≡◌, ◌≢◌, ℕ, ◌+◌, ◌<◌, ◌�
 use Rattle.std.proofs.Common.{Some, None, Ok, Err, length, take, drop, min, refl, sym, subst, ◌∙◌, ap, append-nil}
 use Rattle.std.proofs.Common.{append_assoc, length-append, arith}
 use Rattle.std.proofs.lemmas.List.{length-take-le}
-use Rattle.rfb_wire.specs.stream.Reading.{More}
+use Rattle.rfb_wire.specs.stream.Prefix.{More}
 use Rattle.rfb_wire.specs.stream.End.{FedBy, RunsOutBy, StepsBy}
 use Rattle.rfb_wire.proofs.stream_laws.FeedLaws.{memory_step}
 use Rattle.rfb_hello.specs.declared.version.Version.{Version}
@@ -22,7 +22,7 @@ use Rattle.rfb_hello.specs.KeptText.{KeptText, no_text, kept_of}
 use Rattle.rfb_hello.specs.ServerHandshake.{ServerPoint, AwaitsSecurity, AwaitsInit, IsWord}
 use Rattle.rfb_hello.specs.ServerItems.{server_item}
 use Rattle.rfb_hello.specs.ViewerEnd.{ViewerSetup, viewer_end, OpensReason, AsksMemory, AsksForReason}
-use Rattle.rfb_hello.specs.inside.ViewerPiece.{fault_for, TakesPiece}
+use Rattle.rfb_hello.specs.pieces.ViewerPiece.{fault_for, TakesPiece}
 use Rattle.rfb_hello.specs.Offer.{offered_of}
 use Rattle.rfb_hello.specs.ViewerProgress.{ProgressStandsFor, reason_in}
 use Rattle.rfb_hello.specs.ViewerModel.{StandsFor, IsReasonKept, KeepsReason, fault_of, setup_of}

@@ -3,7 +3,7 @@ use Rattle.std.proofs.Common.{◌≡◌, ◌≢◌, ℕ, ◌+◌, ◌<◌, ◌�
 use Rattle.std.proofs.Common.{false, List, [], ◌∷◌, ◌++◌, Some, None, Ok, Err, length, take, refl, sym, subst}
 use Rattle.std.proofs.Common.{◌∙◌, ap, append-nil, length-append, arith}
 use Rattle.std.proofs.lemmas.List.{length-take-le}
-use Rattle.rfb_wire.specs.stream.Reading.{Got, Bad}
+use Rattle.rfb_wire.specs.stream.Prefix.{Got, Bad}
 use Rattle.rfb_wire.specs.stream.End.{StepsBy}
 use Rattle.rfb_hello.specs.declared.version.Version.{Version}
 use Rattle.rfb_hello.specs.declared.version.Version.TheVariants.{V33, V37, V38}
@@ -25,7 +25,7 @@ use Rattle.rfb_hello.specs.ServerItems.{security, server_item}
 use Rattle.rfb_hello.specs.ServerEnd.{as_reply}
 use Rattle.rfb_hello.specs.ViewerEnd.{ViewerSetup, viewer_end, choice_bytes, shared_flag}
 use Rattle.rfb_hello.specs.ViewerProgress.{ProgressStandsFor}
-use Rattle.rfb_hello.specs.inside.ViewerPiece.{progress_after_types}
+use Rattle.rfb_hello.specs.pieces.ViewerPiece.{progress_after_types}
 use Rattle.rfb_hello.specs.ViewerModel.{StandsFor, setup_of}
 use Rattle.rfb_hello.proofs.ServerStreamLaws.{server_handshake_spelled}
 use Rattle.rfb_hello.proofs.ViewerReadingLaws.{types_next, types_more, types_good, types_bad}

@@ -1,7 +1,7 @@
 -- The three answers of a step of the viewer's end, and what it promises by each.
 use Rattle.std.proofs.Common.{◌≡◌, ◌≢◌, ℕ, ◌<◌, ◌≤◌, List, [], ◌++◌, Option, Some, None}
 use Rattle.std.proofs.Common.{Result, Ok, Err, length, take, refl, sym, subst, ◌∙◌, ap, append-nil}
-use Rattle.rfb_wire.specs.stream.Reading.{More, Got, Bad}
+use Rattle.rfb_wire.specs.stream.Prefix.{More, Got, Bad}
 use Rattle.rfb_wire.specs.stream.End.{IsMachine, RunsOutBy, StepsBy}
 use Rattle.rfb_hello.specs.declared.fault.HelloFault.{HelloFault}
 use Rattle.rfb_hello.specs.declared.fault.HelloFault.TheVariants.{NoMemory}
@@ -16,7 +16,7 @@ use Rattle.rfb_hello.specs.ServerItems.{server_item}
 use Rattle.rfb_hello.specs.ViewerEnd.{ViewerSetup, viewer_end, viewer_tells, AsksMemory}
 use Rattle.rfb_hello.specs.ViewerProgress.{ProgressStandsFor}
 use Rattle.rfb_hello.specs.ViewerModel.{KeepsReason, StandsFor, fault_of, goes_on_after, is_open, setup_of}
-use Rattle.rfb_hello.specs.inside.ViewerPiece.{TakesPiece}
+use Rattle.rfb_hello.specs.pieces.ViewerPiece.{TakesPiece}
 use Rattle.rfb_hello.proofs.ServerStreamLaws.{server_handshake_laws}
 
 pub viewer_machine : (setup : ViewerSetup) → IsMachine (viewer_end setup)

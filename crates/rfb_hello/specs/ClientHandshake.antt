@@ -3,7 +3,7 @@
 use Rattle.std.specs.Prelude.{◌≡◌, ◌≢◌, ℕ, ◌≤◌, ◌<◌, ◌==◌, Bool, true, false, List, [], ◌∷◌, length, Option, Some, None}
 use Rattle.std.specs.Prelude.{nat_le, if◌then◌else◌}
 use Rattle.rfb_wire.specs.Fields.{u8_at, flag_at}
-use Rattle.rfb_wire.specs.stream.Reading.{Reading, Says}
+use Rattle.rfb_wire.specs.stream.Prefix.{Reading, Says}
 use Rattle.rfb_wire.specs.stream.Parts.{valued, checked, waiting}
 use Rattle.rfb_wire.specs.stream.Grammar.{Grammar}
 use Rattle.rfb_hello.specs.declared.version.Version.{Version}

@@ -15,5 +15,5 @@ pub mod ViewerModel
 pub mod Offer
 pub mod ToldOf
 pub mod Conversation
-pub mod Pending
-pub mod inside
+pub mod PendingBytes
+pub mod pieces

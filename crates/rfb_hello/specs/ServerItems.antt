@@ -1,7 +1,7 @@
 -- How a server's bytes are read in the handshake, part by part.
 use Rattle.std.specs.Prelude.{ℕ, zero, suc, ◌*◌, ◌==◌, List, Option, Some, None, nat_lt, if◌then◌else◌}
 use Rattle.rfb_wire.specs.Fields.{u8_at, u16_at, u32_at}
-use Rattle.rfb_wire.specs.stream.Reading.{Reading}
+use Rattle.rfb_wire.specs.stream.Prefix.{Reading}
 use Rattle.rfb_wire.specs.stream.Parts.{piece, done, refused, and_then, valued, checked, waiting}
 use Rattle.rfb_wire.specs.stream.Grammar.{Grammar}
 use Rattle.rfb_hello.specs.declared.version.Version.{Version}

@@ -5,11 +5,11 @@ ghost use Rattle.std.specs.Prelude.{false, IfOk, IfErr, Some, None, Ok};
 ghost use Rattle.rfb_wire.specs.stream.End.{FedBy, RefusedBy, StepsBy, StaysFailed};
 ghost use Rattle.rfb_hello.specs.Version.{version_text};
 ghost use Rattle.rfb_hello.specs.ClientHandshake.{AwaitsVersion, ClientPoint};
-ghost use Rattle.rfb_hello.specs.Pending.{client_handshake_pending};
+ghost use Rattle.rfb_hello.specs.PendingBytes.{client_handshake_pending};
 ghost use Rattle.rfb_hello.specs.ServerEnd.{ServerSetup, as_reply, server_end, server_init_bytes};
 ghost use Rattle.rfb_hello.specs.ServerModel.{StandsFor, fault_of, is_open, setup_of};
 ghost use Rattle.rfb_hello.specs.ServerModel.{left_of};
-ghost use Rattle.rfb_hello.specs.inside.ServerPiece.{RefusesAs, TakesAs};
+ghost use Rattle.rfb_hello.specs.pieces.ServerPiece.{RefusesAs, TakesAs};
 ghost use Rattle.rfb_hello.specs.declared.server_hello.progress.Progress.{Progress};
 ghost use Rattle.arrayvec.specs.ArrayVec.{ArrayVec as Items};
 

@@ -5,13 +5,13 @@ ghost use Rattle.std.specs.Prelude.{IfOk, IfErr, Some, None, Ok, Err};
 ghost use Rattle.rfb_wire.specs.stream.End.{FedBy, RefusedBy, RunsOutBy, StaysFailed};
 ghost use Rattle.rfb_hello.specs.KeptText.{no_text};
 ghost use Rattle.rfb_hello.specs.ServerHandshake.{AwaitsVersion, ServerPoint};
-ghost use Rattle.rfb_hello.specs.Pending.{server_handshake_pending};
+ghost use Rattle.rfb_hello.specs.PendingBytes.{server_handshake_pending};
 ghost use Rattle.rfb_hello.specs.ViewerEnd.{ViewerSetup, viewer_end, AsksMemory};
 ghost use Rattle.rfb_hello.specs.Offer.{KeepsOffer, TakesOffer, offered_of};
 ghost use Rattle.rfb_hello.specs.declared.offered.Offered.TheVariants.{Nothing};
 ghost use Rattle.rfb_hello.specs.ViewerModel.{KeepsReason, StandsFor, fault_of, goes_on_after};
 ghost use Rattle.rfb_hello.specs.ViewerModel.{is_open, reason_of, setup_of};
-ghost use Rattle.rfb_hello.specs.inside.ViewerPiece.{TakesPiece};
+ghost use Rattle.rfb_hello.specs.pieces.ViewerPiece.{TakesPiece};
 ghost use Rattle.rfb_hello.specs.declared.fault.HelloFault.TheVariants.{NoMemory};
 ghost use Rattle.rfb_hello.specs.declared.viewer_hello.progress.Progress.{Progress};
 

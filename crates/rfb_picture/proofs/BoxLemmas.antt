@@ -9,9 +9,9 @@ use Rattle.rfb_picture.specs.declared.edges.Gathered.{Gathered}
 use Rattle.std.specs.Int.{w64, trailing_zeros, leading_zeros}
 use Rattle.rfb_picture.specs.Rect.{contains}
 use Rattle.rfb_picture.specs.Places.{has_bit}
-use Rattle.rfb_picture.specs.inside.Plane.{has_place, has_masked}
+use Rattle.rfb_picture.specs.layout.Plane.{has_place, has_masked}
 use Rattle.rfb_picture.specs.Box.{IsClear, IsBox}
-use Rattle.rfb_picture.specs.inside.Edges.{IsEdges, HasEdges, NoMarks, IsGathered}
+use Rattle.rfb_picture.specs.layout.Edges.{IsEdges, HasEdges, NoMarks, IsGathered}
 use Rattle.rfb_picture.proofs.GridLemmas.{contains_true, contains_row}
 use Rattle.rfb_picture.proofs.EdgesLemmas.{same_edges, edges_of_column}
 

@@ -9,9 +9,9 @@ use Rattle.rfb_picture.specs.declared.place_set.layers.Layers.{Layers}
 use Rattle.rfb_picture.specs.Rect.{contains}
 use Rattle.rfb_picture.specs.Grid.{Holds}
 use Rattle.rfb_picture.specs.Box.{is_in}
-use Rattle.rfb_picture.specs.inside.Edges.{IsEdges, HasEdges}
-use Rattle.rfb_picture.specs.inside.Cells.{in_column}
-use Rattle.rfb_picture.specs.inside.PlaceSet.{in_set, layered}
+use Rattle.rfb_picture.specs.layout.Edges.{IsEdges, HasEdges}
+use Rattle.rfb_picture.specs.layout.Cells.{in_column}
+use Rattle.rfb_picture.specs.layout.PlaceSet.{in_set, layered}
 use Rattle.rfb_picture.proofs.GridLemmas.{contains_true, contains_row}
 use Rattle.rfb_picture.proofs.PlaceSetLemmas.{at-layered}
 use Rattle.rfb_picture.proofs.EdgesLemmas.{same_edges}

@@ -7,7 +7,7 @@ use Rattle.std.proofs.Math.Nat.{mul-le-mul_right}
 use Rattle.rfb_picture.specs.declared.rect.Rect.{Rect}
 use Rattle.rfb_picture.specs.Rect.{contains}
 use Rattle.rfb_picture.specs.Grid.{Grid, IsGrid, Holds, at_or, copied}
-use Rattle.rfb_picture.specs.inside.Lines.{AreLines, place_in}
+use Rattle.rfb_picture.specs.layout.Lines.{AreLines, place_in}
 use Rattle.std.proofs.lemmas.List.{get_or_default}
 use Rattle.rfb_picture.proofs.GridLemmas.{place_below, contains_true, at-changed}
 use Rattle.rfb_picture.proofs.LineLemmas.{index_in_line}

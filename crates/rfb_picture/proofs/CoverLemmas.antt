@@ -11,8 +11,8 @@ use Rattle.rfb_picture.specs.Rect.{contains}
 use Rattle.rfb_picture.specs.Grid.{Holds}
 use Rattle.rfb_picture.specs.Box.{is_in}
 use Rattle.rfb_picture.specs.Places.{has_bit, AllMarked, HasRowBits}
-use Rattle.rfb_picture.specs.inside.Cells.{in_column}
-use Rattle.rfb_picture.specs.inside.PlaceSet.{in_set, layered}
+use Rattle.rfb_picture.specs.layout.Cells.{in_column}
+use Rattle.rfb_picture.specs.layout.PlaceSet.{in_set, layered}
 use Rattle.rfb_picture.proofs.GridLemmas.{contains_true, contains_row}
 use Rattle.rfb_picture.proofs.CellLemmas.{columns_to, columns_more, same_cell}
 use Rattle.rfb_picture.proofs.PlaceSetLemmas.{at-layered}

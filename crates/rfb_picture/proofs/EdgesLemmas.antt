@@ -7,7 +7,7 @@ use Rattle.rfb_picture.specs.declared.rect.Rect.{Rect}
 use Rattle.rfb_picture.specs.declared.edges.Edges.{Edges}
 use Rattle.rfb_picture.specs.declared.edges.Gathered.{Gathered}
 use Rattle.rfb_picture.specs.Rect.{contains}
-use Rattle.rfb_picture.specs.inside.Edges.{IsEdges, HasEdges, IsGathered}
+use Rattle.rfb_picture.specs.layout.Edges.{IsEdges, HasEdges, IsGathered}
 use Rattle.rfb_picture.proofs.GridLemmas.{contains_true, contains_row}
 use Rattle.rfb_picture.proofs.GatherLemmas.{some_bit, first_bit, last_bit}
 

@@ -9,9 +9,9 @@ use Rattle.std.proofs.lemmas.Bool.{or_cases, or_left, or_right}
 use Rattle.std.proofs.lemmas.Nat.{leading_top, le-div, div_below, pow_pos}
 use Rattle.std.proofs.lemmas.Nat.Bits.{bit_at-trailing_zeros, bit_at_above, bit_at-zero}
 use Rattle.rfb_picture.specs.Places.{has_bit}
-use Rattle.rfb_picture.specs.inside.Plane.{has_at, has_masked}
-use Rattle.rfb_picture.specs.inside.Edges.{NoMarks, HasMark, IsFirstRow, IsLastRow, HasAllBits, IsGathered}
-use Rattle.rfb_picture.specs.inside.Edges.{HasNoOtherBits}
+use Rattle.rfb_picture.specs.layout.Plane.{has_at, has_masked}
+use Rattle.rfb_picture.specs.layout.Edges.{NoMarks, HasMark, IsFirstRow, IsLastRow, HasAllBits, IsGathered}
+use Rattle.rfb_picture.specs.layout.Edges.{HasNoOtherBits}
 use Rattle.rfb_picture.proofs.WordLemmas.{has_bit-and, has_bit-or}
 
 -- ---- one word

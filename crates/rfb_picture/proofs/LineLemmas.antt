@@ -7,7 +7,7 @@ use Rattle.std.proofs.lemmas.Bool.Decides.{nat_tests}
 use Rattle.std.proofs.Math.Nat.{mul-le-mul_right}
 use Rattle.rfb_picture.specs.declared.rect.Rect.{Rect}
 use Rattle.rfb_picture.specs.Rect.{contains}
-use Rattle.rfb_picture.specs.inside.Lines.{AreLines, IsKept, place_in}
+use Rattle.rfb_picture.specs.layout.Lines.{AreLines, IsKept, place_in}
 use Rattle.rfb_picture.proofs.GridLemmas.{index_in_row, contains_true, contains_more, either}
 
 -- a part of a row ends before the places do

@@ -12,7 +12,7 @@ use Rattle.std.specs.Vec.{with_items_from}
 use Rattle.rfb_picture.specs.Grid.{Grid, grid, IsGrid, at_or, changed, row_of, with_row, with_run}
 use Rattle.rfb_picture.proofs.GridLemmas.{place_below, changed_is, row_written, same_changes, width-changed}
 use Rattle.rfb_picture.proofs.GridLemmas.{height-changed, same_parts}
-use Rattle.rfb_picture.specs.inside.Lines.{AreInOrder, IsKept, IsPicture, place_in, shown}
+use Rattle.rfb_picture.specs.layout.Lines.{AreInOrder, IsKept, IsPicture, place_in, shown}
 use Rattle.rfb_picture.proofs.ShownLemmas.{ordered_lines, shown_is}
 
 module _ {X : Type 0} where

@@ -10,13 +10,13 @@ use Rattle.rfb_picture.specs.declared.place_set.layers.Layers.{Layers}
 use Rattle.rfb_picture.specs.Rect.{contains}
 use Rattle.rfb_picture.specs.Grid.{Grid}
 use Rattle.rfb_picture.specs.Box.{is_in}
-use Rattle.rfb_picture.specs.inside.Edges.{IsEdges}
+use Rattle.rfb_picture.specs.layout.Edges.{IsEdges}
 use Rattle.rfb_picture.specs.Places.{NoneInRow}
-use Rattle.rfb_picture.specs.inside.Marks.{IsNext, AreRowsClear}
+use Rattle.rfb_picture.specs.layout.Marks.{IsNext, AreRowsClear}
 use Rattle.rfb_picture.specs.CellOrder.{cells_in, NoneInCells, HasPlaceIn, HasNextCell, HasCandidate}
-use Rattle.rfb_picture.specs.inside.Cells.{zone_of}
-use Rattle.rfb_picture.specs.inside.PlaceSet.{in_set, layered, IsLayers, NoneOpen, IsNextOpen, HasNextOpen}
-use Rattle.rfb_picture.specs.inside.Plane.{AreUnused, IsPlane, plane}
+use Rattle.rfb_picture.specs.layout.Cells.{zone_of}
+use Rattle.rfb_picture.specs.layout.PlaceSet.{in_set, layered, IsLayers, NoneOpen, IsNextOpen, HasNextOpen}
+use Rattle.rfb_picture.specs.layout.Plane.{AreUnused, IsPlane, plane}
 use Rattle.rfb_picture.proofs.GridLemmas.{contains_true, contains_row}
 use Rattle.rfb_picture.proofs.PlaneLemmas.{at-plane, column_below, same_across}
 use Rattle.rfb_picture.proofs.TakenWordLemmas.{none_in_word}

@@ -9,8 +9,8 @@ use Rattle.rfb_picture.specs.Rect.{contains}
 use Rattle.rfb_picture.specs.Grid.{Grid, IsGrid, at_or, filled, uniform}
 use Rattle.rfb_picture.specs.Box.{is_in}
 use Rattle.rfb_picture.specs.CellOrder.{cells_in}
-use Rattle.rfb_picture.specs.inside.Cells.{cell_at, one_cell, touched, IsOfCells}
-use Rattle.rfb_picture.specs.inside.PlaceSet.{in_set, layered, IsLayers, IsOpened}
+use Rattle.rfb_picture.specs.layout.Cells.{cell_at, one_cell, touched, IsOfCells}
+use Rattle.rfb_picture.specs.layout.PlaceSet.{in_set, layered, IsLayers, IsOpened}
 use Rattle.rfb_picture.proofs.GridLemmas.{contains_true, contains_row, width-changed, height-changed, whole-changed}
 use Rattle.rfb_picture.proofs.GridLemmas.{whole-uniform, width-uniform, height-uniform, at-uniform, at-filled}
 use Rattle.rfb_picture.proofs.PlaneLemmas.{whole-marked, at-marked, marked_is}

@@ -10,13 +10,13 @@ use Rattle.std.proofs.lemmas.Bool.Decides.{nat_tests}
 use Rattle.std.proofs.lemmas.Nat.{rows, div-add-mod', mod_below}
 use Rattle.rfb_picture.specs.declared.edges.Edges.{Edges}
 use Rattle.rfb_picture.specs.Box.{is_in}
-use Rattle.rfb_picture.specs.inside.Edges.{HasEdges}
+use Rattle.rfb_picture.specs.layout.Edges.{HasEdges}
 use Rattle.rfb_picture.proofs.EdgesLemmas.{same_edges}
 use Rattle.rfb_picture.specs.Grid.{Grid, IsGrid, Holds, at_or, changed, filled, uniform}
 use Rattle.rfb_picture.specs.declared.rect.Rect.{Rect}
 use Rattle.rfb_picture.specs.Rect.{contains}
-use Rattle.rfb_picture.specs.inside.Plane.{has_at, has_place, marked, plane, IsPlane}
-use Rattle.rfb_picture.specs.inside.Cells.{cell_at}
+use Rattle.rfb_picture.specs.layout.Plane.{has_at, has_place, marked, plane, IsPlane}
+use Rattle.rfb_picture.specs.layout.Cells.{cell_at}
 use Rattle.rfb_picture.proofs.GridLemmas.{contains_true, at-changed, width-changed, height-changed, length-changed}
 use Rattle.rfb_picture.proofs.GridLemmas.{whole-changed, width-uniform, height-uniform, whole-uniform, at-uniform}
 use Rattle.rfb_picture.proofs.GridLemmas.{at-filled, same_grid}

@@ -5,7 +5,7 @@ use Rattle.std.proofs.Common.{slice_index_or, nat_le, nat_lt, ◌&&◌}
 use Rattle.std.proofs.lemmas.List.{get_or-take, get_or-drop, get_or_default}
 use Rattle.rfb_picture.specs.declared.rect.Rect.{Rect}
 use Rattle.rfb_picture.specs.Rect.{contains}
-use Rattle.rfb_picture.specs.inside.Lines.{AreLines, place_in}
+use Rattle.rfb_picture.specs.layout.Lines.{AreLines, place_in}
 use Rattle.rfb_picture.proofs.GridLemmas.{contains_true, contains_more, place_below}
 use Rattle.rfb_picture.proofs.LineLemmas.{column_in_line, index_in_line}
 use Rattle.rfb_picture.proofs.GridLemmas.{either, at_value}

@@ -6,7 +6,7 @@ use Rattle.std.proofs.Common.{slice_index_or, nat_eq, nat_lt, Bool, true, false,
 use Rattle.std.proofs.lemmas.Bool.{cases_order}
 use Rattle.std.proofs.lemmas.Bool.Decides.{nat_tests}
 use Rattle.std.proofs.lemmas.Nat.{div-mul-add, mod-mul-add}
-use Rattle.rfb_picture.specs.inside.Lines.{AreLines, IsKept, other_of, place_in}
+use Rattle.rfb_picture.specs.layout.Lines.{AreLines, IsKept, other_of, place_in}
 
 -- places of one number are one
 same_place : (w l k x y : ℕ) → x < w → y < w → l * w + x ≡ k * w + y → (l ≡ k) × (x ≡ y)

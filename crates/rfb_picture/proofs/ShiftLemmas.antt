@@ -4,7 +4,7 @@ use Rattle.std.proofs.Common.{slice_index_or, ap}
 use Rattle.std.proofs.Common.{arith, inl, inr, true, false}
 use Rattle.std.proofs.lemmas.Bool.{cases_lt}
 use Rattle.std.proofs.lemmas.Bool.Decides.{nat_tests}
-use Rattle.rfb_picture.specs.inside.Runs.{RunCopied, in_run}
+use Rattle.rfb_picture.specs.layout.Runs.{RunCopied, in_run}
 
 -- the first of the places to be moved have what stood at their source at first
 pub record AreMoved {X : Type 0} (from to done count : ℕ) (old now : List X) : Type 0 where

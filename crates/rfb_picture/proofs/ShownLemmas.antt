@@ -8,7 +8,7 @@ use Rattle.std.proofs.lemmas.List.{same_lists}
 use Rattle.rfb_picture.specs.declared.rect.Rect.{Rect}
 use Rattle.rfb_picture.specs.Rect.{contains}
 use Rattle.rfb_picture.specs.Grid.{Grid, grid, IsGrid, Holds, at_or, changed, copied, row_of, uniform}
-use Rattle.rfb_picture.specs.inside.Lines.{AreInOrder, AreLines, IsKept, place_in, shown}
+use Rattle.rfb_picture.specs.layout.Lines.{AreInOrder, AreLines, IsKept, place_in, shown}
 use Rattle.rfb_picture.proofs.GridLemmas.{at-changed, height-changed, length-changed, same_grid, whole-changed}
 use Rattle.rfb_picture.proofs.GridLemmas.{at_value, contains_true, length-row_of, slice_index_or-row_of}
 use Rattle.rfb_picture.proofs.GridLemmas.{width-changed}

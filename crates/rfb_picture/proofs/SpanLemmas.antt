@@ -6,8 +6,8 @@ use Rattle.rfb_picture.specs.declared.rect.Rect.{Rect}
 use Rattle.rfb_picture.specs.Rect.{contains}
 use Rattle.rfb_picture.specs.Grid.{changed, filled, at_or}
 use Rattle.rfb_picture.specs.Box.{is_in}
-use Rattle.rfb_picture.specs.inside.Marks.{AreRowsClear}
-use Rattle.rfb_picture.specs.inside.Plane.{AreUnused, has_place, plane, IsPlane, IsSpanned, MarksWithin}
+use Rattle.rfb_picture.specs.layout.Marks.{AreRowsClear}
+use Rattle.rfb_picture.specs.layout.Plane.{AreUnused, has_place, plane, IsPlane, IsSpanned, MarksWithin}
 use Rattle.rfb_picture.proofs.GridLemmas.{at-changed}
 use Rattle.rfb_picture.proofs.PlaneLemmas.{at-plane, whole-plane}
 use Rattle.rfb_picture.proofs.NextCellLemmas.{rows_clear}

@@ -9,9 +9,9 @@ use Rattle.rfb_picture.specs.Rect.{contains}
 use Rattle.rfb_picture.specs.Grid.{filled}
 use Rattle.rfb_picture.specs.Box.{is_in}
 use Rattle.rfb_picture.specs.Places.{without}
-use Rattle.rfb_picture.specs.inside.Marks.{without_in, AreRowsClear}
-use Rattle.rfb_picture.specs.inside.Cells.{cell_at, one_cell, zone_of}
-use Rattle.rfb_picture.specs.inside.PlaceSet.{in_set, in_part, layered, IsLayers, AreAlike, IsSpread, HasLost}
+use Rattle.rfb_picture.specs.layout.Marks.{without_in, AreRowsClear}
+use Rattle.rfb_picture.specs.layout.Cells.{cell_at, one_cell, zone_of}
+use Rattle.rfb_picture.specs.layout.PlaceSet.{in_set, in_part, layered, IsLayers, AreAlike, IsSpread, HasLost}
 use Rattle.rfb_picture.proofs.GridLemmas.{contains_true, contains_row, width-changed, height-changed, whole-changed}
 use Rattle.rfb_picture.proofs.GridLemmas.{at-changed, at-filled}
 use Rattle.rfb_picture.proofs.WordLemmas.{cases_place}

@@ -12,9 +12,9 @@ use Rattle.rfb_picture.specs.Rect.{contains}
 use Rattle.rfb_picture.specs.Grid.{Holds, changed, filled}
 use Rattle.rfb_picture.specs.Box.{is_in}
 use Rattle.rfb_picture.specs.Places.{has_bit, AllMarked, without, NoneInRow}
-use Rattle.rfb_picture.specs.inside.Plane.{has_at, has_place, plane, IsPlane, MarksWithin}
-use Rattle.rfb_picture.specs.inside.Marks.{without_in, IsNext}
-use Rattle.rfb_picture.specs.inside.Cells.{cell_at, one_cell}
+use Rattle.rfb_picture.specs.layout.Plane.{has_at, has_place, plane, IsPlane, MarksWithin}
+use Rattle.rfb_picture.specs.layout.Marks.{without_in, IsNext}
+use Rattle.rfb_picture.specs.layout.Cells.{cell_at, one_cell}
 use Rattle.rfb_picture.proofs.GridLemmas.{contains_true, at-changed, width-changed, height-changed, whole-changed}
 use Rattle.rfb_picture.proofs.PlaneLemmas.{plane_is, whole-plane, at-plane, column_below, place_word_below, same_across}
 use Rattle.rfb_picture.proofs.WordLemmas.{has_bit-and, cases_place}

@@ -12,8 +12,8 @@ use Rattle.std.proofs.lemmas.List.{get_or-set_same, get_or-set_other}
 use Rattle.rfb_picture.specs.declared.rect.Rect.{Rect}
 use Rattle.rfb_picture.specs.Rect.{contains}
 use Rattle.rfb_picture.specs.Places.{has_bit}
-use Rattle.rfb_picture.specs.inside.Plane.{has_at, has_place, HasMasked}
-use Rattle.rfb_picture.specs.inside.Marks.{IsNext}
+use Rattle.rfb_picture.specs.layout.Plane.{has_at, has_place, HasMasked}
+use Rattle.rfb_picture.specs.layout.Marks.{IsNext}
 use Rattle.rfb_picture.proofs.GridLemmas.{contains_true, contains_row}
 use Rattle.rfb_picture.proofs.GatherLemmas.{first_bit}
 use Rattle.rfb_picture.proofs.WordLemmas.{has_bit-and, cases_place, unreached}

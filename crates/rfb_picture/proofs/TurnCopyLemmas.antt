@@ -8,8 +8,8 @@ use Rattle.rfb_picture.specs.declared.picture.lines.Rows.{Rows}
 use Rattle.rfb_picture.specs.declared.rect.Rect.{Rect}
 use Rattle.rfb_picture.specs.Rect.{contains}
 use Rattle.rfb_picture.specs.Grid.{Grid, Holds, at_or, copied}
-use Rattle.rfb_picture.specs.inside.Lines.{IsKept, shown}
-use Rattle.rfb_picture.specs.inside.Turn.{Turned, line_from, rest_of}
+use Rattle.rfb_picture.specs.layout.Lines.{IsKept, shown}
+use Rattle.rfb_picture.specs.layout.Turn.{Turned, line_from, rest_of}
 use Rattle.rfb_picture.proofs.SettleLemmas.{chosen, left}
 use Rattle.rfb_picture.proofs.ShownLemmas.{at-shown, whole-shown}
 use Rattle.rfb_picture.proofs.CopyLemmas.{at-copied}

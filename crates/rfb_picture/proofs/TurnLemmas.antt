@@ -10,7 +10,7 @@ use Rattle.std.proofs.lemmas.Bool.Decides.{nat_tests}
 use Rattle.std.proofs.lemmas.List.{get_or-take, get_or-drop, length-take-le}
 use Rattle.std.specs.List.{RotatedLeft}
 use Rattle.rfb_picture.specs.declared.picture.lines.Rows.{Rows}
-use Rattle.rfb_picture.specs.inside.Turn.{Turned, is_among, line_from, rest_of}
+use Rattle.rfb_picture.specs.layout.Turn.{Turned, is_among, line_from, rest_of}
 use Rattle.rfb_picture.proofs.LoanLemmas.{after_run, before_run, in_run, written_over}
 use Rattle.rfb_picture.proofs.SettleLemmas.{chosen, left}
 

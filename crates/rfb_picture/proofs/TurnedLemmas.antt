@@ -4,8 +4,8 @@ use Rattle.std.proofs.Common.{arith}
 use Rattle.std.proofs.Common.{nat_le, true, false, inl, inr, ◌⊎◌}
 use Rattle.std.proofs.lemmas.Bool.Decides.{nat_tests}
 use Rattle.rfb_picture.specs.declared.picture.lines.Rows.{Rows}
-use Rattle.rfb_picture.specs.inside.Lines.{AreLines}
-use Rattle.rfb_picture.specs.inside.Turn.{Turned, line_from, rest_of}
+use Rattle.rfb_picture.specs.layout.Lines.{AreLines}
+use Rattle.rfb_picture.specs.layout.Turn.{Turned, line_from, rest_of}
 use Rattle.rfb_picture.proofs.SettleLemmas.{chosen, left}
 use Rattle.rfb_picture.proofs.TurnLemmas.{Where, below_or_not, down}
 use Rattle.rfb_picture.proofs.TurnLemmas.{of_others, of_rest}

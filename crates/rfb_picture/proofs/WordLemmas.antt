@@ -12,7 +12,7 @@ use Rattle.std.proofs.lemmas.List.{get_or-set_same, get_or-set_other}
 use Rattle.rfb_picture.specs.declared.rect.Rect.{Rect}
 use Rattle.rfb_picture.specs.Rect.{contains}
 use Rattle.rfb_picture.specs.Places.{has_bit}
-use Rattle.rfb_picture.specs.inside.Plane.{has_at, ColumnAdded, ColumnCleared}
+use Rattle.rfb_picture.specs.layout.Plane.{has_at, ColumnAdded, ColumnCleared}
 
 -- ---- one word
 

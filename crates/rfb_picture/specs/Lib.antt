@@ -5,4 +5,4 @@ pub mod Box
 pub mod Places
 pub mod CellOrder
 pub mod Area
-pub mod inside
+pub mod layout

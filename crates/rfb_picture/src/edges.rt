@@ -1,10 +1,10 @@
 //! The outermost of the places whose bits are set in rows of words.
 
 ghost use Rattle.std.specs.Prelude.{◌≡◌, ◌+◌, ◌*◌, ◌/◌, ◌^◌, ◌<◌, ◌≤◌, length};
-ghost use Rattle.rfb_picture.specs.inside.Plane.{has_place, has_masked};
-ghost use Rattle.rfb_picture.specs.inside.Edges.{edges_of, rect_of, HasEdges, JoinsTo, HasMark};
-ghost use Rattle.rfb_picture.specs.inside.Edges.{HasFirstRow, IsLastRow, HasAllBits};
-ghost use Rattle.rfb_picture.specs.inside.Edges.{HasNoOtherBits, HasGathered};
+ghost use Rattle.rfb_picture.specs.layout.Plane.{has_place, has_masked};
+ghost use Rattle.rfb_picture.specs.layout.Edges.{edges_of, rect_of, HasEdges, JoinsTo, HasMark};
+ghost use Rattle.rfb_picture.specs.layout.Edges.{HasFirstRow, IsLastRow, HasAllBits};
+ghost use Rattle.rfb_picture.specs.layout.Edges.{HasNoOtherBits, HasGathered};
 
 use crate::rect::Rect;
 use crate::words::{Strip, columns_between};

@@ -3,8 +3,8 @@
 ghost use Rattle.std.specs.Prelude.{◌≡◌, ℕ, ◌+◌, ◌*◌, ◌<◌, ◌≤◌, ◌↔◌, length, slice_index_or, false};
 ghost use Rattle.std.specs.Prelude.{IfOk, IsTrue};
 ghost use Rattle.std.specs.Borrow.{sem};
-ghost use Rattle.rfb_picture.specs.inside.Lines.{AreInOrder, IsKept};
-ghost use Rattle.rfb_picture.specs.inside.Runs.{RowsPut, RunPut};
+ghost use Rattle.rfb_picture.specs.layout.Lines.{AreInOrder, IsKept};
+ghost use Rattle.rfb_picture.specs.layout.Runs.{RowsPut, RunPut};
 
 mod copying;
 mod filling;
@@ -37,7 +37,7 @@ pub struct Picture<T> {
 
 impl<T> Model for Picture<T> {
     ghost use Rattle.rfb_picture.specs.Grid.{Grid, grid_code};
-    ghost use Rattle.rfb_picture.specs.inside.Lines.{IsPicture, shown};
+    ghost use Rattle.rfb_picture.specs.layout.Lines.{IsPicture, shown};
 
     ghost Value = { Grid T };
 

@@ -33,7 +33,7 @@ impl Model for PlaceSet {
     ghost use Rattle.std.specs.Prelude.{Bool};
     ghost use Rattle.std.specs.Coded.{coded_bool};
     ghost use Rattle.rfb_picture.specs.Grid.{Grid, grid_code};
-    ghost use Rattle.rfb_picture.specs.inside.PlaceSet.{layered, IsLayers};
+    ghost use Rattle.rfb_picture.specs.layout.PlaceSet.{layered, IsLayers};
 
     ghost Value = { Grid Bool };
 
@@ -47,7 +47,7 @@ impl Model for PlaceSet {
 impl PlaceSet {
     ghost use Rattle.rfb_picture.specs.Grid.{IsGrid, Holds, at_or, filled, uniform};
     ghost use Rattle.rfb_picture.specs.Box.{is_in, HasBox};
-    ghost use Rattle.rfb_picture.specs.inside.Cells.{IsOfCells};
+    ghost use Rattle.rfb_picture.specs.layout.Cells.{IsOfCells};
     ghost use Rattle.rfb_picture.specs.CellOrder.{HasNextCell, HasNextOfBoth, HasCandidate};
     ghost use Rattle.rfb_picture.specs.Places.{AllMarked, HasRowBits, HasBitsBetween, without};
 

@@ -35,7 +35,7 @@ impl Model for Plane {
     ghost use Rattle.std.specs.Coded.{coded_bool};
     ghost use Rattle.std.specs.Box.{boxed_slice_items};
     ghost use Rattle.rfb_picture.specs.Grid.{Grid, grid_code};
-    ghost use Rattle.rfb_picture.specs.inside.Plane.{plane, IsSpanned};
+    ghost use Rattle.rfb_picture.specs.layout.Plane.{plane, IsSpanned};
 
     ghost Value = { Grid Bool };
 
@@ -50,10 +50,10 @@ impl Model for Plane {
 impl Plane {
     ghost use Rattle.rfb_picture.specs.Grid.{IsGrid, Holds, at_or, filled, uniform};
     ghost use Rattle.rfb_picture.specs.Box.{is_in};
-    ghost use Rattle.rfb_picture.specs.inside.Edges.{HasEdges};
-    ghost use Rattle.rfb_picture.specs.inside.Cells.{cell_at, one_cell};
+    ghost use Rattle.rfb_picture.specs.layout.Edges.{HasEdges};
+    ghost use Rattle.rfb_picture.specs.layout.Cells.{cell_at, one_cell};
     ghost use Rattle.rfb_picture.specs.Places.{AllMarked, HasRowBits, without};
-    ghost use Rattle.rfb_picture.specs.inside.Marks.{HasNext, AreRowsClear, without_in};
+    ghost use Rattle.rfb_picture.specs.layout.Marks.{HasNext, AreRowsClear, without_in};
 
     /// No mark, at `width` by `height` places. It asks for room for all its bits, in one piece;
     /// where there is none it gives the error, and nothing is kept.

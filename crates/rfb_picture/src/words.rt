@@ -2,11 +2,11 @@
 
 ghost use Rattle.std.specs.Prelude.{◌≡◌, ◌↔◌, ◌+◌, ◌*◌, ◌/◌, ◌^◌, ◌<◌, ◌≤◌, length, IsTrue};
 ghost use Rattle.std.specs.Prelude.{slice_index_or};
-ghost use Rattle.rfb_picture.specs.inside.Plane.{has_place, HasMasked, PlacesAdded, IsBetween};
-ghost use Rattle.rfb_picture.specs.inside.Plane.{ColumnAdded, ColumnCleared, ColumnLost, RowsLost};
-ghost use Rattle.rfb_picture.specs.inside.Plane.{AreUnused};
+ghost use Rattle.rfb_picture.specs.layout.Plane.{has_place, HasMasked, PlacesAdded, IsBetween};
+ghost use Rattle.rfb_picture.specs.layout.Plane.{ColumnAdded, ColumnCleared, ColumnLost, RowsLost};
+ghost use Rattle.rfb_picture.specs.layout.Plane.{AreUnused};
 ghost use Rattle.rfb_picture.specs.Places.{AllMarked};
-ghost use Rattle.rfb_picture.specs.inside.Marks.{HasNext};
+ghost use Rattle.rfb_picture.specs.layout.Marks.{HasNext};
 
 use crate::rect::Rect;
 

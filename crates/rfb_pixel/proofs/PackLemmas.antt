@@ -7,7 +7,7 @@ use mir.Syntax.{w16}
 use mir.Val.{Fits}
 use Rattle.rfb_pixel.specs.declared.colour.Colour.{Colour}
 use Rattle.rfb_pixel.specs.Format.{IsColour, PixelFormat, pixel_of}
-use Rattle.rfb_pixel.specs.inside.Lanes.{ArePacked, colours_in, of_three}
+use Rattle.rfb_pixel.specs.bits.Lanes.{ArePacked, colours_in, of_three}
 
 -- each of eight places by itself
 pub eight_below : (P : ℕ → Type 0) → P 0 → P 1 → P 2 → P 3 → P 4 → P 5 → P 6 → P 7 → (k : ℕ) → k < 8 → P k

@@ -15,7 +15,7 @@ use Rattle.std.proofs.lemmas.Nat.{pow_below, pow_pos}
 use Rattle.std.proofs.lemmas.Bool.{cases_lt, eqb-true, leb-true, le-leb}
 use Rattle.rfb_pixel.specs.Channel.{IsField, IsMax, IsMaxOf, EndsWithin, max_of, is_max, width_of, is_apart, is_within}
 use Rattle.rfb_pixel.specs.Channel.{are_within, are_apart}
-use Rattle.rfb_pixel.specs.inside.Fields.{HasWidth}
+use Rattle.rfb_pixel.specs.bits.Fields.{HasWidth}
 use Rattle.rfb_pixel.specs.Format.{PixelFormat, IsApart, IsFormat}
 use Rattle.rfb_pixel.specs.FormatBytes.{AreBytes, Spells, number_at, field_at, red_at, green_at, blue_at, first_fault}
 use Rattle.rfb_pixel.specs.FormatBytes.{fault_of_fields, Passes, IsFirstFault, format_bytes}

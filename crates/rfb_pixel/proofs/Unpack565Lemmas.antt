@@ -12,7 +12,7 @@ use mir.Syntax.{w8}
 use mir.Val.{Fits}
 use Rattle.rfb_pixel.specs.Channel.{rescaled}
 use Rattle.rfb_pixel.specs.Format.{colour_of, rgb565}
-use Rattle.rfb_pixel.specs.inside.Lanes.{of_three}
+use Rattle.rfb_pixel.specs.bits.Lanes.{of_three}
 use Rattle.rfb_pixel.proofs.FormatLemmas.{same_colour}
 use Rattle.rfb_pixel.proofs.UnpackLemmas.{two}
 

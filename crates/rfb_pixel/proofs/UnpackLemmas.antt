@@ -17,7 +17,7 @@ use mir.Val.{Fits}
 use Rattle.rfb_pixel.specs.declared.colour.Colour.{Colour}
 use Rattle.rfb_pixel.specs.Channel.{rescaled}
 use Rattle.rfb_pixel.specs.Format.{AreColours, PixelFormat, colour_of, pixel_number, rgb888, size_of}
-use Rattle.rfb_pixel.specs.inside.Lanes.{AreUnpacked, of_three}
+use Rattle.rfb_pixel.specs.bits.Lanes.{AreUnpacked, of_three}
 use Rattle.rfb_pixel.proofs.FormatLemmas.{pixel_number-take, same_colour}
 
 -- eight places of a row are written one by one

@@ -3,4 +3,4 @@ pub mod Channel
 pub mod Format
 pub mod FormatBytes
 pub mod Rows
-pub mod inside
+pub mod bits

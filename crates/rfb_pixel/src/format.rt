@@ -11,7 +11,7 @@ ghost use Rattle.rfb_pixel.specs.Format.{KeepsFullFields, FieldsKept};
 ghost use Rattle.rfb_pixel.specs.Format.{colour_of_bytes, pixel_of_bytes, seen_in_bytes};
 ghost use Rattle.rfb_pixel.specs.FormatBytes.{AreBytes, Spells, Passes, IsFirstFault, first_fault};
 ghost use Rattle.rfb_pixel.specs.FormatBytes.{fault_of_fields, format_bytes, number_at};
-ghost use Rattle.rfb_pixel.specs.inside.Fields.{HasWidth};
+ghost use Rattle.rfb_pixel.specs.bits.Fields.{HasWidth};
 
 use crate::channel::{Channel, are_apart, are_within};
 use crate::colour::Colour;

@@ -3,7 +3,7 @@
 ghost use Rattle.std.specs.Prelude.{◌≡◌, ◌*◌, ◌<◌, ℕ, drop, length, slice_index};
 ghost use Rattle.byteorder.specs.Endian.{little_number};
 ghost use Rattle.rfb_pixel.specs.declared.colour.Colour.{Colour};
-ghost use Rattle.rfb_pixel.specs.inside.Lanes.{colours_in};
+ghost use Rattle.rfb_pixel.specs.bits.Lanes.{colours_in};
 
 use crate::colour::Colour;
 use std::simd::{u8x16, u16x8};

@@ -11,7 +11,7 @@ use Rattle.rfb_picture.specs.Grid.{Grid, IsGrid, Holds, at_or, row_of, filled}
 use Rattle.rfb_picture.specs.Box.{is_in}
 use Rattle.rfb_picture.proofs.GridLaws.{contains_more, contains_true, at-filled}
 use Rattle.rfb_server.specs.Record.{AreKnown, record_of}
-use Rattle.rfb_server.specs.inside.Twins.{AreKnownAlike}
+use Rattle.rfb_server.specs.session.Twins.{AreKnownAlike}
 use Rattle.rfb_server.proofs.RecordLemmas.{none_in_no_rows, in_next_row, other_row, at-record_of}
 use Rattle.rfb_server.proofs.RecordLemmas.{known_in}
 

@@ -12,11 +12,11 @@ use Rattle.rfb_picture.proofs.GridLaws.{at-filled, same_changes, width-changed, 
 use Rattle.rfb_picture.proofs.GridLaws.{width-uniform, height-uniform}
 use Rattle.rfb_picture.proofs.AreaLaws.{area-added}
 use Rattle.rfb_server.specs.Request.{wanted_at}
-use Rattle.rfb_server.specs.inside.Marks.{AreAlike}
+use Rattle.rfb_server.specs.session.Marks.{AreAlike}
 use Rattle.rfb_server.specs.KnownScreen.{IsCaughtUp}
 use Rattle.rfb_server.specs.Record.{forgotten}
 use Rattle.rfb_server.specs.declared.session.Session.{Session}
-use Rattle.rfb_server.specs.inside.Sessions.{IsAskedFor}
+use Rattle.rfb_server.specs.session.Sessions.{IsAskedFor}
 use Rattle.rfb_server.proofs.KeptLemmas.{alike_sent}
 use Rattle.rfb_server.proofs.MarksLemmas.{unmarked, contained}
 

@@ -6,7 +6,7 @@ use Rattle.std.proofs.lemmas.Bool.{cases_lt}
 use Rattle.std.proofs.lemmas.Bool.Decides.{nat_tests}
 use Rattle.rfb_picture.specs.declared.rect.Rect.{Rect}
 use Rattle.rfb_server.specs.Composition.{count_row, count_rows, count_in}
-use Rattle.rfb_server.specs.inside.Gains.{sum_where, counts, won_by}
+use Rattle.rfb_server.specs.update.Gains.{sum_where, counts, won_by}
 use Rattle.rfb_server.proofs.CountLemmas.{at_most}
 use Rattle.rfb_server.proofs.BitCountLemmas.{row_le}
 

@@ -19,8 +19,8 @@ use Rattle.rfb_server.specs.KnownScreen.{Follows}
 use Rattle.rfb_server.specs.Record.{ShowsKnown}
 use Rattle.rfb_server.specs.Request.{wanted_at, differs}
 use Rattle.rfb_server.specs.Server.{black}
-use Rattle.rfb_server.specs.inside.Gains.{IsKnownRow, line, claims_row, counts}
-use Rattle.rfb_server.specs.inside.Gains.{right_before, right_after, sum_where, won_by}
+use Rattle.rfb_server.specs.update.Gains.{IsKnownRow, line, claims_row, counts}
+use Rattle.rfb_server.specs.update.Gains.{right_before, right_after, sum_where, won_by}
 use Rattle.rfb_server.proofs.RightRowsLemmas.{line_same}
 use Rattle.rfb_server.proofs.ClaimedCountLemmas.{row_full, each_in_row, none_missing}
 

@@ -20,8 +20,8 @@ use Rattle.rfb_server.specs.Server.{ServerState}
 use Rattle.rfb_server.specs.Request.{wanted, recorded, is_asked, is_whole}
 use Rattle.rfb_server.specs.Cells.{cell_of}
 use Rattle.rfb_server.specs.Composition.{Part, Move, sent_as, between, HaveTheirData, IsPlace, is_in_some, Composes}
-use Rattle.rfb_server.specs.inside.Sends.{Sends}
-use Rattle.rfb_server.specs.inside.Copies.{Copies}
+use Rattle.rfb_server.specs.update.Sends.{Sends}
+use Rattle.rfb_server.specs.update.Copies.{Copies}
 
 -- each place is of a cell
 pub all_cells : (w h x y : ℕ) → x < w → y < h → cell_of (div_ceil w 64) x y < div_ceil w 64 * div_ceil h 64

@@ -17,15 +17,15 @@ use Rattle.rfb_server.specs.declared.session.Session.{Session}
 use Rattle.rfb_server.specs.Encodings.{is_listed}
 use Rattle.rfb_server.specs.Server.{ServerState}
 use Rattle.rfb_server.specs.Request.{wanted_at, is_asked, is_whole}
-use Rattle.rfb_server.specs.inside.Marks.{AreAlike}
+use Rattle.rfb_server.specs.session.Marks.{AreAlike}
 use Rattle.rfb_server.specs.KnownScreen.{Follows}
-use Rattle.rfb_server.specs.inside.Sessions.{IsSame, IsMarked}
+use Rattle.rfb_server.specs.session.Sessions.{IsSame, IsMarked}
 use Rattle.rfb_server.specs.Composition.{Part, IsGain, all_moved}
-use Rattle.rfb_server.specs.inside.Sends.{IsKept, state_of}
+use Rattle.rfb_server.specs.update.Sends.{IsKept, state_of}
 use Rattle.rfb_server.specs.declared.hint.Hint.{Hint}
 use Rattle.rfb_server.specs.UsedHints.{move_of, IsOfUse}
-use Rattle.rfb_server.specs.inside.Copies.{IsFree, IsUseful, SendsHint, KeepsMarks, IsMarkedFor, AppendsCopies}
-use Rattle.rfb_server.specs.inside.Copies.{usable_hints}
+use Rattle.rfb_server.specs.update.Copies.{IsFree, IsUseful, SendsHint, KeepsMarks, IsMarkedFor, AppendsCopies}
+use Rattle.rfb_server.specs.update.Copies.{usable_hints}
 use Rattle.rfb_server.proofs.UsingLemmas.{used_next, left_next}
 use Rattle.rfb_server.proofs.ClaimLemmas.{nothing_claimed}
 use Rattle.rfb_server.proofs.KeptLemmas.{alike_sent}

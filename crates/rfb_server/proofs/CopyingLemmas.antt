@@ -17,7 +17,7 @@ use Rattle.rfb_server.specs.Server.{ServerState}
 use Rattle.rfb_server.specs.Request.{wanted, recorded, is_asked, is_whole, differs}
 use Rattle.rfb_server.specs.Composition.{Part, Move, sent_as, between, moved, all_moved, is_right, IsGain, AllGain}
 use Rattle.rfb_server.specs.Composition.{IsCopy, AreCopies, HasItsData, IsPlace, is_in_some, IsDue}
-use Rattle.rfb_server.specs.inside.Copies.{Copies, IsCopied}
+use Rattle.rfb_server.specs.update.Copies.{Copies, IsCopied}
 use Rattle.rfb_server.proofs.SendsPushLemmas.{spelled_push, data_push, agrees_push, in_push}
 use Rattle.rfb_server.proofs.CountLemmas.{missing_in_rows}
 

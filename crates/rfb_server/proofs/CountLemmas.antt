@@ -12,7 +12,7 @@ use Rattle.rfb_codec.specs.RectData.{moved_to}
 use Rattle.rfb_server.specs.Server.{ServerState}
 use Rattle.rfb_server.specs.Request.{wanted, differs}
 use Rattle.rfb_server.specs.Composition.{Move, moved, is_right, count_row, count_rows, count_in}
-use Rattle.rfb_server.specs.inside.Copies.{is_right_from}
+use Rattle.rfb_server.specs.update.Copies.{is_right_from}
 
 -- a truth as a number
 pub byte_is : (b : Bool) → bool_byte b ≡ (if b then 1 else 0)

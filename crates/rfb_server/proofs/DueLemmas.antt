@@ -8,10 +8,10 @@ use Rattle.rfb_picture.specs.declared.rect.Rect.{Rect}
 use Rattle.rfb_picture.specs.Grid.{Grid}
 use Rattle.rfb_picture.proofs.GridLaws.{contains_true}
 use Rattle.rfb_server.specs.declared.session.Session.{Session}
-use Rattle.rfb_server.specs.inside.Needs.{HasBox, needs_of}
+use Rattle.rfb_server.specs.update.Needs.{HasBox, needs_of}
 use Rattle.rfb_server.specs.KnownScreen.{Follows}
 use Rattle.rfb_server.specs.Cells.{cell_of, IsCell}
-use Rattle.rfb_server.specs.inside.Sends.{NoneMayNeed, state_of}
+use Rattle.rfb_server.specs.update.Sends.{NoneMayNeed, state_of}
 use Rattle.rfb_server.specs.Composition.{IsDue}
 use Rattle.rfb_server.proofs.SentCells.{quiet_unless}
 use Rattle.rfb_server.proofs.ComposesLemmas.{all_cells}

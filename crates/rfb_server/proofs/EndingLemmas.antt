@@ -3,7 +3,7 @@ use Rattle.std.proofs.Common.{◌≡◌, ◌≢◌, ℕ, List, [], ◌++◌, map
 use Rattle.std.proofs.Common.{◌∙◌, take, append-nil}
 use Rattle.rfb_pixel.specs.declared.colour.Colour.{Colour}
 use Rattle.rfb_picture.specs.Grid.{Grid}
-use Rattle.rfb_wire.specs.stream.Reading.{Next, More, Got, Bad}
+use Rattle.rfb_wire.specs.stream.Prefix.{Next, More, Got, Bad}
 use Rattle.rfb_wire.specs.stream.Parts.{named}
 use Rattle.rfb_wire.specs.stream.Grammar.{ReadsAll}
 use Rattle.rfb_wire.specs.stream.Sequel.{First}
@@ -26,7 +26,7 @@ use Rattle.rfb_server.specs.Server.{Serving, ServerState, server, AsksMemory}
 use Rattle.rfb_server.specs.Progress.{fault_in}
 use Rattle.rfb_server.specs.Model.{SessionStandsFor, notes_in, notes_at}
 use Rattle.rfb_server.specs.Failed.{EndsAt, EndsAs}
-use Rattle.rfb_server.specs.inside.Slice.{StepsAs, RunsOutAs}
+use Rattle.rfb_server.specs.session.Slice.{StepsAs, RunsOutAs}
 use Rattle.rfb_server.proofs.ServerLaws.{server_machine, same_notes, session_noted}
 use Rattle.rfb_server.proofs.GreetLemmas.{IsSameBut, same_but, at_hello, quiet_stays, stays_first, told_first}
 use Rattle.rfb_server.proofs.SliceLemmas.{session_starts, not_memory, never_stands}

@@ -24,8 +24,8 @@ use Rattle.rfb_server.specs.declared.late.entrance.Entrance.{Entrance}
 use Rattle.rfb_server.specs.KnownScreen.{IsCaughtUp, Follows, IsTold}
 use Rattle.rfb_server.specs.Late.{entered}
 use Rattle.rfb_server.specs.Intake.{Takes}
-use Rattle.rfb_server.specs.inside.Marks.{AreAlike, none_known, all_marked}
-use Rattle.rfb_server.specs.inside.Slice.{FeedsAs}
+use Rattle.rfb_server.specs.session.Marks.{AreAlike, none_known, all_marked}
+use Rattle.rfb_server.specs.session.Slice.{FeedsAs}
 use Rattle.rfb_server.proofs.ClaimLemmas.{nothing_claimed}
 use Rattle.rfb_server.proofs.MarksLemmas.{in_all, caught_unseen}
 

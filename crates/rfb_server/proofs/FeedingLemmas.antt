@@ -7,7 +7,7 @@ use Rattle.rfb_picture.specs.declared.rect.Rect.{Rect}
 use Rattle.std.specs.Prelude.{Bool}
 use Rattle.rfb_picture.specs.Grid.{Grid, at_or}
 use Rattle.rfb_picture.proofs.GridLaws.{width-uniform, height-uniform}
-use Rattle.rfb_wire.specs.stream.Reading.{Next, More, Got, Bad}
+use Rattle.rfb_wire.specs.stream.Prefix.{Next, More, Got, Bad}
 use Rattle.rfb_wire.specs.stream.Parts.{named}
 use Rattle.rfb_wire.specs.stream.Sequel.{First, Second}
 use Rattle.rfb_wire.specs.stream.End.{Steps, StepsBy}
@@ -28,8 +28,8 @@ use Rattle.rfb_server.specs.Told.{ServerTold, message_told}
 use Rattle.rfb_server.specs.Server.{Serving, ServerState, server, serves, message_acts, item_told, AsksMemory}
 use Rattle.rfb_server.specs.Progress.{ProgressStandsFor}
 use Rattle.rfb_server.specs.Model.{SessionStandsFor}
-use Rattle.rfb_server.specs.inside.Sessions.{KeepsUp, KeepsRest, StaysCaughtUp, BeginsMessage, BeginsList}
-use Rattle.rfb_server.specs.inside.Sessions.{IsAskedFor, HasFormat}
+use Rattle.rfb_server.specs.session.Sessions.{KeepsUp, KeepsRest, StaysCaughtUp, BeginsMessage, BeginsList}
+use Rattle.rfb_server.specs.session.Sessions.{IsAskedFor, HasFormat}
 use Rattle.rfb_server.proofs.ClaimLemmas.{nothing_claimed}
 use Rattle.rfb_server.proofs.RecordLemmas.{none_forgotten}
 

@@ -4,7 +4,7 @@ use Rattle.std.proofs.Common.{subst, ◌∙◌}
 use Rattle.std.specs.Option.{IfSome}
 use Rattle.rfb_pixel.specs.declared.colour.Colour.{Colour}
 use Rattle.rfb_picture.specs.Grid.{Grid}
-use Rattle.rfb_wire.specs.stream.Reading.{Next, More}
+use Rattle.rfb_wire.specs.stream.Prefix.{Next, More}
 use Rattle.rfb_wire.specs.stream.Parts.{named}
 use Rattle.rfb_wire.specs.stream.Grammar.{ReadsAll}
 use Rattle.rfb_wire.specs.stream.Sequel.{First, Second, StaysFirst, past_in}
@@ -33,7 +33,7 @@ use Rattle.rfb_server.specs.Told.{step_told}
 use Rattle.rfb_server.specs.Server.{Serving, ServerState, server, serves}
 use Rattle.rfb_server.specs.Progress.{ProgressStandsFor, is_partial, progress_after}
 use Rattle.rfb_server.specs.Model.{SessionStandsFor}
-use Rattle.rfb_server.specs.inside.Sessions.{IsGreeted}
+use Rattle.rfb_server.specs.session.Sessions.{IsGreeted}
 use Rattle.rfb_server.proofs.ServerLaws.{client_bytes_laws}
 
 -- ---- points of the handshake

@@ -4,9 +4,9 @@ use Rattle.rfb_picture.specs.Grid.{Grid, IsGrid}
 use Rattle.rfb_picture.specs.Area.{Places}
 use Rattle.rfb_server.specs.declared.session.Session.{Session}
 use Rattle.rfb_codec.specs.Effect.{IsAlike}
-use Rattle.rfb_server.specs.inside.Marks.{AreAlike}
-use Rattle.rfb_server.specs.inside.Sessions.{KeepsSetting, IsSame}
-use Rattle.rfb_server.specs.inside.Sends.{IsKept}
+use Rattle.rfb_server.specs.session.Marks.{AreAlike}
+use Rattle.rfb_server.specs.session.Sessions.{KeepsSetting, IsSame}
+use Rattle.rfb_server.specs.update.Sends.{IsKept}
 
 -- what is kept by one step and by the next
 pub setting_then : (a b c : Session) → KeepsSetting a b → KeepsSetting b c → KeepsSetting a c

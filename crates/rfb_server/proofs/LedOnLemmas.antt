@@ -14,7 +14,7 @@ use Rattle.rfb_server.specs.declared.claim.Claim.{Claim}
 use Rattle.rfb_server.specs.declared.hint.Hint.{Hint}
 use Rattle.rfb_server.specs.declared.session.Session.{Session}
 use Rattle.rfb_server.specs.KnownScreen.{Follows}
-use Rattle.rfb_server.specs.inside.Copies.{FollowsHint}
+use Rattle.rfb_server.specs.update.Copies.{FollowsHint}
 use Rattle.rfb_server.specs.Claims.{IsTrue, IsClaimed, IsLedBy, IsLedOn, IsApartFrom, is_stale, is_claimed}
 use Rattle.rfb_server.specs.Request.{wanted_at}
 use Rattle.rfb_server.proofs.ClaimLemmas.{claimed_row, row_claimed}

@@ -9,7 +9,7 @@ use Rattle.rfb_wire.specs.declared.encoding.Encoding.TheVariants.{Raw, CopyRect,
 use Rattle.rfb_wire.specs.Encoding.{number_of, IsNoEncoding}
 use Rattle.rfb_wire.specs.RectStream.{encoding_of}
 use Rattle.rfb_wire.specs.Fields.{s32_at}
-use Rattle.rfb_wire.specs.stream.Reading.{Listed, More}
+use Rattle.rfb_wire.specs.stream.Prefix.{Listed, More}
 use Rattle.rfb_wire.specs.stream.Sequel.{First, Second}
 use Rattle.rfb_wire.specs.stream.End.{StepsBy}
 use Rattle.rfb_wire.specs.ClientMessage.{SetEncodings, SpellsNumber}
@@ -25,7 +25,7 @@ use Rattle.rfb_server.specs.Encodings.{with_encoding, known_among}
 use Rattle.rfb_server.specs.Server.{Serving, ServerState, server}
 use Rattle.rfb_server.specs.Progress.{ProgressStandsFor, IsListBegun}
 use Rattle.rfb_server.specs.Model.{SessionStandsFor}
-use Rattle.rfb_server.specs.inside.Sessions.{KeepsUp}
+use Rattle.rfb_server.specs.session.Sessions.{KeepsUp}
 use Rattle.rfb_server.proofs.FeedingLemmas.{IsStill, here, stands_on, steps_more, steps_told}
 
 -- ---- the encoding of a number

@@ -14,11 +14,11 @@ use Rattle.rfb_picture.proofs.GridLaws.{width-uniform, height-uniform}
 use Rattle.rfb_codec.specs.Effect.{IsAlike}
 use Rattle.rfb_server.specs.declared.session.Session.{Session}
 use Rattle.rfb_server.specs.Request.{wanted_at}
-use Rattle.rfb_server.specs.inside.Marks.{AreAlike}
+use Rattle.rfb_server.specs.session.Marks.{AreAlike}
 use Rattle.rfb_server.specs.Claims.{IsClaimed}
 use Rattle.rfb_server.specs.KnownScreen.{IsCaughtUp, IsSameOutside, Follows}
 use Rattle.rfb_server.specs.declared.hint.Hint.{Hint}
-use Rattle.rfb_server.specs.inside.Sessions.{IsSame, IsHinted, KeepsUp}
+use Rattle.rfb_server.specs.session.Sessions.{IsSame, IsHinted, KeepsUp}
 
 -- more marks are of the same places
 pub alike_marked : (known : Grid (Option ℕ)) (area : Places) (marks now : Grid Bool) (rect : Rect) →

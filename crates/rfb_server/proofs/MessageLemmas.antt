@@ -10,7 +10,7 @@ use Rattle.rfb_picture.specs.declared.rect.Rect.{Rect}
 use Rattle.rfb_picture.specs.Grid.{Grid}
 use Rattle.rfb_picture.specs.Area.{Places, added}
 use Rattle.arrayvec.specs.ArrayVec.{ArrayVec}
-use Rattle.rfb_wire.specs.stream.Reading.{More}
+use Rattle.rfb_wire.specs.stream.Prefix.{More}
 use Rattle.rfb_wire.specs.stream.Sequel.{Second}
 use Rattle.rfb_wire.specs.stream.End.{StepsBy}
 use Rattle.rfb_wire.specs.ClientHead.{SpellsSetPixelFormat, SpellsSetEncodings, SpellsRequest, SpellsKey, SpellsPointer}
@@ -33,7 +33,7 @@ use Rattle.rfb_server.specs.ClientBytes.{ClientAt}
 use Rattle.rfb_server.specs.Progress.{ProgressStandsFor, IsHeadBegun, is_head_begun}
 use Rattle.rfb_server.proofs.HeadLemmas.{begun_is, begun_misses}
 use Rattle.rfb_server.specs.Model.{SessionStandsFor}
-use Rattle.rfb_server.specs.inside.Sessions.{BeginsMessage, BeginsList, IsAskedFor, HasFormat, KeepsUp, StaysCaughtUp}
+use Rattle.rfb_server.specs.session.Sessions.{BeginsMessage, BeginsList, IsAskedFor, HasFormat, KeepsUp, StaysCaughtUp}
 use Rattle.rfb_server.proofs.FeedingLemmas.{IsStill, IsActed, in_head, stands_on, steps_more, steps_told, steps_bad}
 use Rattle.rfb_server.proofs.FeedingLemmas.{up_begun, up_then, up_asked, up_format, up_list}
 

@@ -20,7 +20,7 @@ use Rattle.rfb_picture.proofs.WordLaws.{has_bit-and, has_bit-or}
 use Rattle.rfb_server.specs.declared.session.Session.{Session}
 use Rattle.rfb_server.specs.Record.{is_known, ShowsKnown, TellsKnown}
 use Rattle.rfb_server.specs.Request.{wanted_at, differs}
-use Rattle.rfb_server.specs.inside.Needs.{TellsOther, needs_of}
+use Rattle.rfb_server.specs.update.Needs.{TellsOther, needs_of}
 use Rattle.rfb_server.specs.KnownScreen.{Follows}
 use Rattle.rfb_picture.proofs.GridLaws.{slice_index_or-row_of}
 use Rattle.rfb_server.specs.Server.{black}

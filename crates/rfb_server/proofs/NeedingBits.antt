@@ -9,7 +9,7 @@ use Rattle.std.proofs.lemmas.Nat.{pow_pos}
 use Rattle.std.proofs.lemmas.Nat.Bits.{bit_at_not, bit_at-lt, bit_at-zero, bit_at_cat_low, bit_at_cat_high}
 use Rattle.rfb_picture.specs.Places.{has_bit, HasBitsBetween, NoneInRow}
 use Rattle.rfb_picture.proofs.GatherLaws.{first_bit, last_bit}
-use Rattle.rfb_server.specs.inside.Needs.{IsFirst, IsEnd}
+use Rattle.rfb_server.specs.update.Needs.{IsFirst, IsEnd}
 
 -- ---- bits
 

@@ -10,7 +10,7 @@ use Rattle.rfb_pixel.specs.declared.colour.Colour.{Colour}
 use Rattle.rfb_picture.specs.Grid.{Grid}
 use Rattle.rfb_wire.specs.declared.client_head.ClientHead.{ClientHead}
 use Rattle.rfb_wire.specs.ClientHead.{SpellsClientHead}
-use Rattle.rfb_wire.specs.stream.Reading.{More}
+use Rattle.rfb_wire.specs.stream.Prefix.{More}
 use Rattle.rfb_wire.specs.stream.Sequel.{First, Second}
 use Rattle.rfb_wire.specs.stream.End.{RunsOut}
 use Rattle.rfb_wire.proofs.ClientStreamLaws.{client_headed}
@@ -31,7 +31,7 @@ use Rattle.rfb_server.specs.Progress.{IsHeadBegun, ProgressStandsFor}
 use Rattle.rfb_server.specs.Model.{SessionStandsFor, notes_in}
 use Rattle.rfb_server.specs.Failed.{EndsAt, EndsAs}
 use Rattle.rfb_server.specs.Counted.{IsPlacedIn}
-use Rattle.rfb_server.specs.inside.Slice.{AwaitsMore, FeedsAs, StepsAs, RunsOutAs}
+use Rattle.rfb_server.specs.session.Slice.{AwaitsMore, FeedsAs, StepsAs, RunsOutAs}
 use Rattle.rfb_server.proofs.ServerLaws.{server_machine}
 use Rattle.rfb_server.proofs.SliceLemmas.{begun_waits, progress_waits}
 use Rattle.rfb_server.proofs.EndingLemmas.{ends_refuse, ends_starve}

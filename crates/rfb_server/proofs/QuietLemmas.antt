@@ -20,9 +20,9 @@ use Rattle.rfb_server.specs.declared.session.update.gains.Judged.{Judged}
 use Rattle.rfb_server.specs.declared.session.update.quiet.Quiet.{Quiet}
 use Rattle.rfb_server.specs.declared.claim.stale.Rows.{Rows}
 use Rattle.rfb_server.specs.Claims.{is_stale}
-use Rattle.rfb_server.specs.inside.Needs.{AreQuiet, IsQuiet, is_quiet, IsPartOf, needs_of, HasBox}
-use Rattle.rfb_server.specs.inside.Sends.{IsKept, AppendsPixels}
-use Rattle.rfb_server.specs.inside.Gains.{IsJudged}
+use Rattle.rfb_server.specs.update.Needs.{AreQuiet, IsQuiet, is_quiet, IsPartOf, needs_of, HasBox}
+use Rattle.rfb_server.specs.update.Sends.{IsKept, AppendsPixels}
+use Rattle.rfb_server.specs.update.Gains.{IsJudged}
 use Rattle.rfb_server.proofs.CountLemmas.{at_most}
 use Rattle.rfb_server.proofs.SendsLemmas.{noted_at}
 

@@ -24,7 +24,7 @@ use Rattle.rfb_server.specs.Request.{wanted_at, differs}
 use Rattle.rfb_server.specs.Server.{black}
 use Rattle.rfb_server.specs.Composition.{count_row}
 use Rattle.rfb_server.specs.KnownScreen.{Follows}
-use Rattle.rfb_server.specs.inside.Gains.{MayCopy, right_before, right_after}
+use Rattle.rfb_server.specs.update.Gains.{MayCopy, right_before, right_after}
 use Rattle.rfb_server.proofs.BitCountLemmas.{row_split}
 use Rattle.rfb_server.proofs.NeedingBits.{has_bit-up}
 

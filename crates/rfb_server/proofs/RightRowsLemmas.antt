@@ -11,8 +11,8 @@ use Rattle.rfb_picture.specs.Grid.{Grid}
 use Rattle.rfb_server.specs.declared.hint.Hint.{Hint}
 use Rattle.rfb_server.specs.declared.session.Session.{Session}
 use Rattle.rfb_server.specs.Composition.{count_row, count_rows}
-use Rattle.rfb_server.specs.inside.Copies.{is_right_from}
-use Rattle.rfb_server.specs.inside.Gains.{MayCopy, line, part, right_before, right_after}
+use Rattle.rfb_server.specs.update.Copies.{is_right_from}
+use Rattle.rfb_server.specs.update.Gains.{MayCopy, line, part, right_before, right_after}
 use Rattle.rfb_server.proofs.CountLemmas.{row_same, rows_more}
 use Rattle.rfb_server.proofs.BitCountLemmas.{row_split, row_le}
 

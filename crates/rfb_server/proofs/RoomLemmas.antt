@@ -15,7 +15,7 @@ use Rattle.rfb_picture.specs.Box.{IsTight, IsClear, IsBox, HasBox, is_in}
 use Rattle.rfb_picture.specs.Grid.{Grid}
 use Rattle.rfb_picture.proofs.GridLaws.{contains_true, contains_row}
 use Rattle.rfb_server.specs.Cells.{cell_of, IsCell}
-use Rattle.rfb_server.specs.inside.Sends.{IsCost, AreCosts, may_need}
+use Rattle.rfb_server.specs.update.Sends.{IsCost, AreCosts, may_need}
 
 -- ---- sums
 

@@ -9,7 +9,7 @@ use Rattle.rfb_wire.specs.RectHead.{SpellsRectHead}
 use Rattle.rfb_codec.specs.RectData.{Pixels, SpellsData}
 use Rattle.rfb_codec.specs.Codec.{Appends}
 use Rattle.rfb_codec.specs.ByRule.{StandsIn, GivesUp}
-use Rattle.rfb_server.specs.inside.Rectangle.{AppendsIn, SendsRect}
+use Rattle.rfb_server.specs.update.Rectangle.{AppendsIn, SendsRect}
 
 pub coded_in : (stands : PixelFormat → Grid ℕ → List ℕ → Type 0) (f : PixelFormat) (rect : Rect) (encoding : Encoding)
     (block : Grid ℕ) (old mid new head : List ℕ) →

@@ -21,7 +21,7 @@ use Rattle.rfb_server.specs.Request.{wanted_at, wanted, recorded, is_asked, is_w
 use Rattle.rfb_server.specs.Cells.{cell_of, IsCell}
 use Rattle.rfb_server.specs.Composition.{Part, sent_as, between, IsPlace, HasItsData, IsBlockOf}
 use Rattle.rfb_server.specs.Composition.{IsBoxOf, is_in_some}
-use Rattle.rfb_server.specs.inside.Sends.{SendsPixels, Sends}
+use Rattle.rfb_server.specs.update.Sends.{SendsPixels, Sends}
 use Rattle.rfb_server.proofs.BoxesLemmas.{boxes_none, boxes_push}
 use Rattle.rfb_server.proofs.SendsPushLemmas.{quiet_place, spelled_push, data_push, blocks_push, agrees_push, in_push}
 

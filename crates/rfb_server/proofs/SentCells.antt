@@ -11,11 +11,11 @@ use Rattle.rfb_picture.specs.Area.{asked_at, whole_at}
 use Rattle.rfb_server.specs.declared.session.Session.{Session}
 use Rattle.rfb_server.specs.Request.{wanted_at, differs, needs_at}
 use Rattle.rfb_server.specs.Cells.{IsCell}
-use Rattle.rfb_server.specs.inside.Needs.{needs_of}
+use Rattle.rfb_server.specs.update.Needs.{needs_of}
 use Rattle.rfb_server.specs.KnownScreen.{Follows}
 use Rattle.rfb_server.specs.Composition.{Part}
-use Rattle.rfb_server.specs.inside.Sends.{IsKept, SendsPixels, SendsCell, state_of, AppendsCells, NoneMayNeed}
-use Rattle.rfb_server.specs.inside.Sends.{AreLimits, may_need}
+use Rattle.rfb_server.specs.update.Sends.{IsKept, SendsPixels, SendsCell, state_of, AppendsCells, NoneMayNeed}
+use Rattle.rfb_server.specs.update.Sends.{AreLimits, may_need}
 use Rattle.rfb_server.proofs.NeedingLemmas.{unmarked_quiet}
 use Rattle.rfb_server.proofs.SendsLemmas.{part_of, sends_start, sends_none, sends_skip, sends_some}
 

@@ -18,13 +18,13 @@ use Rattle.rfb_codec.specs.Raw.{raw_length}
 use Rattle.rfb_codec.specs.Effect.{IsAlike, IsRecorded}
 use Rattle.rfb_server.specs.declared.session.Session.{Session}
 use Rattle.rfb_server.specs.Request.{wanted_at, differs}
-use Rattle.rfb_server.specs.inside.Marks.{AreAlike}
+use Rattle.rfb_server.specs.session.Marks.{AreAlike}
 use Rattle.rfb_server.specs.KnownScreen.{IsCaughtUp, Follows}
-use Rattle.rfb_server.specs.inside.Needs.{needs_of}
+use Rattle.rfb_server.specs.update.Needs.{needs_of}
 use Rattle.rfb_server.specs.Composition.{may_send, IsForPixels}
 use Rattle.rfb_server.specs.Encodings.{preferred}
-use Rattle.rfb_server.specs.inside.Rectangle.{AppendsIn, SendsRect}
-use Rattle.rfb_server.specs.inside.Sends.{SendsPixels, AppendsPixels, may_need}
+use Rattle.rfb_server.specs.update.Rectangle.{AppendsIn, SendsRect}
+use Rattle.rfb_server.specs.update.Sends.{SendsPixels, AppendsPixels, may_need}
 use Rattle.rfb_server.proofs.NeedingLemmas.{needed_marked}
 use Rattle.rfb_server.proofs.SendsLemmas.{noted_at}
 

@@ -4,7 +4,7 @@ use Rattle.std.proofs.Math.Nat.{mul-le-mul_right}
 use Rattle.rfb_pixel.specs.Format.{PixelFormat, size_of}
 use Rattle.rfb_picture.specs.Grid.{Grid}
 use Rattle.rfb_picture.specs.declared.rect.Rect.{Rect}
-use Rattle.rfb_server.specs.inside.Rectangle.{AppendsIn, SendsRect}
+use Rattle.rfb_server.specs.update.Rectangle.{AppendsIn, SendsRect}
 use Rattle.rfb_wire.specs.declared.encoding.Encoding.{Encoding}
 use Rattle.rfb_wire.specs.declared.encoding.Encoding.TheVariants.{Raw, CopyRect, Rre, Hextile}
 use Rattle.rfb_codec.specs.Codec.{raw_of}

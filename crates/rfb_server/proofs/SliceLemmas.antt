@@ -1,7 +1,7 @@
 -- What a session takes of a slice, item by item.
 use Rattle.std.proofs.Common.{◌≡◌, ◌≢◌, ℕ, ◌+◌, ◌*◌, ◌<◌, ◌==◌, true, false, List, [], ◌∷◌, ◌++◌, Option, Some, None}
 use Rattle.std.proofs.Common.{is_some, Result, Ok, Err, length, refl, sym, ap, ◌∙◌, length-append, arith}
-use Rattle.rfb_wire.specs.stream.Reading.{Next, More, Bad}
+use Rattle.rfb_wire.specs.stream.Prefix.{Next, More, Bad}
 use Rattle.rfb_wire.specs.stream.Parts.{named}
 use Rattle.rfb_wire.specs.stream.Sequel.{First, Second}
 use Rattle.rfb_wire.specs.ClientMessage.{ClientMessage, ClientFault, BadFormat, UnknownType}
@@ -26,8 +26,8 @@ use Rattle.rfb_hello.specs.declared.server_hello.progress.Progress.TheVariants.{
 use Rattle.rfb_hello.specs.ClientHandshake.{ClientPoint, AwaitsVersion, AwaitsChoice, AwaitsInit, Begun, ClientItem}
 use Rattle.rfb_hello.specs.ClientHandshake.{FaultsClientItem, client_item}
 use Rattle.rfb_hello.specs.ServerProgress.{ProgressStandsFor as HelloProgressStandsFor}
-use Rattle.rfb_hello.specs.Pending.{client_handshake_pending}
-use Rattle.rfb_wire.specs.Pending.{client_pending, client_piece_size}
+use Rattle.rfb_hello.specs.PendingBytes.{client_handshake_pending}
+use Rattle.rfb_wire.specs.MessagePieces.{client_pending, client_piece_size}
 use Rattle.rfb_wire.specs.ClientHead.{client_head_size}
 use Rattle.rfb_wire.specs.declared.encoding.Encoding.{Encoding}
 use Rattle.arrayvec.specs.ArrayVec.{ArrayVec}
@@ -48,8 +48,8 @@ use Rattle.rfb_server.specs.Told.{seen}
 use Rattle.rfb_server.specs.Server.{Serving, server}
 use Rattle.rfb_server.specs.Progress.{ProgressStandsFor, IsHeadBegun, fault_in, is_idle}
 use Rattle.rfb_server.specs.Model.{SessionStandsFor}
-use Rattle.rfb_server.specs.inside.Slice.{StepsAs, FeedsAs}
-use Rattle.rfb_server.specs.inside.Sessions.{KeepsUp}
+use Rattle.rfb_server.specs.session.Slice.{StepsAs, FeedsAs}
+use Rattle.rfb_server.specs.session.Sessions.{KeepsUp}
 use Rattle.rfb_server.proofs.ServerLaws.{client_bytes_spelled, server_machine}
 use Rattle.rfb_server.proofs.HeadLemmas.{begun_misses}
 

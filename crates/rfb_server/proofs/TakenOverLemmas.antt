@@ -19,9 +19,9 @@ use Rattle.rfb_server.specs.KnownScreen.{Follows, IsCaughtUp}
 use Rattle.rfb_server.specs.Record.{AreKnown}
 use Rattle.rfb_server.specs.Request.{wanted_at, differs}
 use Rattle.rfb_server.specs.declared.session.update.quiet.Quiet.{Quiet}
-use Rattle.rfb_server.specs.inside.Needs.{IsQuiet, is_quiet}
-use Rattle.rfb_server.specs.inside.Sends.{NoneMayNeed, may_need, IsKept, IsNext}
-use Rattle.rfb_server.specs.inside.Twins.{IsKnownAlike, ShowsAll, TakesSome, Agree}
+use Rattle.rfb_server.specs.update.Needs.{IsQuiet, is_quiet}
+use Rattle.rfb_server.specs.update.Sends.{NoneMayNeed, may_need, IsKept, IsNext}
+use Rattle.rfb_server.specs.session.Twins.{IsKnownAlike, ShowsAll, TakesSome, Agree}
 use Rattle.rfb_hello.specs.declared.server_hello.ServerHello.{ServerHello}
 use Rattle.rfb_wire.specs.stream.Sequel.{Second}
 use Rattle.rfb_server.specs.declared.hint.Hint.{Hint}
@@ -33,14 +33,14 @@ use Rattle.rfb_server.specs.Model.{Notes, SessionStandsFor, notes_in, session_se
 use Rattle.rfb_server.specs.declared.fault.ServerFault.{ServerFault}
 use Rattle.rfb_server.specs.declared.late.entrance.Entrance.{Entrance}
 use Rattle.rfb_server.specs.Late.{entered}
-use Rattle.rfb_server.specs.inside.Ended.{progress_at}
+use Rattle.rfb_server.specs.session.Ended.{progress_at}
 use Rattle.rfb_server.specs.Progress.{is_ready, is_idle, fault_in, ProgressStandsFor, IsHeadBegun}
 use Rattle.rfb_server.specs.Server.{Serving, ServerState}
 use Rattle.rfb_server.specs.Twins.{AreTwins, HasSentTwin}
 use Rattle.rfb_server.specs.UpdateCall.{HasSent, IsUpdate, SendsUpdate}
-use Rattle.rfb_server.specs.inside.Sessions.{KeepsSetting}
-use Rattle.rfb_server.specs.inside.Twins.{HasTakenOver}
-use Rattle.rfb_server.specs.inside.Sends.{state_of}
+use Rattle.rfb_server.specs.session.Sessions.{KeepsSetting}
+use Rattle.rfb_server.specs.session.Twins.{HasTakenOver}
+use Rattle.rfb_server.specs.update.Sends.{state_of}
 use Rattle.rfb_server.proofs.ComposesLemmas.{all_cells}
 use Rattle.rfb_server.proofs.KeptLemmas.{setting_then}
 use Rattle.rfb_server.proofs.RecordLemmas.{same_values}

@@ -16,8 +16,8 @@ use Rattle.rfb_picture.specs.Places.{AllMarked}
 use Rattle.rfb_picture.proofs.GridLaws.{contains_true}
 use Rattle.rfb_server.specs.declared.session.Session.{Session}
 use Rattle.rfb_server.specs.Cells.{cell_of, IsCell}
-use Rattle.rfb_server.specs.inside.Sends.{NoneMayNeed, HasNext}
-use Rattle.rfb_server.specs.inside.Twins.{Agree, AgreeIn, AgreeBelow, AsksAll, AreKnownAlike, IsKnownAlike}
+use Rattle.rfb_server.specs.update.Sends.{NoneMayNeed, HasNext}
+use Rattle.rfb_server.specs.session.Twins.{Agree, AgreeIn, AgreeBelow, AsksAll, AreKnownAlike, IsKnownAlike}
 use Rattle.rfb_server.proofs.ComposesLemmas.{all_cells}
 use Rattle.rfb_server.proofs.RecordLemmas.{same_values}
 use Rattle.rfb_server.proofs.AlikeLemmas.{no_either}

@@ -4,11 +4,11 @@ use Rattle.rfb_pixel.specs.declared.colour.Colour.{Colour}
 use Rattle.rfb_picture.specs.Grid.{Grid}
 use Rattle.rfb_server.specs.declared.session.Session.{Session}
 use Rattle.rfb_server.specs.KnownScreen.{Follows}
-use Rattle.rfb_server.specs.inside.Sends.{IsEnough, AreLimits}
+use Rattle.rfb_server.specs.update.Sends.{IsEnough, AreLimits}
 use Rattle.rfb_server.specs.declared.claim.Claim.{Claim}
 use Rattle.rfb_server.specs.declared.hint.Hint.{Hint}
 use Rattle.rfb_server.specs.Claims.{IsClaimed}
-use Rattle.rfb_server.specs.inside.Copies.{SendsHint, FollowsHint}
+use Rattle.rfb_server.specs.update.Copies.{SendsHint, FollowsHint}
 use Rattle.rfb_server.proofs.ClaimLemmas.{nothing_claimed}
 
 -- it follows what it did

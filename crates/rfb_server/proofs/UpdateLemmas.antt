@@ -20,21 +20,21 @@ use Rattle.rfb_codec.specs.Effect.{IsAlike}
 use Rattle.circular_buffer.specs.Buffer.{Buffer}
 use Rattle.rfb_server.specs.declared.hint.Hint.{Hint}
 use Rattle.rfb_server.specs.declared.session.Session.{Session}
-use Rattle.rfb_server.specs.inside.Sessions.{IsSame}
+use Rattle.rfb_server.specs.session.Sessions.{IsSame}
 use Rattle.rfb_server.specs.Server.{ServerState}
 use Rattle.rfb_server.specs.Request.{wanted, wanted_at, recorded, is_asked, is_whole, differs}
-use Rattle.rfb_server.specs.inside.Marks.{AreAlike}
+use Rattle.rfb_server.specs.session.Marks.{AreAlike}
 use Rattle.rfb_server.specs.KnownScreen.{IsCaughtUp, Follows}
-use Rattle.rfb_server.specs.inside.Needs.{needs_of}
+use Rattle.rfb_server.specs.update.Needs.{needs_of}
 use Rattle.rfb_server.specs.Composition.{Part, Move, IsDue, Composes}
-use Rattle.rfb_server.specs.inside.Sends.{IsKept, Sends, state_of, AppendsCells, IsEnough, may_need}
-use Rattle.rfb_server.specs.inside.Copies.{Copies, AppendsCopies, usable_hints}
+use Rattle.rfb_server.specs.update.Sends.{IsKept, Sends, state_of, AppendsCells, IsEnough, may_need}
+use Rattle.rfb_server.specs.update.Copies.{Copies, AppendsCopies, usable_hints}
 use Rattle.rfb_server.specs.UsedHints.{AreUsed, usable}
 use Rattle.rfb_server.proofs.ClaimLemmas.{nothing_claimed}
 use Rattle.rfb_server.proofs.UsingLemmas.{used_all}
 use Rattle.rfb_server.specs.Progress.{is_ready}
 use Rattle.rfb_server.specs.UpdateCall.{IsUpdate}
-use Rattle.rfb_server.specs.inside.Composed.{HasComposed, StaysIdle, IsSettled, IsCounted}
+use Rattle.rfb_server.specs.update.Composed.{HasComposed, StaysIdle, IsSettled, IsCounted}
 use Rattle.rfb_server.proofs.NeedingLemmas.{differs_not}
 use Rattle.rfb_server.proofs.KeptLemmas.{setting_then, kept_then}
 use Rattle.rfb_server.proofs.SentCells.{quiet_unless}

@@ -19,11 +19,11 @@ use Rattle.rfb_server.specs.ClientBytes.{ClientAt}
 use Rattle.rfb_server.specs.Server.{Serving, ServerState}
 use Rattle.rfb_server.specs.Progress.{ProgressStandsFor, is_ready, fault_in}
 use Rattle.rfb_server.specs.Model.{SessionStandsFor, KeepsSession, Draws, with_screen}
-use Rattle.rfb_server.specs.inside.Sessions.{IsSame}
+use Rattle.rfb_server.specs.session.Sessions.{IsSame}
 use Rattle.rfb_server.specs.Composition.{IsDue}
 use Rattle.rfb_server.specs.Hints.{hints_in}
-use Rattle.rfb_server.specs.inside.Sends.{state_of}
-use Rattle.rfb_server.specs.inside.Composed.{IsAwaited, HasComposed, StaysIdle}
+use Rattle.rfb_server.specs.update.Sends.{state_of}
+use Rattle.rfb_server.specs.update.Composed.{IsAwaited, HasComposed, StaysIdle}
 use Rattle.rfb_server.specs.UpdateCall.{HasSent, IsUpdate, SendsUpdate, OwesUpdate, OwesNone, NoneDue}
 use Rattle.rfb_server.proofs.KeptLemmas.{setting_back}
 use Rattle.rfb_server.proofs.ServerLaws.{session_over, same_notes}

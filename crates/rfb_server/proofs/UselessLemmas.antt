@@ -6,8 +6,8 @@ use Rattle.rfb_pixel.specs.declared.colour.Colour.{Colour}
 use Rattle.rfb_picture.specs.Grid.{Grid}
 use Rattle.rfb_server.specs.declared.hint.Hint.{Hint}
 use Rattle.rfb_server.specs.declared.session.Session.{Session}
-use Rattle.rfb_server.specs.inside.Copies.{IsUseful, SendsHint}
-use Rattle.rfb_server.specs.inside.Sends.{IsKept}
+use Rattle.rfb_server.specs.update.Copies.{IsUseful, SendsHint}
+use Rattle.rfb_server.specs.update.Sends.{IsKept}
 
 -- no hint is said to be of none
 pub none_useless : (screen : Grid Colour) (s : Session) (useless : Option Hint) → useless ≡ None →

@@ -14,7 +14,7 @@ use Rattle.rfb_server.specs.declared.session.Session.{Session}
 use Rattle.rfb_server.specs.Claims.{IsTrue, IsSourceOf}
 use Rattle.rfb_server.specs.KnownScreen.{Follows}
 use Rattle.rfb_server.specs.Record.{ShowsKnown}
-use Rattle.rfb_server.specs.inside.Gains.{MayCopy, IsKnownRow, part}
+use Rattle.rfb_server.specs.update.Gains.{MayCopy, IsKnownRow, part}
 use Rattle.rfb_server.proofs.ClaimLemmas.{claimed_row}
 use Rattle.rfb_server.proofs.ClaimedRowLemmas.{source_is}
 

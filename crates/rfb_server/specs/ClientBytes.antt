@@ -1,17 +1,17 @@
 -- All that a client sends, RFC 6143 sections 7.1 to 7.5: its handshake, and then its messages.
 use Rattle.std.specs.Prelude.{ℕ, Bool, true, false, List, [], ◌∷◌, Option, Some, None, ⊤}
-use Rattle.rfb_wire.specs.stream.Reading.{Says}
+use Rattle.rfb_wire.specs.stream.Prefix.{Says}
 use Rattle.rfb_wire.specs.stream.Grammar.{Grammar}
 use Rattle.rfb_wire.specs.stream.Sequel.{Stage, First, Second, Two, sequel, sequel_says}
-use Rattle.rfb_wire.specs.stream.Pending.{pending_in}
-use Rattle.rfb_wire.specs.Pending.{client_pending}
+use Rattle.rfb_wire.specs.stream.PendingBytes.{pending_in}
+use Rattle.rfb_wire.specs.MessagePieces.{client_pending}
 use Rattle.rfb_wire.specs.ClientMessage.{ClientMessage, ClientFault, client_says}
 use Rattle.rfb_wire.specs.ClientStream.{client_stream}
 use Rattle.rfb_hello.specs.declared.version.Version.{Version}
 use Rattle.rfb_hello.specs.declared.fault.HelloFault.{HelloFault}
 use Rattle.rfb_hello.specs.ClientHandshake.{ClientPoint, AwaitsInit, ClientItem, ClientInit, client_handshake}
 use Rattle.rfb_hello.specs.ClientHandshake.{client_item_says}
-use Rattle.rfb_hello.specs.Pending.{client_handshake_pending}
+use Rattle.rfb_hello.specs.PendingBytes.{client_handshake_pending}
 use Rattle.rfb_server.specs.declared.fault.ServerFault.{ServerFault}
 use Rattle.rfb_server.specs.Fault.{fault_of_hello, fault_of_message}
 

@@ -7,8 +7,8 @@ use Rattle.rfb_server.specs.declared.late.entrance.Entrance.{Entrance}
 use Rattle.rfb_server.specs.declared.late.stage.Stage.{Stage}
 use Rattle.rfb_server.specs.declared.late.stage.Stage.TheVariants.{Entering, Within}
 use Rattle.rfb_server.specs.declared.session.Session.{Session}
-use Rattle.rfb_server.specs.inside.Ended.{progress_at}
-use Rattle.rfb_server.specs.inside.Marks.{none_known, all_marked}
+use Rattle.rfb_server.specs.session.Ended.{progress_at}
+use Rattle.rfb_server.specs.session.Marks.{none_known, all_marked}
 
 -- the session that an entrance is
 abbrev pub entered : Entrance → Session

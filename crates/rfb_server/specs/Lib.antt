@@ -21,4 +21,5 @@ pub mod Room
 pub mod UpdateCall
 pub mod Twins
 pub mod UsedHints
-pub mod inside
+pub mod session
+pub mod update

@@ -2,7 +2,7 @@
 use Rattle.std.specs.Prelude.{◌≡◌, ℕ, ℤ, ◌+◌, ◌<◌, min, List, [], ◌∷◌, ◌++◌, length, take, Bool, true, false, ◌&&◌}
 use Rattle.std.specs.Prelude.{◌==◌, nat_lt, Option, Some, None}
 use Rattle.rfb_wire.specs.declared.encoding.Encoding.{Encoding}
-use Rattle.rfb_wire.specs.stream.Reading.{Listed}
+use Rattle.rfb_wire.specs.stream.Prefix.{Listed}
 use Rattle.rfb_wire.specs.ClientHead.{client_head_size, SpellsSetEncodings, SpellsClientCutText}
 use Rattle.rfb_wire.specs.ClientMessage.{SpellsNumber}
 use Rattle.rfb_wire.specs.stream.Sequel.{First, Second}

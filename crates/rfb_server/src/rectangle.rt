@@ -7,8 +7,8 @@ ghost use Rattle.rfb_wire.specs.declared.encoding.Encoding.TheVariants.{Raw as R
 ghost use Rattle.rfb_codec.specs.Pixels.{HasPixels, IsSized};
 ghost use Rattle.rfb_codec.specs.Codec.{raw_of};
 ghost use Rattle.rfb_codec.specs.ByRule.{GivesUp};
-ghost use Rattle.rfb_server.specs.inside.Rectangle.{AppendsIn, SendsRect};
-ghost use Rattle.rfb_server.specs.inside.Copies.{AppendsCopy};
+ghost use Rattle.rfb_server.specs.update.Rectangle.{AppendsIn, SendsRect};
+ghost use Rattle.rfb_server.specs.update.Copies.{AppendsCopy};
 
 use rfb_codec::{Block, Codec, Hextile, Raw, Rre, spell_source};
 use rfb_picture::Rect;

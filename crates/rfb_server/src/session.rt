@@ -4,7 +4,7 @@ ghost use Rattle.std.specs.Prelude.{◌≡◌, ◌≢◌, ◌≤◌, ◌<◌, �
 ghost use Rattle.std.specs.Prelude.{IfOk};
 ghost use Rattle.std.specs.Bool.{OnTrue};
 ghost use Rattle.rfb_picture.specs.Grid.{Holds};
-ghost use Rattle.rfb_server.specs.inside.Marks.{AreAlike};
+ghost use Rattle.rfb_server.specs.session.Marks.{AreAlike};
 ghost use Rattle.rfb_server.specs.Progress.{is_partial};
 
 mod claiming;
@@ -65,7 +65,7 @@ impl Session {
     ghost use Rattle.rfb_server.specs.Strokes.{with_hint_of};
     ghost use Rattle.rfb_hello.specs.Version.{version_text};
     ghost use Rattle.rfb_server.specs.Record.{ShowsKnown, TellsKnown};
-    ghost use Rattle.rfb_server.specs.inside.Sessions.{IsMarked, IsHinted};
+    ghost use Rattle.rfb_server.specs.session.Sessions.{IsMarked, IsHinted};
 
     /// A session that was fed nothing, for screens of that size: nothing was sent, and nothing is
     /// asked. It offers versions up to `offer`, names the screen, and keeps at most `text_limit`

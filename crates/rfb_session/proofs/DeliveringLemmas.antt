@@ -24,7 +24,7 @@ use Rattle.rfb_session.specs.InFlight.{viewer_reply, server_reply}
 use Rattle.rfb_session.specs.TwoEnds.{Carries}
 use Rattle.rfb_session.specs.Network.{Network, Steps, IsReached}
 use Rattle.rfb_session.specs.LinkModel.{LinkStandsFor, ServesOver, AreNew, LinkDoes}
-use Rattle.rfb_session.specs.inside.LinkDelivery.{DeliversToViewer, DeliversToServer}
+use Rattle.rfb_session.specs.ends.LinkDelivery.{DeliversToViewer, DeliversToServer}
 use Rattle.rfb_session.proofs.NetworkLemmas.{reached_holds}
 use Rattle.rfb_session.proofs.FlightLemmas.{first_flies}
 use Rattle.rfb_session.proofs.MoveLemmas.{viewer_flight, server_flight, viewer_moves_join, server_moves_join}

@@ -17,7 +17,7 @@ use Rattle.rfb_session.specs.LinkModel.{Arrives, LinkStandsFor, LinkDoesOver, Lo
 use Rattle.rfb_session.specs.Network.{Network, Steps, Strokes}
 use Rattle.rfb_session.specs.Told.{RefusesUnless, Tells, TellsAlone}
 use Rattle.rfb_session.specs.World.{Acts, HintsAs, DrawsWorld, IsDrawing, IsRefused, IsLost, ComposesNothing, hints_in}
-use Rattle.rfb_session.specs.inside.WorldStep.{Happens, TakesNoMemory}
+use Rattle.rfb_session.specs.ends.WorldStep.{Happens, TakesNoMemory}
 use Rattle.rfb_session.proofs.EventCallLemmas.{IsEventOf, does_event, refused_event}
 use Rattle.rfb_session.proofs.WorldLemmas.{link_does, link_does_over}
 

@@ -9,7 +9,7 @@ use Rattle.rfb_session.specs.declared.event.Event.{Event}
 use Rattle.rfb_session.specs.declared.event.Event.TheVariants.{ToServer, ToViewer}
 use Rattle.rfb_session.specs.declared.link.Link.{Link}
 use Rattle.rfb_session.specs.declared.told.Told.{Told}
-use Rattle.rfb_session.specs.inside.LinkDelivery.{DeliversToServer, DeliversToViewer}
+use Rattle.rfb_session.specs.ends.LinkDelivery.{DeliversToServer, DeliversToViewer}
 use Rattle.rfb_session.specs.LinkBytes.{ActsOnBytes, ReachesSession, ReachesViewer}
 use Rattle.rfb_session.specs.LinkModel.{Arrives, LinkDoes, LosesOn, LosesToServer, LosesToViewer}
 use Rattle.rfb_session.specs.LinkModel.{server_fault_of, viewer_fault_of, to_server_on, to_viewer_on}

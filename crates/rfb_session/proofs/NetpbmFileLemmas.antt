@@ -16,7 +16,7 @@ use Rattle.rfb_session.specs.declared.netpbm.Pixmap.{Pixmap}
 use Rattle.rfb_session.specs.netpbm.File.{FailsToSpell, HasFlaw, Spells, SpellsKnown, front_of, picture_of, tail_of}
 use Rattle.rfb_session.specs.netpbm.Head.{HasHeadFlaw, IsHead}
 use Rattle.rfb_session.specs.netpbm.Places.{ArePlaces, HasPlacesFlaw}
-use Rattle.rfb_session.specs.netpbm.inside.PlacesRead.{FailsToFill}
+use Rattle.rfb_session.specs.netpbm.PlacesRead.{FailsToFill}
 use Rattle.rfb_session.proofs.NetpbmHeadLemmas.{head_once, no_head_flaw}
 
 -- ---- the front that is read at once

@@ -5,7 +5,7 @@ use Rattle.std.proofs.Common.{length-append, eq-eqb, ne_eqb, eqb-true, true≢fa
 use Rattle.std.proofs.lemmas.Bool.{cases_eq}
 use Rattle.rfb_session.specs.netpbm.Number.{AreDigits, BeginsNoDigit, IsDigit, IsGap, NextNumber, NoNumberNext}
 use Rattle.rfb_session.specs.netpbm.Number.{ends_line, is_blank, value_after, value_of}
-use Rattle.rfb_session.specs.netpbm.inside.Gaps.{FirstDigits, after_gap}
+use Rattle.rfb_session.specs.netpbm.Gaps.{FirstDigits, after_gap}
 
 -- ---- digits
 

@@ -12,7 +12,7 @@ use Rattle.rfb_session.specs.declared.netpbm.fault.PixmapError.TheVariants.{Flaw
 use Rattle.rfb_session.specs.declared.netpbm.head.Sample.{Sample}
 use Rattle.rfb_session.specs.declared.netpbm.head.Sample.TheVariants.{Byte, Word}
 use Rattle.rfb_session.specs.netpbm.Places.{ArePlaces, colours_of, colours_of_words, size_of, word_of}
-use Rattle.rfb_session.specs.netpbm.inside.PlacesRead.{FailsEnd, FailsPiece, FailsToFill, ReadPlaces}
+use Rattle.rfb_session.specs.netpbm.PlacesRead.{FailsEnd, FailsPiece, FailsToFill, ReadPlaces}
 
 -- ---- whole places
 

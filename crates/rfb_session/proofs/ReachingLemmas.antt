@@ -21,7 +21,7 @@ use Rattle.rfb_session.specs.LinkBytes.{TellsSole, ViewerEndsBy, ReachesViewer, 
 use Rattle.rfb_session.specs.LinkBytes.{IsBesideSession, IsBesideViewer, ReachesSessionBy, ReachesViewerBy}
 use Rattle.rfb_session.specs.EngineRun.{TakesNone}
 use Rattle.rfb_session.specs.ViewerActs.{viewer_driven, ViewerFeeds, ends_told}
-use Rattle.rfb_session.specs.inside.LinkDelivery.{HasHeard, EndsHearing, HasWatched, EndsWatching}
+use Rattle.rfb_session.specs.ends.LinkDelivery.{HasHeard, EndsHearing, HasWatched, EndsWatching}
 use Rattle.rfb_session.proofs.EngineRunLemmas.{feeds_none, feeds_once, feeds_then, takes_none, takes_none_then}
 use Rattle.rfb_session.proofs.DeliveringLemmas.{fed_first}
 

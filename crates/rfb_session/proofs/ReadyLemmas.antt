@@ -3,7 +3,7 @@ use Rattle.std.proofs.Common.{◌≡◌, ◌<◌, ◌^◌, ℕ, List, [], ◌∷
 use Rattle.rfb_pixel.specs.Format.{PixelFormat, IsFormat}
 use Rattle.rfb_wire.specs.declared.encoding.Encoding.{Encoding}
 use Rattle.rfb_wire.specs.Encoding.{number_of}
-use Rattle.rfb_wire.specs.stream.Reading.{Got}
+use Rattle.rfb_wire.specs.stream.Prefix.{Got}
 use Rattle.rfb_wire.specs.stream.Grammar.{ReadsAll}
 use Rattle.rfb_wire.specs.ClientMessage.{ClientMessage, SetPixelFormat, SetEncodings, SpellsClientMessage}
 use Rattle.rfb_wire.specs.ClientStream.{client_message, client_stream}

@@ -4,7 +4,7 @@ use Rattle.std.proofs.Common.{None, Result, Ok, Err, length, refl, sym, ap, â—Œâ
 use Rattle.std.specs.Io.KnownBytes.{Consumes, IsAtEnd}
 use Rattle.rfb_pixel.specs.declared.colour.Colour.{Colour}
 use Rattle.rfb_picture.specs.Grid.{Grid}
-use Rattle.rfb_wire.specs.stream.Reading.{More, Bad}
+use Rattle.rfb_wire.specs.stream.Prefix.{More, Bad}
 use Rattle.rfb_wire.specs.stream.Grammar.{ReadsAll, HasVerdict, past_all}
 use Rattle.rfb_wire.specs.stream.End.{acts, told, with_event, Takes}
 use Rattle.rfb_wire.proofs.stream_laws.GrammarLaws.{all_one, past_append, verdict_fault, verdict_one}

@@ -59,7 +59,7 @@ pub mod Watcher
 pub mod ViewOrder
 pub mod OverWire
 pub mod netpbm
-pub mod inside
+pub mod ends
 pub mod doors
 pub mod console
 pub mod relay

@@ -4,4 +4,5 @@ pub mod Number
 pub mod Head
 pub mod Places
 pub mod File
-pub mod inside
+pub mod Gaps
+pub mod PlacesRead

@@ -34,7 +34,7 @@ impl Model for Channel {
 
 impl Channel {
     ghost use Rattle.rfb_session.specs.LinkBytes.{IsCalled};
-    ghost use Rattle.rfb_session.specs.inside.Room.{IsSameSize};
+    ghost use Rattle.rfb_session.specs.ends.Room.{IsSameSize};
     ghost use Rattle.rfb_session.specs.relay.Desk.{CallsShare};
     ghost use Rattle.rfb_server.specs.Hints.{hints_in};
     ghost use Rattle.rfb_server.specs.KnownScreen.{Follows};

@@ -25,7 +25,7 @@ pub(crate) struct Latest {
 
 impl Latest {
     ghost use Rattle.rfb_session.specs.Latest.{composing_in};
-    ghost use Rattle.rfb_session.specs.inside.Room.{HasRoom};
+    ghost use Rattle.rfb_session.specs.ends.Room.{HasRoom};
 
     /// Nothing was composed yet. It asks for all the memory that it will have.
     pub(crate) fn new(alloc: Global, width: u16, height: u16) -> Result<Latest, AllocError>

@@ -3,7 +3,7 @@
 ghost use Rattle.std.specs.Prelude.{◌≡◌, ◌++◌, ℕ, List, [], length, None, IfOk, OnOk, OnErr};
 ghost use Rattle.std.specs.Prelude.{option_copied};
 ghost use Rattle.rfb_server.specs.Model.{notes_in};
-ghost use Rattle.rfb_session.specs.inside.Room.{HasRoom};
+ghost use Rattle.rfb_session.specs.ends.Room.{HasRoom};
 
 mod calling;
 mod composing;

@@ -39,7 +39,7 @@ impl World {
     ghost use Rattle.rfb_session.specs.Told.{TellsAlone};
     ghost use Rattle.rfb_session.specs.World.{Does, Acts, LosesAs, HintsAs};
     ghost use Rattle.rfb_session.specs.World.{HasFewBytes, IsDrawing};
-    ghost use Rattle.rfb_session.specs.inside.WorldStep.{Happens, TakesNoMemory};
+    ghost use Rattle.rfb_session.specs.ends.WorldStep.{Happens, TakesNoMemory};
     ghost use Rattle.rfb_session.specs.World.{IsRefused, IsLost, ComposesNothing};
     ghost use Rattle.rfb_session.specs.World.{Reaches, NeitherFailed};
     ghost use Rattle.rfb_session.specs.Headline.{IsHeadline, ShowsKnown, ShowsLatest, due_picture};

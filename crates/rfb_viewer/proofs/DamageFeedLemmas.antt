@@ -4,7 +4,7 @@ use Rattle.std.proofs.Common.{inr, refl, sym, subst, ◌∙◌, ap}
 use Rattle.rfb_pixel.specs.declared.colour.Colour.{Colour}
 use Rattle.rfb_picture.specs.declared.rect.Rect.{Rect}
 use Rattle.rfb_picture.specs.Grid.{Grid}
-use Rattle.rfb_wire.specs.stream.Reading.{Next, More, Got, Bad}
+use Rattle.rfb_wire.specs.stream.Prefix.{Next, More, Got, Bad}
 use Rattle.rfb_wire.specs.stream.Parts.{named}
 use Rattle.rfb_wire.specs.stream.Sequel.{First, Second}
 use Rattle.rfb_wire.specs.stream.End.{IsMachine, FedBy, Steps, StepsBy, RunsOutBy}
@@ -16,7 +16,7 @@ use Rattle.rfb_viewer.specs.declared.viewer.Viewer.{Viewer}
 use Rattle.rfb_viewer.specs.declared.viewer.damage.Edges.{Edges}
 use Rattle.rfb_viewer.specs.Damage.{joined_if, rect_of_damage, holds, colour_at, under_way, ended_of, damage_of, begun}
 use Rattle.rfb_viewer.specs.Damage.{damage_after, damaging, IsDamaged, IsSameOutside, KeepsDamage}
-use Rattle.rfb_viewer.specs.inside.ItemDamage.{screen_made, ended_with, Damages, KeepsOutside, EndsIn}
+use Rattle.rfb_viewer.specs.steps.ItemDamage.{screen_made, ended_with, Damages, KeepsOutside, EndsIn}
 use Rattle.rfb_viewer.specs.Failed.{ShowsLast, EndsAt}
 use Rattle.rfb_viewer.specs.Fault.{fault_of_update}
 use Rattle.rfb_viewer.specs.ServerBytes.{ServerAt, FromServer, server_bytes}

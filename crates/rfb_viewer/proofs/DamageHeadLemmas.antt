@@ -9,16 +9,16 @@ use Rattle.rfb_wire.specs.declared.fault.WireFault.{WireFault}
 use Rattle.rfb_wire.specs.declared.rect_head.RectHead.{RectHead as HeadOfRect}
 use Rattle.rfb_wire.specs.RectHead.{SpellsRectHead, IsOnScreen, IsRectFault}
 use Rattle.rfb_wire.specs.RectStream.{rect_head}
-use Rattle.rfb_wire.specs.stream.Reading.{Got, Bad}
+use Rattle.rfb_wire.specs.stream.Prefix.{Got, Bad}
 use Rattle.rfb_wire.proofs.RectStreamLaws.{rect_head_reads}
 use Rattle.rfb_hello.specs.declared.viewer_hello.ViewerHello.{ViewerHello}
 use Rattle.rfb_viewer.specs.declared.viewer.Viewer.{Viewer}
 use Rattle.rfb_viewer.specs.declared.viewer.progress.Progress.{Progress}
 use Rattle.rfb_viewer.specs.declared.viewer.progress.Progress.TheVariants.{RectHead}
 use Rattle.rfb_viewer.specs.Damage.{joined, under_way, ended_of, head_rect}
-use Rattle.rfb_viewer.specs.inside.ItemDamage.{ended_with, begun_on, DamagesAt, Damages}
-use Rattle.rfb_viewer.specs.inside.Sound.{is_sound}
-use Rattle.rfb_viewer.specs.inside.Steps.{progress_past}
+use Rattle.rfb_viewer.specs.steps.ItemDamage.{ended_with, begun_on, DamagesAt, Damages}
+use Rattle.rfb_viewer.specs.steps.Sound.{is_sound}
+use Rattle.rfb_viewer.specs.steps.Steps.{progress_past}
 use Rattle.rfb_viewer.proofs.DamageLemmas.{head_short}
 
 -- after a rectangle none is under way, and there is a screen

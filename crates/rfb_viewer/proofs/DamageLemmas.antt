@@ -12,7 +12,7 @@ use Rattle.rfb_picture.proofs.GridLaws.{contains_true}
 use Rattle.rfb_wire.specs.declared.fault.WireFault.{WireFault}
 use Rattle.rfb_wire.specs.declared.rect_head.RectHead.{RectHead as HeadOfRect}
 use Rattle.rfb_wire.specs.RectStream.{rect_head}
-use Rattle.rfb_wire.specs.stream.Reading.{Next, More, Got, Bad}
+use Rattle.rfb_wire.specs.stream.Prefix.{Next, More, Got, Bad}
 use Rattle.rfb_wire.specs.stream.Sequel.{First, Second}
 use Rattle.rfb_wire.proofs.RectStreamLaws.{rect_head_reads}
 use Rattle.rfb_wire.proofs.stream_laws.PartLaws.{piece_short}
@@ -29,7 +29,7 @@ use Rattle.rfb_viewer.specs.declared.viewer.progress.Progress.TheVariants.{CutTe
 use Rattle.rfb_viewer.specs.declared.fault.ViewerFault.{ViewerFault}
 use Rattle.rfb_viewer.specs.Damage.{edges_of, rect_between, outermost, joined, joined_if, rect_of_damage, holds}
 use Rattle.rfb_viewer.specs.Damage.{under_way, head_rect, begun_next, begun, item_damage}
-use Rattle.rfb_viewer.specs.inside.ItemDamage.{ended_with}
+use Rattle.rfb_viewer.specs.steps.ItemDamage.{ended_with}
 use Rattle.rfb_viewer.specs.ServerBytes.{ServerAt}
 use Rattle.rfb_viewer.specs.Viewer.{Viewing}
 use Rattle.rfb_viewer.specs.Progress.{ProgressStandsFor, fault_in}

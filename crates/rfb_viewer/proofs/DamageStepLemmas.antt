@@ -8,7 +8,7 @@ use Rattle.rfb_picture.specs.Rect.{rect, contains}
 use Rattle.rfb_picture.specs.Grid.{Grid, uniform}
 use Rattle.rfb_picture.proofs.GridLaws.{width-uniform, height-uniform}
 use Rattle.rfb_wire.specs.RectStream.{rect_head}
-use Rattle.rfb_wire.specs.stream.Reading.{Next, More, Got, Bad}
+use Rattle.rfb_wire.specs.stream.Prefix.{Next, More, Got, Bad}
 use Rattle.rfb_wire.specs.stream.Parts.{named}
 use Rattle.rfb_wire.specs.stream.Sequel.{First, Second}
 use Rattle.rfb_codec.specs.UpdateStream.{UpdatePoint, UpdateItem, Message, Rectangle, update_stream}
@@ -27,7 +27,7 @@ use Rattle.rfb_viewer.specs.declared.viewer.progress.Progress.TheVariants.{Hands
 use Rattle.rfb_viewer.specs.declared.viewer.progress.Progress.TheVariants.{CutText, Failed}
 use Rattle.rfb_viewer.specs.Damage.{joined_if, rect_of_damage, holds, colour_at, under_way, ended_of, head_rect}
 use Rattle.rfb_viewer.specs.Damage.{begun_next, begun, step_damage, item_damage, damage_after}
-use Rattle.rfb_viewer.specs.inside.ItemDamage.{screen_made, ended_with, begun_on, DamagesAt}
+use Rattle.rfb_viewer.specs.steps.ItemDamage.{screen_made, ended_with, begun_on, DamagesAt}
 use Rattle.rfb_viewer.specs.Fault.{fault_of_hello, fault_of_update}
 use Rattle.rfb_viewer.specs.Progress.{ProgressStandsFor, IsScreenAt, IsReadyAt, Stores}
 use Rattle.rfb_viewer.specs.ServerBytes.{ServerAt, FromServer, server_bytes}

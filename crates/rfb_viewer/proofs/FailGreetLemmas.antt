@@ -35,7 +35,7 @@ use Rattle.rfb_viewer.specs.declared.viewer.progress.Progress.TheVariants.{Hands
 use Rattle.rfb_viewer.specs.Fault.{fault_of_hello}
 use Rattle.rfb_viewer.specs.ServerBytes.{ServerAt, server_bytes}
 use Rattle.rfb_viewer.specs.Viewer.{Viewing, ViewerState, AsksMemory}
-use Rattle.rfb_viewer.specs.inside.ItemDamage.{EndsHere}
+use Rattle.rfb_viewer.specs.steps.ItemDamage.{EndsHere}
 use Rattle.rfb_viewer.specs.Progress.{IsScreenAt}
 use Rattle.rfb_viewer.specs.Model.{StandsFor, offered_of}
 use Rattle.rfb_viewer.specs.Offer.{LeadsToOffer, IsOfferedAt, KeepsOffer, IsOfferOn}

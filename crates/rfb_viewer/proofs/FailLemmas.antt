@@ -13,7 +13,7 @@ use Rattle.rfb_wire.specs.declared.fault.WireFault.{WireFault}
 use Rattle.rfb_wire.specs.declared.fault.WireFault.TheVariants.{UnknownMessage as WireMessage}
 use Rattle.rfb_wire.specs.declared.fault.WireFault.TheVariants.{UnknownEncoding as WireEncoding}
 use Rattle.rfb_wire.specs.declared.fault.WireFault.TheVariants.{RectOutside as WireOutside}
-use Rattle.rfb_wire.specs.stream.Reading.{Next, More, Got, Bad}
+use Rattle.rfb_wire.specs.stream.Prefix.{Next, More, Got, Bad}
 use Rattle.rfb_wire.specs.stream.End.{FedBy, RunsOutBy, Steps, StepsBy}
 use Rattle.rfb_wire.proofs.stream_laws.FeedLaws.{runs_out_later}
 use Rattle.rfb_codec.specs.declared.fault.PaintFault.{PaintFault}
@@ -38,8 +38,8 @@ use Rattle.rfb_viewer.specs.declared.viewer.progress.Progress.TheVariants.{Head,
 use Rattle.rfb_viewer.specs.Fault.{fault_of_wire, fault_of_paint}
 use Rattle.rfb_viewer.specs.ServerBytes.{ServerAt, FromServer}
 use Rattle.rfb_viewer.specs.Viewer.{Viewing, ViewerState, viewer, AsksMemory}
-use Rattle.rfb_viewer.specs.inside.ItemDamage.{EndsHere, EndsIn}
-use Rattle.rfb_viewer.specs.inside.Steps.{AsksAfter}
+use Rattle.rfb_viewer.specs.steps.ItemDamage.{EndsHere, EndsIn}
+use Rattle.rfb_viewer.specs.steps.Steps.{AsksAfter}
 use Rattle.rfb_viewer.specs.Progress.{IsHeadBegun}
 use Rattle.rfb_viewer.specs.Model.{StandsFor, offered_of, picture_of}
 use Rattle.rfb_viewer.specs.Told.{ViewerTold, Reply as Answer}

@@ -5,7 +5,7 @@ use Rattle.arrayvec.specs.ArrayVec.{ArrayVec}
 use Rattle.rfb_pixel.specs.declared.colour.Colour.{Colour}
 use Rattle.rfb_pixel.specs.Format.{PixelFormat}
 use Rattle.rfb_picture.specs.Grid.{Grid, uniform}
-use Rattle.rfb_wire.specs.stream.Reading.{Next, More, Got}
+use Rattle.rfb_wire.specs.stream.Prefix.{Next, More, Got}
 use Rattle.rfb_wire.specs.stream.Parts.{named}
 use Rattle.rfb_wire.specs.stream.Sequel.{First, Second, turn, past_in}
 use Rattle.rfb_wire.specs.stream.End.{acts, EndsWith, Takes, FedBy, Steps, StepsBy}
@@ -41,7 +41,7 @@ use Rattle.rfb_viewer.specs.Viewer.{Viewing, ViewerState, viewer, shows, told_at
 use Rattle.rfb_viewer.specs.Viewer.{ends_update, black}
 use Rattle.rfb_viewer.specs.Progress.{ProgressStandsFor, Stores, IsScreenAt}
 use Rattle.rfb_viewer.specs.Model.{StandsFor, is_outstanding}
-use Rattle.rfb_viewer.specs.inside.Steps.{at_message, screen_or}
+use Rattle.rfb_viewer.specs.steps.Steps.{at_message, screen_or}
 use Rattle.rfb_viewer.proofs.LendLemmas.{hello_unreasoned}
 use Rattle.rfb_viewer.proofs.MessageLemmas.{here}
 

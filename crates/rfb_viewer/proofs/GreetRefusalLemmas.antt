@@ -3,7 +3,7 @@ use Rattle.std.proofs.Common.{◌≡◌, ℕ, inl, inr, true, List, [], ◌++◌
 use Rattle.std.proofs.Common.{◌∙◌, ap, append-nil, append_assoc, take-append-drop}
 use Rattle.rfb_pixel.specs.declared.colour.Colour.{Colour}
 use Rattle.rfb_picture.specs.Grid.{Grid, uniform}
-use Rattle.rfb_wire.specs.stream.Reading.{Bad}
+use Rattle.rfb_wire.specs.stream.Prefix.{Bad}
 use Rattle.rfb_wire.specs.stream.Parts.{named}
 use Rattle.rfb_wire.specs.stream.Sequel.{First}
 use Rattle.rfb_wire.specs.stream.End.{acts, FedBy, RefusedBy, RunsOutBy}
@@ -26,7 +26,7 @@ use Rattle.rfb_hello.specs.ViewerModel.{StandsFor as HelloStandsFor, is_open}
 use Rattle.rfb_hello.proofs.ServerStreamLaws.{server_handshake_spelled}
 use Rattle.rfb_hello.proofs.ToldOfLaws.{screen_at, viewer_ready_at}
 use Rattle.rfb_viewer.specs.declared.fault.ViewerFault.TheVariants.{NoMemory}
-use Rattle.rfb_viewer.specs.inside.Sound.{is_sound}
+use Rattle.rfb_viewer.specs.steps.Sound.{is_sound}
 use Rattle.rfb_viewer.specs.declared.viewer.Viewer.{Viewer}
 use Rattle.rfb_viewer.specs.declared.viewer.progress.Progress.{Progress}
 use Rattle.rfb_viewer.specs.declared.viewer.progress.Progress.TheVariants.{Handshake}

@@ -30,10 +30,10 @@ use Rattle.rfb_viewer.specs.Moved.{moved_of}
 use Rattle.rfb_viewer.specs.Offer.{TakesOffer}
 use Rattle.rfb_viewer.specs.Progress.{IsScreenAt, fault_in}
 use Rattle.rfb_viewer.specs.Told.{seen, Reply as ReplyTold, Ready as ReadyTold}
-use Rattle.rfb_viewer.specs.inside.FedBytes.{StepsOn}
-use Rattle.rfb_viewer.specs.inside.ItemDamage.{DamagesAt, screen_made}
-use Rattle.rfb_viewer.specs.inside.StepPromises.{Takes, Fails}
-use Rattle.rfb_viewer.specs.inside.Steps.{TellsScreen, at_message, screen_or}
+use Rattle.rfb_viewer.specs.steps.FedBytes.{StepsOn}
+use Rattle.rfb_viewer.specs.steps.ItemDamage.{DamagesAt, screen_made}
+use Rattle.rfb_viewer.specs.steps.StepPromises.{Takes, Fails}
+use Rattle.rfb_viewer.specs.steps.Steps.{TellsScreen, at_message, screen_or}
 use Rattle.rfb_viewer.proofs.FailGreetLemmas.{answer_offers, fed_keeps, screen_ends}
 use Rattle.rfb_viewer.proofs.GreetLemmas.{IsGreeted, greet_more, greet_reply, greet_screen, greet_ready}
 use Rattle.rfb_viewer.proofs.GreetRefusalLemmas.{ready_told, screen_asks, screen_told, still_open}

@@ -6,7 +6,7 @@ use Rattle.std.proofs.lemmas.List.{length-take-le, take_all, length-replicate}
 use Rattle.rfb_wire.specs.declared.server_head.ServerHead.{ServerHead}
 use Rattle.rfb_wire.specs.stream.Heads.{Misses}
 use Rattle.rfb_wire.specs.ServerHead.{SpellsServerHead, server_head_size}
-use Rattle.rfb_wire.specs.stream.Reading.{More}
+use Rattle.rfb_wire.specs.stream.Prefix.{More}
 use Rattle.rfb_wire.specs.ServerMessage.{server_message}
 use Rattle.rfb_wire.proofs.stream_laws.HeadLaws.{misses_rest}
 use Rattle.rfb_wire.proofs.ServerLaws.{server-sizes, server-spelled}

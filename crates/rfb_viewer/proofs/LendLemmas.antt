@@ -6,20 +6,20 @@ use Rattle.arrayvec.specs.ArrayVec.{ArrayVec}
 use Rattle.rfb_pixel.specs.declared.colour.Colour.{Colour}
 use Rattle.rfb_picture.specs.Grid.{Grid}
 use Rattle.rfb_wire.specs.ServerHead.{server_head_size}
-use Rattle.rfb_wire.specs.Pending.{server_pending, server_piece_size}
-use Rattle.rfb_wire.specs.stream.Pending.{in_pieces}
+use Rattle.rfb_wire.specs.MessagePieces.{server_pending, server_piece_size}
+use Rattle.rfb_wire.specs.stream.PendingBytes.{in_pieces}
 use Rattle.rfb_wire.specs.stream.Sequel.{First, Second}
 use Rattle.rfb_wire.proofs.PendingLaws.{server_text_pending}
 use Rattle.rfb_wire.proofs.stream_laws.PendingLaws.{head_pending, past_head}
 use Rattle.rfb_codec.specs.Front.{ShowsFront}
 use Rattle.rfb_codec.specs.Painter.{Painting}
-use Rattle.rfb_codec.specs.Pending.{update_pending, data_pending}
+use Rattle.rfb_codec.specs.PendingBytes.{update_pending, data_pending}
 use Rattle.rfb_codec.specs.UnderWay.{UnderWay}
 use Rattle.rfb_codec.specs.UpdateStream.{UpdatePoint}
 use Rattle.rfb_codec.proofs.PendingLaws.{message_pending_next, short_head_pending, data_pending_next}
 use Rattle.rfb_codec.proofs.FrontPendingLaws.{kept_is_pending, stands_shows}
 use Rattle.rfb_hello.specs.KeptText.{KeptText, no_text}
-use Rattle.rfb_hello.specs.Pending.{server_handshake_pending}
+use Rattle.rfb_hello.specs.PendingBytes.{server_handshake_pending}
 use Rattle.rfb_hello.specs.ServerHandshake.{ServerPoint}
 use Rattle.rfb_hello.specs.ViewerModel.{StandsFor as HelloStandsFor, reason_of as hello_reason}
 use Rattle.rfb_hello.specs.ViewerProgress.{ProgressStandsFor as HelloProgressStandsFor, reason_in}
@@ -30,7 +30,7 @@ use Rattle.rfb_viewer.specs.declared.viewer.progress.Progress.{Progress}
 use Rattle.rfb_viewer.specs.declared.viewer.progress.Progress.TheVariants.{Handshake, Head, RectHead, Data, Colours}
 use Rattle.rfb_viewer.specs.declared.viewer.progress.Progress.TheVariants.{CutText}
 use Rattle.rfb_viewer.specs.ServerBytes.{ServerAt, is_between, server_bytes_pending}
-use Rattle.rfb_viewer.specs.inside.Sound.{is_idle}
+use Rattle.rfb_viewer.specs.steps.Sound.{is_idle}
 use Rattle.rfb_viewer.specs.Viewer.{Viewing}
 use Rattle.rfb_viewer.specs.ShownPieces.{ShowsPieces, ShowsAt}
 use Rattle.rfb_viewer.specs.Progress.{ProgressStandsFor, IsHeadBegun, IsPainting, fault_in}

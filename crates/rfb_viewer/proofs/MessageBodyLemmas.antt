@@ -4,7 +4,7 @@ use Rattle.std.proofs.Common.{Some, None, Ok, length, take, drop, min, refl, sym
 use Rattle.std.proofs.Common.{arith, length-append, append_assoc, take-append-drop, length-drop}
 use Rattle.std.proofs.lemmas.List.{length-take-le}
 use Rattle.rfb_wire.specs.ServerHead.{SpellsColourMap, SpellsServerCutText}
-use Rattle.rfb_wire.specs.stream.Reading.{Listed}
+use Rattle.rfb_wire.specs.stream.Prefix.{Listed}
 use Rattle.rfb_wire.specs.ServerMessage.{MapColour, SetColorMapEntries}
 use Rattle.rfb_wire.specs.ServerMessage.{ServerCutText, SpellsMapColour}
 use Rattle.rfb_wire.specs.ServerMessage.{map_colour_of}
@@ -20,7 +20,7 @@ use Rattle.rfb_viewer.specs.Told.{ColourMapSkipped, CutText as CutTextTold}
 use Rattle.rfb_viewer.specs.Viewer.{Viewing, viewer}
 use Rattle.rfb_viewer.specs.Model.{StandsFor}
 use Rattle.rfb_viewer.specs.Progress.{AreColoursBegun, IsTextBegun}
-use Rattle.rfb_viewer.specs.inside.Steps.{at_message}
+use Rattle.rfb_viewer.specs.steps.Steps.{at_message}
 use Rattle.rfb_viewer.proofs.StepLemmas.{IsMade, more_step, got_step}
 use Rattle.rfb_viewer.proofs.MessageLemmas.{here, at_colours, at_text, part_stands, next_stands, got_whole}
 

@@ -12,7 +12,7 @@ use Rattle.rfb_wire.specs.declared.fault.WireFault.{WireFault}
 use Rattle.rfb_wire.specs.declared.fault.WireFault.TheVariants.{UnknownMessage, UnknownEncoding, RectOutside}
 use Rattle.rfb_wire.specs.Heads.{IsUnknown}
 use Rattle.rfb_wire.specs.ServerHead.{SpellsServerHead}
-use Rattle.rfb_wire.specs.stream.Reading.{More, Got}
+use Rattle.rfb_wire.specs.stream.Prefix.{More, Got}
 use Rattle.rfb_wire.specs.ServerMessage.{ServerMessage, FramebufferUpdate, SetColorMapEntries, Bell}
 use Rattle.rfb_wire.specs.ServerMessage.{ServerCutText, UnknownType, SpellsServerMessage}
 use Rattle.rfb_wire.specs.ServerMessage.{server_message}
@@ -34,8 +34,8 @@ use Rattle.rfb_viewer.specs.Told.{ViewerTold, ColourMapSkipped, CutText as CutTe
 use Rattle.rfb_viewer.specs.Viewer.{Viewing, ViewerState, viewer, shows, AsksAt, AsksMemory}
 use Rattle.rfb_viewer.specs.Progress.{ProgressStandsFor, IsReadyAt, Stores, IsHeadBegun, AreColoursBegun, IsTextBegun}
 use Rattle.rfb_viewer.specs.Model.{StandsFor, is_outstanding}
-use Rattle.rfb_viewer.specs.inside.Steps.{at_message, progress_past, told_past, request_past, progress_after}
-use Rattle.rfb_viewer.specs.inside.Steps.{told_after, request_after, AsksAfter}
+use Rattle.rfb_viewer.specs.steps.Steps.{at_message, progress_past, told_past, request_past, progress_after}
+use Rattle.rfb_viewer.specs.steps.Steps.{told_after, request_after, AsksAfter}
 use Rattle.rfb_viewer.proofs.StepLemmas.{IsMade, made_stands, ready_same, more_step, got_step, bad_step, past_stands}
 use Rattle.rfb_viewer.proofs.StepLemmas.{past_progress, past_request, past_told}
 use Rattle.rfb_viewer.proofs.HeadLemmas.{begun_waits}

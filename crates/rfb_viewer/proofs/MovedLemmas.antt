@@ -8,7 +8,7 @@ use Rattle.rfb_picture.specs.declared.rect.Rect.{Rect}
 use Rattle.rfb_picture.specs.Grid.{Grid}
 use Rattle.rfb_wire.specs.declared.encoding.Encoding.{Encoding}
 use Rattle.rfb_wire.specs.declared.rect_head.RectHead.{RectHead as HeadOfRect}
-use Rattle.rfb_wire.specs.stream.Reading.{Next, More, Got, Bad}
+use Rattle.rfb_wire.specs.stream.Prefix.{Next, More, Got, Bad}
 use Rattle.rfb_wire.specs.stream.Parts.{named}
 use Rattle.rfb_wire.specs.stream.Sequel.{First, Second}
 use Rattle.rfb_wire.specs.stream.End.{IsMachine, FedBy, Steps, StepsBy, RunsOutBy}
@@ -40,10 +40,10 @@ use Rattle.rfb_viewer.specs.Model.{StandsFor, picture_of, fault_of, making_of, o
 use Rattle.rfb_viewer.specs.Offer.{TakesOffer}
 use Rattle.rfb_viewer.specs.Told.{ViewerTold, seen}
 use Rattle.rfb_viewer.specs.Viewer.{Viewing, ViewerState, viewer, shows}
-use Rattle.rfb_viewer.specs.inside.ItemMoves.{moves_by, MovesTo, Moves}
-use Rattle.rfb_viewer.specs.inside.FedBytes.{StepsOn}
-use Rattle.rfb_viewer.specs.inside.ItemDamage.{Damages, DamagesAt, EndsIn}
-use Rattle.rfb_viewer.specs.inside.StepPromises.{Takes}
+use Rattle.rfb_viewer.specs.steps.ItemMoves.{moves_by, MovesTo, Moves}
+use Rattle.rfb_viewer.specs.steps.FedBytes.{StepsOn}
+use Rattle.rfb_viewer.specs.steps.ItemDamage.{Damages, DamagesAt, EndsIn}
+use Rattle.rfb_viewer.specs.steps.StepPromises.{Takes}
 use Rattle.rfb_viewer.proofs.DamageLemmas.{fresh_begun, under_begun}
 use Rattle.rfb_viewer.proofs.FeedLemmas.{stands_waits}
 use Rattle.rfb_viewer.proofs.MessageLemmas.{here}

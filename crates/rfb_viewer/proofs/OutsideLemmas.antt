@@ -13,7 +13,7 @@ use Rattle.rfb_picture.specs.Rect.{contains}
 use Rattle.rfb_picture.specs.Grid.{Grid, at_or, by_index, changed}
 use Rattle.rfb_picture.proofs.GridLaws.{width-changed, contains_true}
 use Rattle.rfb_wire.specs.declared.encoding.Encoding.{Encoding}
-use Rattle.rfb_wire.specs.stream.Reading.{Next, More, Got, Bad}
+use Rattle.rfb_wire.specs.stream.Prefix.{Next, More, Got, Bad}
 use Rattle.rfb_codec.specs.declared.fault.PaintFault.{PaintFault}
 use Rattle.rfb_codec.proofs.EffectLaws.{effect_picture}
 use Rattle.rfb_codec.specs.Effect.{painted_by, effect}

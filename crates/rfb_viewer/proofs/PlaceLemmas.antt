@@ -7,7 +7,7 @@ use Rattle.arrayvec.specs.ArrayVec.{ArrayVec}
 use Rattle.rfb_pixel.specs.declared.colour.Colour.{Colour}
 use Rattle.rfb_picture.specs.Grid.{Grid}
 use Rattle.rfb_wire.specs.declared.rect_head.RectHead.{RectHead as HeadOfRect}
-use Rattle.rfb_wire.specs.stream.Reading.{Next, More, Bad}
+use Rattle.rfb_wire.specs.stream.Prefix.{Next, More, Bad}
 use Rattle.rfb_wire.specs.stream.End.{FedBy, RefusedBy, RunsOut, RunsOutBy}
 use Rattle.rfb_wire.proofs.stream_laws.EndLaws.{runs_out_more}
 use Rattle.rfb_wire.proofs.stream_laws.FeedLaws.{take_add, step_refuses, refused_more}
@@ -40,10 +40,10 @@ use Rattle.rfb_viewer.specs.ServerBytes.{ServerAt, server_bytes}
 use Rattle.rfb_viewer.specs.Model.{StandsFor, offered_of}
 use Rattle.rfb_viewer.specs.Told.{ViewerTold, Reply, seen}
 use Rattle.rfb_viewer.specs.Viewer.{Viewing, ViewerState, viewer, AsksMemory}
-use Rattle.rfb_viewer.specs.inside.ItemDamage.{Damages, DamagesAt, EndsIn}
-use Rattle.rfb_viewer.specs.inside.FedBytes.{StepsOn, RefusesBy, StarvesBy}
-use Rattle.rfb_viewer.specs.inside.ItemMoves.{Moves}
-use Rattle.rfb_viewer.specs.inside.StepPromises.{Steps}
+use Rattle.rfb_viewer.specs.steps.ItemDamage.{Damages, DamagesAt, EndsIn}
+use Rattle.rfb_viewer.specs.steps.FedBytes.{StepsOn, RefusesBy, StarvesBy}
+use Rattle.rfb_viewer.specs.steps.ItemMoves.{Moves}
+use Rattle.rfb_viewer.specs.steps.StepPromises.{Steps}
 use Rattle.rfb_viewer.proofs.FailLemmas.{paint_other}
 use Rattle.rfb_viewer.proofs.FeedLemmas.{stands_waits, second_waits}
 use Rattle.rfb_viewer.proofs.MessageLemmas.{here}

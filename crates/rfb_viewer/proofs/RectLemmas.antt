@@ -10,7 +10,7 @@ use Rattle.rfb_picture.specs.Grid.{Grid}
 use Rattle.rfb_wire.specs.declared.rect_head.RectHead.{RectHead as HeadOfRect}
 use Rattle.rfb_wire.specs.declared.fault.WireFault.{WireFault}
 use Rattle.rfb_wire.specs.RectHead.{SpellsRectHead, IsOnScreen, IsRectFault}
-use Rattle.rfb_wire.specs.stream.Reading.{More, Got, Bad}
+use Rattle.rfb_wire.specs.stream.Prefix.{More, Got, Bad}
 use Rattle.rfb_wire.specs.stream.Sequel.{First, Second}
 use Rattle.rfb_wire.specs.stream.End.{StepsBy}
 use Rattle.rfb_codec.specs.declared.fault.PaintFault.{PaintFault}
@@ -30,7 +30,7 @@ use Rattle.rfb_viewer.specs.Told.{ViewerTold}
 use Rattle.rfb_viewer.specs.Viewer.{Viewing, ViewerState, viewer, shows}
 use Rattle.rfb_viewer.specs.Progress.{fault_in, ProgressStandsFor, IsReadyAt, Stores, IsPainting}
 use Rattle.rfb_viewer.specs.Model.{StandsFor}
-use Rattle.rfb_viewer.specs.inside.Steps.{progress_past, told_past, request_past}
+use Rattle.rfb_viewer.specs.steps.Steps.{progress_past, told_past, request_past}
 use Rattle.rfb_viewer.proofs.StepLemmas.{IsMade, made_stands, ready_same, more_step, got_step, bad_step, past_stands}
 use Rattle.rfb_viewer.proofs.StepLemmas.{past_progress, past_request, past_told, one_left}
 use Rattle.rfb_viewer.proofs.MessageLemmas.{here}

@@ -24,9 +24,9 @@ use Rattle.rfb_viewer.specs.Model.{making_of, offered_of, taken_of}
 use Rattle.rfb_viewer.specs.Moved.{moved_if, moved_of}
 use Rattle.rfb_viewer.specs.Progress.{fault_in}
 use Rattle.rfb_viewer.specs.Told.{seen}
-use Rattle.rfb_viewer.specs.inside.ItemDamage.{Damages, EndsHere}
-use Rattle.rfb_viewer.specs.inside.StepPromises.{Fails, Takes}
-use Rattle.rfb_viewer.specs.inside.Steps.{progress_past, request_past, told_past}
+use Rattle.rfb_viewer.specs.steps.ItemDamage.{Damages, EndsHere}
+use Rattle.rfb_viewer.specs.steps.StepPromises.{Fails, Takes}
+use Rattle.rfb_viewer.specs.steps.Steps.{progress_past, request_past, told_past}
 use Rattle.rfb_viewer.proofs.DamageHeadLemmas.{head_damages, past_none}
 use Rattle.rfb_viewer.proofs.FailLemmas.{opened_ends}
 use Rattle.rfb_viewer.proofs.MovedLemmas.{rect_moves, under_takes}

@@ -12,7 +12,7 @@ use Rattle.rfb_wire.specs.declared.client_head.ClientHead.TheVariants.{SetEncodi
 use Rattle.rfb_wire.specs.Encoding.{number_of}
 use Rattle.rfb_wire.specs.ClientHead.{SpellsSetEncodings, client_head_bytes}
 use Rattle.rfb_wire.specs.ClientMessage.{SpellsFormatMessage, SpellsNumber, SpellsEncodingsMessage, SpellsTextMessage}
-use Rattle.rfb_wire.specs.stream.Reading.{Listed}
+use Rattle.rfb_wire.specs.stream.Prefix.{Listed}
 use Rattle.rfb_viewer.specs.Messages.{format_message, encoding_bytes, encodings_message, text_message}
 
 -- SetPixelFormat

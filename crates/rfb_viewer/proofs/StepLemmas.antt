@@ -7,7 +7,7 @@ use Rattle.rfb_pixel.specs.declared.colour.Colour.{Colour}
 use Rattle.rfb_pixel.specs.Format.{PixelFormat}
 use Rattle.rfb_picture.specs.Grid.{Grid}
 use Rattle.rfb_wire.specs.declared.encoding.Encoding.{Encoding}
-use Rattle.rfb_wire.specs.stream.Reading.{Next, More, Got, Bad}
+use Rattle.rfb_wire.specs.stream.Prefix.{Next, More, Got, Bad}
 use Rattle.rfb_wire.specs.stream.Parts.{named}
 use Rattle.rfb_wire.specs.stream.Sequel.{Second, past_in}
 use Rattle.rfb_wire.specs.stream.End.{Steps, StepsBy}
@@ -25,7 +25,7 @@ use Rattle.rfb_viewer.specs.Told.{ViewerTold, is_last, item_told, done_told}
 use Rattle.rfb_viewer.specs.Viewer.{Viewing, ViewerState, viewer, shows, told_at, picture_after, effect_on, ends_update}
 use Rattle.rfb_viewer.specs.Progress.{ProgressStandsFor, IsReadyAt}
 use Rattle.rfb_viewer.specs.Model.{StandsFor, is_outstanding}
-use Rattle.rfb_viewer.specs.inside.Steps.{progress_past, told_past, request_past}
+use Rattle.rfb_viewer.specs.steps.Steps.{progress_past, told_past, request_past}
 
 -- ---- a viewer that is made of another
 

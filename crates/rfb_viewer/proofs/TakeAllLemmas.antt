@@ -13,8 +13,8 @@ use Rattle.rfb_viewer.specs.Moved.{moving, HasMoved}
 use Rattle.rfb_viewer.specs.Offer.{TakesOffer}
 use Rattle.rfb_viewer.specs.Told.{seen}
 use Rattle.rfb_viewer.specs.Viewer.{Viewing, ViewerState, viewer}
-use Rattle.rfb_viewer.specs.inside.ItemDamage.{KeepsOutside}
-use Rattle.rfb_viewer.specs.inside.StepPromises.{Fails, HasTaken, Takes, TakesAll}
+use Rattle.rfb_viewer.specs.steps.ItemDamage.{KeepsOutside}
+use Rattle.rfb_viewer.specs.steps.StepPromises.{Fails, HasTaken, Takes, TakesAll}
 use Rattle.rfb_viewer.proofs.DamageFeedLemmas.{damage_starts, outside_starts, outside_same, damage_on}
 use Rattle.rfb_viewer.proofs.DamageFeedLemmas.{outside_on, outside_fault, damages_later}
 use Rattle.rfb_viewer.proofs.FailLemmas.{ends_later, kept_later, offer_later, taken_later}

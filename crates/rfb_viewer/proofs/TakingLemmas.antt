@@ -26,10 +26,10 @@ use Rattle.rfb_viewer.specs.Fault.{fault_of_wire, fault_of_paint}
 use Rattle.rfb_viewer.specs.Moved.{moved_of}
 use Rattle.rfb_viewer.specs.Progress.{fault_in}
 use Rattle.rfb_viewer.specs.Model.{Making, making_of, offered_of, taken_of}
-use Rattle.rfb_viewer.specs.inside.ItemDamage.{screen_made, ended_with, begun_on, Damages, DamagesAt, EndsIn}
+use Rattle.rfb_viewer.specs.steps.ItemDamage.{screen_made, ended_with, begun_on, Damages, DamagesAt, EndsIn}
 use Rattle.rfb_viewer.specs.Offer.{KeepsOffer, TakesOffer}
-use Rattle.rfb_viewer.specs.inside.Steps.{progress_after, told_after, told_past}
-use Rattle.rfb_viewer.specs.inside.StepPromises.{Fails}
+use Rattle.rfb_viewer.specs.steps.Steps.{progress_after, told_after, told_past}
+use Rattle.rfb_viewer.specs.steps.StepPromises.{Fails}
 use Rattle.rfb_viewer.proofs.DamageStepLemmas.{made_same}
 use Rattle.rfb_viewer.proofs.FailLemmas.{wire_keeps, wire_offers, paint_keeps, paint_offers}
 use Rattle.rfb_viewer.proofs.RectLemmas.{past_going}

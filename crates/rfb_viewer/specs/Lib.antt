@@ -14,4 +14,4 @@ pub mod Offer
 pub mod Damage
 pub mod Moved
 pub mod Counted
-pub mod inside
+pub mod steps

@@ -4,7 +4,7 @@ use Rattle.rfb_pixel.specs.declared.colour.Colour.{Colour}
 use Rattle.rfb_picture.specs.Grid.{Grid, uniform}
 use Rattle.rfb_wire.specs.declared.rect_head.RectHead.{RectHead}
 use Rattle.rfb_wire.specs.ServerHead.{server_head_size, SpellsColourMap, SpellsServerCutText}
-use Rattle.rfb_wire.specs.stream.Reading.{More}
+use Rattle.rfb_wire.specs.stream.Prefix.{More}
 use Rattle.rfb_wire.specs.stream.Sequel.{First, Second}
 use Rattle.rfb_codec.specs.UnderWay.{UnderWay, painting, StandsFor as PainterStandsFor}
 use Rattle.rfb_codec.specs.Painter.{painting_of, AwaitsData}

@@ -2,17 +2,17 @@
 -- those of updates with their rectangles.
 use Rattle.std.specs.Prelude.{ℕ, zero, suc, ◌==◌, Bool, false, List, [], ◌∷◌, Option, Some, None}
 use Rattle.rfb_pixel.specs.Format.{PixelFormat}
-use Rattle.rfb_wire.specs.stream.Reading.{Says}
+use Rattle.rfb_wire.specs.stream.Prefix.{Says}
 use Rattle.rfb_wire.specs.stream.Grammar.{Grammar}
 use Rattle.rfb_wire.specs.stream.Sequel.{Stage, First, Second, Two, sequel, sequel_says}
-use Rattle.rfb_wire.specs.stream.Pending.{pending_in}
+use Rattle.rfb_wire.specs.stream.PendingBytes.{pending_in}
 use Rattle.rfb_codec.specs.UpdateStream.{UpdatePoint, UpdateItem, UpdateFault, update_stream, update_says}
-use Rattle.rfb_codec.specs.Pending.{update_pending}
+use Rattle.rfb_codec.specs.PendingBytes.{update_pending}
 use Rattle.rfb_hello.specs.declared.fault.HelloFault.{HelloFault}
 use Rattle.rfb_hello.specs.ServerHandshake.{ServerPoint, AwaitsInit, AwaitsName, ServerItem, ServerInit, Name}
 use Rattle.rfb_hello.specs.ServerHandshake.{server_item_says}
 use Rattle.rfb_hello.specs.ServerItems.{server_handshake}
-use Rattle.rfb_hello.specs.Pending.{server_handshake_pending}
+use Rattle.rfb_hello.specs.PendingBytes.{server_handshake_pending}
 use Rattle.rfb_hello.specs.ViewerEnd.{ViewerSetup}
 use Rattle.rfb_viewer.specs.declared.fault.ViewerFault.{ViewerFault}
 use Rattle.rfb_viewer.specs.Fault.{fault_of_hello, fault_of_update}

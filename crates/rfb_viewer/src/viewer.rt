@@ -2,7 +2,7 @@
 
 ghost use Rattle.std.specs.Prelude.{◌≡◌, ◌≢◌, ◌≤◌, ◌<◌, ℕ, List, [], length, take, true, IfOk};
 ghost use Rattle.std.specs.Prelude.{IfErr, None, Some};
-ghost use Rattle.rfb_viewer.specs.inside.Sound.{is_sound};
+ghost use Rattle.rfb_viewer.specs.steps.Sound.{is_sound};
 
 mod after;
 mod calls;
@@ -56,8 +56,8 @@ impl Viewer {
     ghost use Rattle.rfb_viewer.specs.Damage.{damage_of, ended_of, damaging, IsDamaged};
     ghost use Rattle.rfb_viewer.specs.Damage.{IsSameOutside, KeepsDamage};
     ghost use Rattle.rfb_viewer.specs.Moved.{moved_of, moving, HasMoved, KeepsMoved};
-    ghost use Rattle.rfb_viewer.specs.inside.Sound.{IsElsewhere};
-    ghost use Rattle.rfb_viewer.specs.inside.StepPromises.{Steps, TakesAll};
+    ghost use Rattle.rfb_viewer.specs.steps.Sound.{IsElsewhere};
+    ghost use Rattle.rfb_viewer.specs.steps.StepPromises.{Steps, TakesAll};
     ghost use Rattle.rfb_viewer.specs.Failed.{KeepsPicture, KeepsReason};
     ghost use Rattle.rfb_viewer.specs.Offer.{KeepsOffer, TakesOffer};
     ghost use Rattle.rfb_hello.specs.declared.offered.Offered.TheVariants.{Nothing};

@@ -16,7 +16,7 @@ use Rattle.rfb_wire.specs.declared.client_head.ClientHead.TheVariants.{SetEncodi
 use Rattle.rfb_wire.specs.declared.client_head.ClientHead.TheVariants.{Pointer, CutText}
 use Rattle.rfb_wire.specs.Fields.{s32_at}
 use Rattle.rfb_wire.specs.ClientHead.{SpellsClientHead, SpellsSetEncodings, SpellsClientCutText, client_head_size}
-use Rattle.rfb_wire.specs.stream.Reading.{Says, Reads}
+use Rattle.rfb_wire.specs.stream.Prefix.{Says, Reads}
 use Rattle.rfb_wire.specs.stream.Parts.{valued}
 use Rattle.rfb_wire.specs.stream.Grammar.{IsSpelled}
 use Rattle.rfb_wire.specs.ClientMessage.{ClientMessage, SetPixelFormat, SetEncodings, FramebufferUpdateRequest}

@@ -5,7 +5,7 @@ use Rattle.std.specs.Prelude.{pos}
 use lib.Count.{ones}
 use Rattle.rfb_pixel.specs.declared.fault.FormatFault.TheVariants.{NotTrueColour}
 use Rattle.rfb_pixel.specs.Format.{rgb888}
-use Rattle.rfb_wire.specs.stream.Reading.{More, Got, Bad}
+use Rattle.rfb_wire.specs.stream.Prefix.{More, Got, Bad}
 use Rattle.rfb_wire.specs.ClientMessage.{SetPixelFormat, SetEncodings, FramebufferUpdateRequest, KeyEvent, PointerEvent}
 use Rattle.rfb_wire.specs.ClientMessage.{ClientCutText, BadFormat, UnknownType}
 use Rattle.rfb_wire.specs.ClientStream.{client_message}

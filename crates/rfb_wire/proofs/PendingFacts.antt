@@ -2,8 +2,8 @@
 -- pending until it is whole, then each number, colour or byte of a text.
 use Rattle.std.proofs.Common.{◌≡◌, ℕ, List, [], ◌∷◌, ◌++◌, refl}
 use Rattle.rfb_wire.specs.stream.Sequel.{First, Second}
-use Rattle.rfb_wire.specs.stream.Pending.{in_pieces, after_pieces, pending_in}
-use Rattle.rfb_wire.specs.Pending.{client_pending, server_pending, rect_pending}
+use Rattle.rfb_wire.specs.stream.PendingBytes.{in_pieces, after_pieces, pending_in}
+use Rattle.rfb_wire.specs.MessagePieces.{client_pending, server_pending, rect_pending}
 
 -- what is pending of each front, from the first bytes on, that lacks a byte at least
 abbrev at_fronts : (List ℕ → ℕ) → List ℕ → List ℕ → List ℕ

@@ -5,9 +5,9 @@ use Rattle.rfb_wire.specs.declared.client_head.ClientHead.{ClientHead}
 use Rattle.rfb_wire.specs.declared.server_head.ServerHead.{ServerHead}
 use Rattle.rfb_wire.specs.ClientHead.{SpellsClientHead, SpellsSetEncodings, SpellsClientCutText, client_head_size}
 use Rattle.rfb_wire.specs.ServerHead.{SpellsServerHead, SpellsServerCutText, server_head_size}
-use Rattle.rfb_wire.specs.stream.Reading.{Listed}
+use Rattle.rfb_wire.specs.stream.Prefix.{Listed}
 use Rattle.rfb_wire.specs.ClientMessage.{SpellsNumber}
-use Rattle.rfb_wire.specs.Pending.{client_piece_size, client_pending, server_piece_size, server_pending}
+use Rattle.rfb_wire.specs.MessagePieces.{client_piece_size, client_pending, server_piece_size, server_pending}
 use Rattle.rfb_wire.proofs.ClientLemmas.{client-spelled}
 use Rattle.rfb_wire.proofs.ServerLemmas.{server-spelled}
 use Rattle.rfb_wire.proofs.stream_laws.PendingLaws.{missing_pending, items_pending, text_pending, message_below}

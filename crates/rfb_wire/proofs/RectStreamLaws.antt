@@ -13,7 +13,7 @@ use Rattle.rfb_wire.specs.declared.fault.WireFault.{WireFault}
 use Rattle.rfb_wire.specs.declared.fault.WireFault.TheVariants.{UnknownMessage, UnknownEncoding, RectOutside}
 use Rattle.rfb_wire.specs.Fields.{s32_at}
 use Rattle.rfb_wire.specs.Encoding.{number_of, IsNoEncoding}
-use Rattle.rfb_wire.specs.stream.Reading.{Reads, Same}
+use Rattle.rfb_wire.specs.stream.Prefix.{Reads, Same}
 use Rattle.rfb_wire.specs.RectHead.{SpellsRectHead, IsOnScreen, IsRectFault}
 use Rattle.rfb_wire.specs.RectStream.{rect_head_says, encoding_numbered, encoding_of, rect_of, is_on_screen, head_fault}
 use Rattle.rfb_wire.specs.RectStream.{or_raw, rect_head_of, rect_head}

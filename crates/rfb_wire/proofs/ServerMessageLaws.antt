@@ -6,7 +6,7 @@ use Rattle.std.proofs.lemmas.Bool.Decides.{nat_tests}
 use Rattle.rfb_wire.specs.declared.server_head.ServerHead.{ServerHead}
 use Rattle.rfb_wire.specs.declared.server_head.ServerHead.TheVariants.{Update, ColourMap, Bell as BellHead, CutText}
 use Rattle.rfb_wire.specs.ServerHead.{SpellsServerHead, SpellsColourMap, SpellsServerCutText, server_head_size}
-use Rattle.rfb_wire.specs.stream.Reading.{Says, Reads}
+use Rattle.rfb_wire.specs.stream.Prefix.{Says, Reads}
 use Rattle.rfb_wire.specs.stream.Parts.{valued}
 use Rattle.rfb_wire.specs.ServerMessage.{MapColour, ServerMessage, FramebufferUpdate, SetColorMapEntries, Bell}
 use Rattle.rfb_wire.specs.ServerMessage.{ServerCutText, ServerFault, UnknownType, SpellsMapColour, SpellsServerMessage}

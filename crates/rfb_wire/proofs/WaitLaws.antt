@@ -9,7 +9,7 @@ use Rattle.rfb_wire.specs.stream.Heads.{BeginsNone, Misses}
 use Rattle.rfb_wire.specs.ClientHead.{SpellsClientHead, SpellsSetEncodings, SpellsClientCutText, client_head_size}
 use Rattle.rfb_wire.specs.ServerHead.{SpellsServerHead, SpellsColourMap, SpellsServerCutText, server_head_size}
 use Rattle.rfb_wire.specs.Fields.{s32_at}
-use Rattle.rfb_wire.specs.stream.Reading.{More, Bad}
+use Rattle.rfb_wire.specs.stream.Prefix.{More, Bad}
 use Rattle.rfb_wire.specs.stream.Parts.{piece, done, valued, many, headed}
 use Rattle.rfb_wire.specs.ClientMessage.{SetEncodings, ClientCutText, UnknownType}
 use Rattle.rfb_wire.specs.ClientStream.{client_head_of, client_body, client_message}

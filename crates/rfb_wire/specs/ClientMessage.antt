@@ -8,7 +8,7 @@ use Rattle.rfb_wire.specs.Fields.{s32_at}
 use Rattle.rfb_wire.specs.stream.Heads.{IsNoHead, SpellsList, SpellsText}
 use Rattle.rfb_wire.specs.ClientHead.{SpellsClientHead, SpellsSetPixelFormat, SpellsSetEncodings, SpellsRequest}
 use Rattle.rfb_wire.specs.ClientHead.{SpellsKey, SpellsPointer, SpellsClientCutText}
-use Rattle.rfb_wire.specs.stream.Reading.{Says}
+use Rattle.rfb_wire.specs.stream.Prefix.{Says}
 
 -- a message: the format that is set, the numbers of the encodings in order, the area asked for, the
 -- key or the pointer, the text

@@ -9,7 +9,7 @@ use Rattle.rfb_wire.specs.declared.client_head.ClientHead.TheVariants.{SetEncodi
 use Rattle.rfb_wire.specs.declared.client_head.ClientHead.TheVariants.{Pointer, CutText}
 use Rattle.rfb_wire.specs.Fields.{u8_at, u16_at, u32_at, s32_at, flag_at}
 use Rattle.rfb_wire.specs.ClientHead.{client_head_size}
-use Rattle.rfb_wire.specs.stream.Reading.{Reading}
+use Rattle.rfb_wire.specs.stream.Prefix.{Reading}
 use Rattle.rfb_wire.specs.stream.Parts.{piece, done, judged, and_then, valued, many, headed}
 use Rattle.rfb_wire.specs.stream.Grammar.{Grammar}
 use Rattle.rfb_wire.specs.ClientMessage.{ClientMessage, SetPixelFormat, SetEncodings, FramebufferUpdateRequest}

@@ -9,4 +9,4 @@ pub mod ClientMessage
 pub mod ClientStream
 pub mod ServerMessage
 pub mod RectStream
-pub mod Pending
+pub mod MessagePieces

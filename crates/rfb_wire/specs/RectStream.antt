@@ -9,7 +9,7 @@ use Rattle.rfb_wire.specs.declared.rect_head.RectHead.{RectHead}
 use Rattle.rfb_wire.specs.declared.fault.WireFault.{WireFault}
 use Rattle.rfb_wire.specs.declared.fault.WireFault.TheVariants.{UnknownEncoding, RectOutside}
 use Rattle.rfb_wire.specs.Fields.{u16_at, s32_at}
-use Rattle.rfb_wire.specs.stream.Reading.{Reading, Says}
+use Rattle.rfb_wire.specs.stream.Prefix.{Reading, Says}
 use Rattle.rfb_wire.specs.stream.Parts.{checked}
 use Rattle.rfb_wire.specs.RectHead.{SpellsRectHead, IsOnScreen, IsRectFault}
 

@@ -7,7 +7,7 @@ use Rattle.rfb_wire.specs.Fields.{u8_at, u16_at, u32_at}
 use Rattle.rfb_wire.specs.stream.Heads.{IsNoHead, SpellsList, SpellsText}
 use Rattle.rfb_wire.specs.ServerHead.{SpellsServerHead, SpellsUpdate, SpellsColourMap, SpellsBell, SpellsServerCutText}
 use Rattle.rfb_wire.specs.ServerHead.{server_head_size}
-use Rattle.rfb_wire.specs.stream.Reading.{Reading, Says}
+use Rattle.rfb_wire.specs.stream.Prefix.{Reading, Says}
 use Rattle.rfb_wire.specs.stream.Parts.{piece, done, and_then, valued, many, headed}
 
 -- an entry of a colour map, 16 bits each

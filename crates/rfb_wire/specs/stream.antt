@@ -1,7 +1,7 @@
 -- Streams of bytes, whatever their items are: what bytes begin with, the grammar of a
 -- stream, an end that is fed one in slices, and two grammars one after the other.
 -- Nothing here knows a message.
-pub mod Reading
+pub mod Prefix
 pub mod Parts
 pub mod Heads
 pub mod Grammar
@@ -10,4 +10,4 @@ pub mod FaultPlace
 pub mod Sequel
 pub mod Both
 pub mod Session
-pub mod Pending
+pub mod PendingBytes

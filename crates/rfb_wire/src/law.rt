@@ -5,7 +5,7 @@ pub mod waiting;
 
 ghost use Rattle.std.specs.Prelude.{ℕ, List, [], ◌≡◌, ◌++◌, Option};
 ghost use Rattle.std.specs.List.{concat};
-ghost use Rattle.rfb_wire.specs.stream.Reading.{Reads};
+ghost use Rattle.rfb_wire.specs.stream.Prefix.{Reads};
 ghost use Rattle.rfb_wire.specs.stream.Grammar.{IsSpelled, IsGrammar, CutVerdict};
 ghost use Rattle.rfb_wire.specs.ClientMessage.{ClientMessage, ClientFault, SpellsClientMessage};
 ghost use Rattle.rfb_wire.specs.ClientMessage.{client_says};

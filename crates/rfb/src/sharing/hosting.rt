@@ -2,7 +2,7 @@
 
 ghost use Rattle.std.specs.Prelude.{◌≡◌, ◌*◌, option_map};
 ghost use Rattle.clap.specs.Words.{found_of, rows_of};
-ghost use Rattle.rfb.specs.Hosting.{IsHosted};
+ghost use Rattle.rfb.specs.HostRules.{IsHosted};
 ghost use Rattle.rfb.specs.command.HostingWords.{GivesHosting};
 
 use crate::defaults::HANDSHAKE_SECONDS;

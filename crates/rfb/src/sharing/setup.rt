@@ -1,7 +1,7 @@
 //! What a share's console is made with.
 
 ghost use Rattle.std.specs.Prelude.{◌≡◌, ◌≤◌, ◌*◌, length};
-ghost use Rattle.rfb.specs.Hosting.{IsHosted};
+ghost use Rattle.rfb.specs.HostRules.{IsHosted};
 
 use crate::defaults::TEXT_LIMIT;
 use crate::sharing::ShareOptions;

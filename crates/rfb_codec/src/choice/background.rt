@@ -4,9 +4,9 @@ ghost use Rattle.std.specs.Prelude.{◌≡◌, ◌+◌, ◌-◌, ◌<◌, ◌≤
 ghost use Rattle.std.specs.Prelude.{IfSome, IfNone, slice_index};
 ghost use Rattle.std.specs.Bool.{OnTrue, OnFalse};
 ghost use Rattle.rfb_codec.specs.Choice.{IsBackground};
-ghost use Rattle.rfb_codec.specs.inside.Background.{HasMore, IsStopped, IsLed, IsRun, EndsRun};
-ghost use Rattle.rfb_codec.specs.inside.Background.{Claims};
-ghost use Rattle.rfb_codec.specs.inside.Background.{Leads, hash_of, changes_in, is_restless};
+ghost use Rattle.rfb_codec.specs.encoder.Background.{HasMore, IsStopped, IsLed, IsRun, EndsRun};
+ghost use Rattle.rfb_codec.specs.encoder.Background.{Claims};
+ghost use Rattle.rfb_codec.specs.encoder.Background.{Leads, hash_of, changes_in, is_restless};
 
 use crate::block::PLACES;
 use crate::hextile::tiles::TILE_PLACES;

@@ -5,8 +5,8 @@ ghost use Rattle.std.specs.Bool.{OnTrue, OnFalse};
 ghost use Rattle.arrayvec.specs.ArrayVec.{array_vec_len};
 ghost use Rattle.rfb_wire.specs.RectHead.{IsOnScreen};
 ghost use Rattle.rfb_codec.specs.Choice.{AreRuleSubs};
-ghost use Rattle.rfb_codec.specs.inside.Cover.{IsCover, IsGivenUp, IsOpen, IsUncovered, AreNoted};
-ghost use Rattle.rfb_codec.specs.inside.Cover.{HasRun, HasRuns};
+ghost use Rattle.rfb_codec.specs.encoder.Cover.{IsCover, IsGivenUp, IsOpen, IsUncovered, AreNoted};
+ghost use Rattle.rfb_codec.specs.encoder.Cover.{HasRun, HasRuns};
 
 use crate::block::SIDE;
 use crate::subrect::Subrect;

@@ -4,8 +4,8 @@ ghost use Rattle.std.specs.Prelude.{◌≡◌, ◌≢◌, ℕ, ◌<◌, ◌≤�
 ghost use Rattle.std.specs.Prelude.{IfNone};
 ghost use Rattle.std.specs.Bool.{OnTrue, OnFalse};
 ghost use Rattle.rfb_codec.specs.Choice.{IsBackground, places_of};
-ghost use Rattle.rfb_codec.specs.inside.Background.{HasMore};
-ghost use Rattle.rfb_codec.specs.inside.Palette.{HasOther, HasPalette};
+ghost use Rattle.rfb_codec.specs.encoder.Background.{HasMore};
+ghost use Rattle.rfb_codec.specs.encoder.Palette.{HasOther, HasPalette};
 
 use crate::block::PLACES;
 use crate::choice::background::{background_of, leads};

@@ -3,7 +3,7 @@
 ghost use Rattle.std.specs.Prelude.{◌<◌, length};
 ghost use Rattle.arrayvec.specs.ArrayVec.{array_vec_len};
 ghost use Rattle.rfb_codec.specs.declared.painter.stage.Stage.TheVariants.{BeforeSource};
-ghost use Rattle.rfb_codec.specs.inside.Step.{IsPaintable, Steps};
+ghost use Rattle.rfb_codec.specs.decoder.Step.{IsPaintable, Steps};
 
 use crate::fault::{Flaw, PaintFault};
 use crate::painter::gather::{Pending, gather};

@@ -3,10 +3,10 @@
 ghost use Rattle.std.specs.Prelude.{◌≡◌, ℕ, List, [], length, true};
 ghost use Rattle.rfb_pixel.specs.declared.colour.Colour.{Colour};
 ghost use Rattle.rfb_picture.specs.Grid.{Grid, IsGrid};
-ghost use Rattle.rfb_wire.specs.stream.Reading.{Got};
+ghost use Rattle.rfb_wire.specs.stream.Prefix.{Got};
 ghost use Rattle.rfb_codec.specs.RectData.{RectData, painted};
 ghost use Rattle.rfb_codec.specs.Painter.{data_of};
-ghost use Rattle.rfb_codec.specs.Pending.{data_pending};
+ghost use Rattle.rfb_codec.specs.PendingBytes.{data_pending};
 ghost use Rattle.rfb_codec.specs.Stage.{encoding_at, is_ended};
 ghost use Rattle.rfb_codec.specs.UnderWay.{UnderWay, painting, StandsFor, ShowsPieces};
 

@@ -10,15 +10,15 @@ ghost use Rattle.rfb_wire.specs.declared.encoding.Encoding.{Encoding};
 ghost use Rattle.rfb_wire.specs.declared.encoding.Encoding.TheVariants.{Raw, CopyRect, Rre};
 ghost use Rattle.rfb_wire.specs.declared.encoding.Encoding.TheVariants.{Hextile};
 ghost use Rattle.rfb_wire.specs.declared.rect_head.RectHead.{RectHead};
-ghost use Rattle.rfb_wire.specs.stream.Reading.{More, Listed, ListedAfter};
+ghost use Rattle.rfb_wire.specs.stream.Prefix.{More, Listed, ListedAfter};
 ghost use Rattle.rfb_wire.specs.RectHead.{SpellsRectHead, IsOnScreen};
-ghost use Rattle.rfb_wire.specs.Pending.{server_pending};
+ghost use Rattle.rfb_wire.specs.MessagePieces.{server_pending};
 ghost use Rattle.rfb_codec.specs.declared.subrect.Subrect.{Subrect};
 ghost use Rattle.rfb_codec.specs.Rre.{SpellsRreHead, SpellsInside};
 ghost use Rattle.rfb_codec.specs.Tile.{Tile, is_raw};
 ghost use Rattle.rfb_codec.specs.Hextile.{SpellsNextTile, next_tile, tile_count};
 ghost use Rattle.rfb_codec.specs.UpdateStream.{UpdatePoint};
-ghost use Rattle.rfb_codec.specs.Pending.{tile_pending, data_pending, update_pending};
+ghost use Rattle.rfb_codec.specs.PendingBytes.{tile_pending, data_pending, update_pending};
 
 /// Of a rectangle's data a piece is a pixel of Raw; the source of CopyRect; the count with the
 /// background, or a subrectangle, of RRE; and of Hextile what is one of the tile under way. At

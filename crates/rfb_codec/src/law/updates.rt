@@ -4,7 +4,7 @@ ghost use Rattle.std.specs.Prelude.{◌≡◌, ℕ, ◌-◌, ◌<◌, List, [], 
 ghost use Rattle.rfb_pixel.specs.declared.colour.Colour.{Colour};
 ghost use Rattle.rfb_picture.specs.Grid.{Grid, IsGrid};
 ghost use Rattle.rfb_wire.specs.declared.rect_head.RectHead.{RectHead};
-ghost use Rattle.rfb_wire.specs.stream.Reading.{More, Got, Bad};
+ghost use Rattle.rfb_wire.specs.stream.Prefix.{More, Got, Bad};
 ghost use Rattle.rfb_wire.specs.stream.Grammar.{ReadsAll, past_all};
 ghost use Rattle.rfb_wire.specs.ServerMessage.{ServerMessage, ServerFault, FramebufferUpdate};
 ghost use Rattle.rfb_wire.specs.ServerMessage.{server_message};

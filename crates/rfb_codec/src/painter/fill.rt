@@ -2,7 +2,7 @@
 
 ghost use Rattle.std.specs.Prelude.{◌≡◌, ℕ, ◌<◌, slice_index_or};
 ghost use Rattle.rfb_pixel.specs.declared.colour.Colour.{Colour};
-ghost use Rattle.rfb_codec.specs.inside.Step.{IsPaintable, PaintsOver};
+ghost use Rattle.rfb_codec.specs.decoder.Step.{IsPaintable, PaintsOver};
 
 use crate::hextile::tiles::TILE;
 use rfb_picture::{Picture, Rect};

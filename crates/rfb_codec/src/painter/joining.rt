@@ -3,7 +3,7 @@
 ghost use Rattle.std.specs.Prelude.{◌≡◌, ◌+◌, ◌≤◌, true, false};
 ghost use Rattle.arrayvec.specs.ArrayVec.{array_vec_len};
 ghost use Rattle.rfb_codec.specs.Stage.{is_ended, is_sound};
-ghost use Rattle.rfb_codec.specs.inside.Step.{piece_size, Joins};
+ghost use Rattle.rfb_codec.specs.decoder.Step.{piece_size, Joins};
 
 use super::gather::Pending;
 use super::pieces::is_ended;

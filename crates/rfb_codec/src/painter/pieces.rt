@@ -4,8 +4,8 @@
 ghost use Rattle.std.specs.Prelude.{◌≡◌, ◌<◌, length, true, false};
 ghost use Rattle.arrayvec.specs.ArrayVec.{array_vec_len};
 ghost use Rattle.rfb_picture.specs.Grid.{Holds};
-ghost use Rattle.rfb_codec.specs.inside.Step.{IsPaintable};
-ghost use Rattle.rfb_codec.specs.inside.Step.{Steps, StepsAll};
+ghost use Rattle.rfb_codec.specs.decoder.Step.{IsPaintable};
+ghost use Rattle.rfb_codec.specs.decoder.Step.{Steps, StepsAll};
 ghost use Rattle.rfb_codec.specs.Stage.{is_ended, is_sound};
 
 use super::gather::Pending;

@@ -17,7 +17,7 @@ pub struct Rectangle {
 }
 
 impl Rectangle {
-    ghost use Rattle.rfb_codec.specs.inside.Step.{IsPaintable};
+    ghost use Rattle.rfb_codec.specs.decoder.Step.{IsPaintable};
 
     /// The rectangle there, with pixels of this format.
     #[inline(always)]

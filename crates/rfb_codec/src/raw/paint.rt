@@ -3,8 +3,8 @@
 ghost use Rattle.std.specs.Prelude.{◌≡◌, ◌+◌, ◌*◌, ◌<◌, ◌≤◌, length};
 ghost use Rattle.rfb_pixel.specs.Format.{size_of, rgb888};
 ghost use Rattle.rfb_codec.specs.Raw.{raw_length};
-ghost use Rattle.rfb_codec.specs.inside.Announced.{announced};
-ghost use Rattle.rfb_codec.specs.inside.Step.{IsPaintable, PaintsPixels, PaintsRaw, first_of_row};
+ghost use Rattle.rfb_codec.specs.encoder.Announced.{announced};
+ghost use Rattle.rfb_codec.specs.decoder.Step.{IsPaintable, PaintsPixels, PaintsRaw, first_of_row};
 ghost use Rattle.rfb_codec.specs.Stage.{places_before};
 
 use crate::hextile::tiles::TILE;

@@ -6,9 +6,9 @@ ghost use Rattle.rfb_pixel.specs.declared.colour.Colour.{Colour};
 ghost use Rattle.rfb_pixel.specs.Format.{size_of};
 ghost use Rattle.rfb_picture.specs.Grid.{Grid};
 ghost use Rattle.rfb_codec.specs.declared.painter.stage.Stage.TheVariants.{InPixels};
-ghost use Rattle.rfb_codec.specs.inside.Step.{IsPaintable};
+ghost use Rattle.rfb_codec.specs.decoder.Step.{IsPaintable};
 ghost use Rattle.rfb_codec.specs.Stage.{places_before};
-ghost use Rattle.rfb_codec.specs.inside.Step.{StandsPixels, Takes};
+ghost use Rattle.rfb_codec.specs.decoder.Step.{StandsPixels, Takes};
 
 use super::paint::{Lines, Run, paint_lines, paint_run};
 use crate::painter::gather::{Pending, gather};

@@ -6,7 +6,7 @@ ghost use Rattle.arrayvec.specs.ArrayVec.{array_vec_len};
 ghost use Rattle.rfb_pixel.specs.Format.{size_of};
 ghost use Rattle.rfb_codec.specs.declared.painter.stage.Stage.TheVariants.{BeforeHead, InSubrects};
 ghost use Rattle.rfb_codec.specs.Rre.{subrect_of};
-ghost use Rattle.rfb_codec.specs.inside.Step.{IsPaintable, Takes, Steps, DrawsSubrect};
+ghost use Rattle.rfb_codec.specs.decoder.Step.{IsPaintable, Takes, Steps, DrawsSubrect};
 
 use super::read::read;
 use crate::fault::{Flaw, PaintFault};

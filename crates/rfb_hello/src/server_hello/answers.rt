@@ -5,7 +5,7 @@ ghost use Rattle.std.specs.Result.{result_err};
 ghost use Rattle.rfb_hello.specs.Version.{version_of};
 ghost use Rattle.rfb_hello.specs.ClientHandshake.{client_version_fault};
 ghost use Rattle.rfb_hello.specs.ServerEnd.{as_reply, security_bytes};
-ghost use Rattle.rfb_hello.specs.inside.ServerPiece.{progress_after};
+ghost use Rattle.rfb_hello.specs.pieces.ServerPiece.{progress_after};
 
 use crate::fault::HelloFault;
 use crate::pieces::{SECURITY_NONE, reply_of};

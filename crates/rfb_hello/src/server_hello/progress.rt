@@ -2,7 +2,7 @@
 
 ghost use Rattle.std.specs.Prelude.{◌≡◌, ◌≤◌, false};
 ghost use Rattle.rfb_hello.specs.ServerProgress.{is_open, least_left};
-ghost use Rattle.rfb_hello.specs.inside.ServerPiece.{part_in};
+ghost use Rattle.rfb_hello.specs.pieces.ServerPiece.{part_in};
 
 use crate::fault::HelloFault;
 use crate::version::{VERSION_PART, VERSION_SIZE, Version};

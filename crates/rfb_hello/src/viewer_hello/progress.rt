@@ -1,9 +1,9 @@
 //! How far a viewer's handshake has come.
 
 ghost use Rattle.std.specs.Prelude.{◌≡◌, ◌≤◌, false};
-ghost use Rattle.rfb_hello.specs.inside.ViewerPiece.{fault_for};
+ghost use Rattle.rfb_hello.specs.pieces.ViewerPiece.{fault_for};
 ghost use Rattle.rfb_hello.specs.ViewerProgress.{is_open};
-ghost use Rattle.rfb_hello.specs.inside.ViewerPiece.{part_in};
+ghost use Rattle.rfb_hello.specs.pieces.ViewerPiece.{part_in};
 
 use crate::fault::HelloFault;
 use crate::pieces::{INIT_PART, WORD_PART};

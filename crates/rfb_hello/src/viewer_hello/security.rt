@@ -10,8 +10,8 @@ ghost use Rattle.rfb_hello.specs.TypesSoFar.{TypesSoFar};
 ghost use Rattle.rfb_hello.specs.Version.{lower};
 ghost use Rattle.rfb_hello.specs.ViewerEnd.{ViewerSetup, viewer_end, choice_bytes, shared_flag};
 ghost use Rattle.rfb_hello.specs.ViewerModel.{StandsFor, is_open, setup_of};
-ghost use Rattle.rfb_hello.specs.inside.ViewerPiece.{TakesPiece};
-ghost use Rattle.rfb_hello.specs.inside.ViewerPiece.{progress_after_version, progress_after_types};
+ghost use Rattle.rfb_hello.specs.pieces.ViewerPiece.{TakesPiece};
+ghost use Rattle.rfb_hello.specs.pieces.ViewerPiece.{progress_after_version, progress_after_types};
 ghost use Rattle.rfb_hello.specs.declared.viewer_hello.progress.Progress.{Progress};
 
 use crate::fault::HelloFault;

@@ -7,9 +7,9 @@ ghost use Rattle.rfb_hello.specs.KeptText.{KeptText, kept_of};
 ghost use Rattle.rfb_hello.specs.ServerItems.{screen_fault};
 ghost use Rattle.rfb_hello.specs.ViewerEnd.{told_of_init};
 ghost use Rattle.rfb_hello.specs.ViewerModel.{goes_on_after};
-ghost use Rattle.rfb_hello.specs.inside.ViewerPiece.{TakesPiece};
+ghost use Rattle.rfb_hello.specs.pieces.ViewerPiece.{TakesPiece};
 ghost use Rattle.rfb_hello.specs.ViewerProgress.{is_open as goes_on};
-ghost use Rattle.rfb_hello.specs.inside.ViewerPiece.{progress_after_init};
+ghost use Rattle.rfb_hello.specs.pieces.ViewerPiece.{progress_after_init};
 ghost use Rattle.rfb_hello.specs.declared.viewer_hello.progress.Progress.{Progress};
 ghost use Rattle.rfb_hello.specs.declared.viewer_hello.progress.Cause.{Cause};
 

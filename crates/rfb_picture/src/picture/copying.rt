@@ -1,8 +1,8 @@
 //! Copies of rows within one list of places, which may lie over one another.
 
 ghost use Rattle.std.specs.Prelude.{◌+◌, ◌*◌, ◌≤◌, ◌⊎◌, length};
-ghost use Rattle.rfb_picture.specs.inside.Lines.{IsKept};
-ghost use Rattle.rfb_picture.specs.inside.Runs.{RowsCopied, RunCopied};
+ghost use Rattle.rfb_picture.specs.layout.Lines.{IsKept};
+ghost use Rattle.rfb_picture.specs.layout.Runs.{RowsCopied, RunCopied};
 
 use crate::rect::Rect;
 

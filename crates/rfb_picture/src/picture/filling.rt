@@ -1,8 +1,8 @@
 //! One value over a rectangle, row by row, and each row by pieces, or place by place.
 
 ghost use Rattle.std.specs.Prelude.{◌≡◌, ℕ, ◌+◌, ◌-◌, ◌<◌, ◌≤◌, length, slice_index_or, false};
-ghost use Rattle.rfb_picture.specs.inside.Lines.{AreInOrder, IsKept};
-ghost use Rattle.rfb_picture.specs.inside.Runs.{RowsFilled, RunFilled};
+ghost use Rattle.rfb_picture.specs.layout.Lines.{AreInOrder, IsKept};
+ghost use Rattle.rfb_picture.specs.layout.Runs.{RowsFilled, RunFilled};
 
 use super::lines::line_of;
 use crate::rect::Rect;

@@ -2,8 +2,8 @@
 
 ghost use Rattle.std.specs.Prelude.{◌≡◌, ℕ, ◌+◌, ◌*◌, ◌<◌, ◌≤◌, length, slice_index_or, false};
 ghost use Rattle.std.specs.Prelude.{IfOk};
-ghost use Rattle.rfb_picture.specs.inside.Lines.{AreInOrder, IsKept, other_of, place_in};
-ghost use Rattle.rfb_picture.specs.inside.Turn.{Turned, rest_of};
+ghost use Rattle.rfb_picture.specs.layout.Lines.{AreInOrder, IsKept, other_of, place_in};
+ghost use Rattle.rfb_picture.specs.layout.Turn.{Turned, rest_of};
 
 use std::alloc::{AllocError, Global};
 

@@ -2,8 +2,8 @@
 
 ghost use Rattle.std.specs.Prelude.{◌≡◌, ◌+◌, ◌*◌, ◌/◌, ◌≤◌};
 ghost use Rattle.rfb_picture.specs.Grid.{Holds};
-ghost use Rattle.rfb_picture.specs.inside.Edges.{HasEdges};
-ghost use Rattle.rfb_picture.specs.inside.PlaceSet.{in_set, IsLayers};
+ghost use Rattle.rfb_picture.specs.layout.Edges.{HasEdges};
+ghost use Rattle.rfb_picture.specs.layout.PlaceSet.{in_set, IsLayers};
 
 use super::layers::Layers;
 use super::parts::{in_column, in_row, is_of_one_cell};

@@ -3,7 +3,7 @@
 ghost use Rattle.std.specs.Prelude.{◌↔◌, ◌+◌, ◌*◌, ◌/◌, ◌≤◌, IsTrue};
 ghost use Rattle.rfb_picture.specs.Grid.{Holds};
 ghost use Rattle.rfb_picture.specs.Places.{AllMarked};
-ghost use Rattle.rfb_picture.specs.inside.PlaceSet.{in_set, IsLayers};
+ghost use Rattle.rfb_picture.specs.layout.PlaceSet.{in_set, IsLayers};
 
 use super::layers::Layers;
 use super::parts::{cells_of, in_column, in_row};

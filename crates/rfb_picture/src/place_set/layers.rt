@@ -2,8 +2,8 @@
 
 ghost use Rattle.std.specs.Prelude.{◌≡◌, ◌+◌, ◌-◌, ◌*◌, ◌<◌, ◌≤◌};
 ghost use Rattle.rfb_picture.specs.Grid.{Holds};
-ghost use Rattle.rfb_picture.specs.inside.Cells.{one_cell, zone_of};
-ghost use Rattle.rfb_picture.specs.inside.PlaceSet.{IsLayers, IsOpened};
+ghost use Rattle.rfb_picture.specs.layout.Cells.{one_cell, zone_of};
+ghost use Rattle.rfb_picture.specs.layout.PlaceSet.{IsLayers, IsOpened};
 
 use super::parts::{in_column, in_row};
 use crate::plane::Plane;

@@ -3,7 +3,7 @@
 ghost use Rattle.std.specs.Prelude.{◌≡◌, ◌+◌, ◌*◌, ◌<◌, true};
 ghost use Rattle.std.specs.Bool.{OnTrue, OnFalse};
 ghost use Rattle.rfb_picture.specs.CellOrder.{NoneInCells, HasPlaceIn, HasNextCell, cells_in};
-ghost use Rattle.rfb_picture.specs.inside.PlaceSet.{in_set, IsLayers, HasNextOpen};
+ghost use Rattle.rfb_picture.specs.layout.PlaceSet.{in_set, IsLayers, HasNextOpen};
 
 use super::layers::Layers;
 

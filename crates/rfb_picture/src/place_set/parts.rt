@@ -1,8 +1,8 @@
 //! Rectangles by cells: which a rectangle has whole, what lies about them, which it touches.
 
 ghost use Rattle.std.specs.Prelude.{◌≡◌, ◌↔◌, IsTrue, ℕ, ◌+◌, ◌*◌, ◌/◌, ◌<◌, ◌≤◌};
-ghost use Rattle.rfb_picture.specs.inside.Cells.{in_span, is_whole, touched, in_column, in_row};
-ghost use Rattle.rfb_picture.specs.inside.Cells.{IsOfCells, IsParts};
+ghost use Rattle.rfb_picture.specs.layout.Cells.{in_span, is_whole, touched, in_column, in_row};
+ghost use Rattle.rfb_picture.specs.layout.Cells.{IsOfCells, IsParts};
 
 use crate::rect::Rect;
 

@@ -2,7 +2,7 @@
 
 ghost use Rattle.std.specs.Prelude.{◌≡◌, ℕ, ◌<◌, ◌&&◌, nat_eq, true};
 ghost use Rattle.rfb_picture.specs.Box.{is_in};
-ghost use Rattle.rfb_picture.specs.inside.PlaceSet.{IsLayers, AreAlike, IsSpread, HasLost};
+ghost use Rattle.rfb_picture.specs.layout.PlaceSet.{IsLayers, AreAlike, IsSpread, HasLost};
 
 use super::layers::Layers;
 use crate::rect::Rect;

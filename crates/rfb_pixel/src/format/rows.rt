@@ -3,7 +3,7 @@
 ghost use Rattle.std.specs.Prelude.{◌≡◌, ◌+◌, ◌*◌, ◌≤◌, length, map};
 ghost use Rattle.rfb_pixel.specs.Format.{rgb888, size_of, pixel_of};
 ghost use Rattle.rfb_pixel.specs.Format.{ArePixels, AreColours};
-ghost use Rattle.rfb_pixel.specs.inside.Lanes.{ArePacked, AreUnpacked, laned};
+ghost use Rattle.rfb_pixel.specs.bits.Lanes.{ArePacked, AreUnpacked, laned};
 
 use crate::colour::Colour;
 use crate::format::Format;

@@ -3,7 +3,7 @@
 ghost use Rattle.std.specs.Prelude.{◌≡◌, ◌^◌, ◌<◌, ℕ, length, map, slice_index, slice_index_or};
 ghost use Rattle.rfb_pixel.specs.declared.colour.Colour.{Colour};
 ghost use Rattle.rfb_pixel.specs.Format.{AreColours, bgr233, pixel_of};
-ghost use Rattle.rfb_pixel.specs.inside.Lanes.{colours_in};
+ghost use Rattle.rfb_pixel.specs.bits.Lanes.{colours_in};
 
 use crate::colour::Colour;
 use crate::lanes::{read_eight, write_eight};

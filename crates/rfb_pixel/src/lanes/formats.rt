@@ -4,7 +4,7 @@
 ghost use Rattle.std.specs.Prelude.{◌≡◌, ◌*◌, ◌^◌, ◌<◌, ℕ, length, slice_index, slice_index_or};
 ghost use Rattle.rfb_pixel.specs.declared.colour.Colour.{Colour};
 ghost use Rattle.rfb_pixel.specs.Format.{AreColours, pixel_of, size_of};
-ghost use Rattle.rfb_pixel.specs.inside.Lanes.{laned};
+ghost use Rattle.rfb_pixel.specs.bits.Lanes.{laned};
 
 use crate::colour::Colour;
 use crate::format::Format;

@@ -5,7 +5,7 @@ ghost use Rattle.std.specs.Prelude.{slice_index_or};
 ghost use Rattle.byteorder.specs.Endian.{little_number};
 ghost use Rattle.rfb_pixel.specs.declared.colour.Colour.{Colour};
 ghost use Rattle.rfb_pixel.specs.Format.{AreColours, pixel_of, rgb565};
-ghost use Rattle.rfb_pixel.specs.inside.Lanes.{colours_in};
+ghost use Rattle.rfb_pixel.specs.bits.Lanes.{colours_in};
 
 use crate::colour::Colour;
 use crate::lanes::{read_eight, write_eight};

@@ -10,8 +10,8 @@ ghost use Rattle.rfb_server.specs.KnownScreen.{Follows};
 ghost use Rattle.rfb_server.specs.Model.{notes_in, session_fault, session_serving, serving_with};
 ghost use Rattle.rfb_server.specs.Progress.{is_partial};
 ghost use Rattle.rfb_server.specs.declared.fault.ServerFault.{ServerFault};
-ghost use Rattle.rfb_server.specs.inside.Ended.{progress_at};
-ghost use Rattle.rfb_server.specs.inside.Marks.{AreAlike, none_known, all_marked};
+ghost use Rattle.rfb_server.specs.session.Ended.{progress_at};
+ghost use Rattle.rfb_server.specs.session.Marks.{AreAlike, none_known, all_marked};
 
 use crate::drawing::Notice;
 use crate::event::ServerEvent;

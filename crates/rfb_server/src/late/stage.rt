@@ -7,7 +7,7 @@ ghost use Rattle.rfb_pixel.specs.declared.colour.Colour.{Colour};
 ghost use Rattle.rfb_picture.specs.Grid.{Grid};
 ghost use Rattle.rfb_server.specs.declared.fault.ServerFault.{ServerFault};
 ghost use Rattle.rfb_server.specs.Late.{session_of_stage};
-ghost use Rattle.rfb_server.specs.inside.NewSession.{IsReadyFor, AreFor, IsMoved};
+ghost use Rattle.rfb_server.specs.session.NewSession.{IsReadyFor, AreFor, IsMoved};
 
 use crate::event::ServerEvent;
 use crate::fault::ServerFault;

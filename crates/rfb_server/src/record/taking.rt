@@ -9,7 +9,7 @@ ghost use Rattle.rfb_codec.specs.Pixels.{HasPixels, IsSized};
 ghost use Rattle.rfb_codec.specs.Codec.{PacksRect};
 ghost use Rattle.rfb_codec.specs.RectData.{moved_to};
 ghost use Rattle.rfb_codec.specs.Effect.{IsAlike, IsRecorded};
-ghost use Rattle.rfb_server.specs.inside.Twins.{AreKnownAlike, AreUnknown};
+ghost use Rattle.rfb_server.specs.session.Twins.{AreKnownAlike, AreUnknown};
 
 use crate::record::Record;
 use rfb_codec::Block;

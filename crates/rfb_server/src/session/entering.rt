@@ -2,9 +2,9 @@
 
 ghost use Rattle.std.specs.Prelude.{◌≡◌};
 ghost use Rattle.rfb_server.specs.Late.{entered};
-ghost use Rattle.rfb_server.specs.inside.Ended.{progress_at};
-ghost use Rattle.rfb_server.specs.inside.NewSession.{IsMoved};
-ghost use Rattle.rfb_server.specs.inside.Marks.{AreUntouched};
+ghost use Rattle.rfb_server.specs.session.Ended.{progress_at};
+ghost use Rattle.rfb_server.specs.session.NewSession.{IsMoved};
+ghost use Rattle.rfb_server.specs.session.Marks.{AreUntouched};
 
 use crate::encodings::EncodingList;
 use crate::fault::ServerFault;

@@ -2,7 +2,7 @@
 
 ghost use Rattle.std.specs.Prelude.{◌≡◌, IfOk};
 ghost use Rattle.rfb_picture.specs.Area.{no_places};
-ghost use Rattle.rfb_server.specs.inside.Marks.{AreAllPlaces, AreUntouched};
+ghost use Rattle.rfb_server.specs.session.Marks.{AreAllPlaces, AreUntouched};
 
 use crate::record::Record;
 use rfb_picture::{Area, PlaceSet, Rect};

@@ -15,10 +15,10 @@ ghost use Rattle.rfb_server.specs.Model.{notes_in};
 ghost use Rattle.rfb_server.specs.Twins.{AreTwins, HasSentTwin};
 ghost use Rattle.rfb_server.specs.KnownScreen.{Follows};
 ghost use Rattle.rfb_server.specs.UpdateCall.{SendsUpdate};
-ghost use Rattle.rfb_server.specs.inside.Needs.{IsQuiet};
-ghost use Rattle.rfb_server.specs.inside.Sends.{IsKept, IsNext};
-ghost use Rattle.rfb_server.specs.inside.Twins.{Agree, AgreeIn, AsksAll, HasTakenOver, ShowsAll};
-ghost use Rattle.rfb_server.specs.inside.Twins.{IsKnownAlike, TakesSome};
+ghost use Rattle.rfb_server.specs.update.Needs.{IsQuiet};
+ghost use Rattle.rfb_server.specs.update.Sends.{IsKept, IsNext};
+ghost use Rattle.rfb_server.specs.session.Twins.{Agree, AgreeIn, AsksAll, HasTakenOver, ShowsAll};
+ghost use Rattle.rfb_server.specs.session.Twins.{IsKnownAlike, TakesSome};
 
 use crate::cells::cell_at;
 use crate::hint::Hint;

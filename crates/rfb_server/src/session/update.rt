@@ -8,11 +8,11 @@ ghost use Rattle.std.specs.Vec.{vec_capacity};
 ghost use Rattle.rfb_server.specs.Claims.{IsClaimed};
 ghost use Rattle.rfb_server.specs.KnownScreen.{Follows};
 ghost use Rattle.rfb_server.specs.Progress.{is_ready};
-ghost use Rattle.rfb_server.specs.inside.Composed.{IsAwaited, HasComposed, StaysIdle};
-ghost use Rattle.rfb_server.specs.inside.Composed.{IsSettled, IsCounted};
-ghost use Rattle.rfb_server.specs.inside.Copies.{usable_hints, AreMarkedFor};
-ghost use Rattle.rfb_server.specs.inside.Sends.{IsEnough, AreLimits};
-ghost use Rattle.rfb_server.specs.inside.Sessions.{IsSame};
+ghost use Rattle.rfb_server.specs.update.Composed.{IsAwaited, HasComposed, StaysIdle};
+ghost use Rattle.rfb_server.specs.update.Composed.{IsSettled, IsCounted};
+ghost use Rattle.rfb_server.specs.update.Copies.{usable_hints, AreMarkedFor};
+ghost use Rattle.rfb_server.specs.update.Sends.{IsEnough, AreLimits};
+ghost use Rattle.rfb_server.specs.session.Sessions.{IsSame};
 
 mod asked;
 mod cells;

@@ -1,7 +1,7 @@
 //! Laws of items one after another, in a queue and in the bytes that spell them.
 
 ghost use Rattle.std.specs.Prelude.{◌≡◌, ℕ, ◌+◌, List, [], ◌++◌, length};
-ghost use Rattle.rfb_wire.specs.stream.Reading.{Got};
+ghost use Rattle.rfb_wire.specs.stream.Prefix.{Got};
 ghost use Rattle.rfb_wire.specs.stream.Grammar.{Grammar, IsGrammar, ReadsAll, past_all, sizes};
 ghost use Rattle.rfb_wire.specs.stream.End.{Machine, acts};
 

@@ -26,10 +26,10 @@ impl Link {
     ghost use Rattle.rfb_session.specs.LinkModel.{LosesToViewer, LosesToServer};
     ghost use Rattle.rfb_session.specs.LinkModel.{IsLostOn, FollowsStill};
     ghost use Rattle.rfb_session.specs.LinkBytes.{TellsSole, MovesNone};
-    ghost use Rattle.rfb_session.specs.inside.LinkDelivery.{DeliversToViewer, DeliversToServer};
-    ghost use Rattle.rfb_session.specs.inside.LinkDelivery.{HasHeard, EndsHearing};
-    ghost use Rattle.rfb_session.specs.inside.LinkDelivery.{HasWatched, EndsWatching};
-    ghost use Rattle.rfb_session.specs.inside.LinkDelivery.{IfSessionEnded, IfViewerEnded};
+    ghost use Rattle.rfb_session.specs.ends.LinkDelivery.{DeliversToViewer, DeliversToServer};
+    ghost use Rattle.rfb_session.specs.ends.LinkDelivery.{HasHeard, EndsHearing};
+    ghost use Rattle.rfb_session.specs.ends.LinkDelivery.{HasWatched, EndsWatching};
+    ghost use Rattle.rfb_session.specs.ends.LinkDelivery.{IfSessionEnded, IfViewerEnded};
 
     /// Bytes reach the session, at most `count`, or all that are in flight to it. Its answers are
     /// in flight then. One that has failed takes them to no effect. Memory can be wanting for

@@ -3,7 +3,7 @@
 ghost use Rattle.std.specs.Prelude.{◌≡◌, min, false, MatchOption};
 ghost use Rattle.rfb_session.specs.netpbm.Number.{AreDigits, NextNumber, NoNumberNext, ends_line};
 ghost use Rattle.rfb_session.specs.netpbm.Number.{is_blank, value_of};
-ghost use Rattle.rfb_session.specs.netpbm.inside.Gaps.{FirstDigits, after_gap};
+ghost use Rattle.rfb_session.specs.netpbm.Gaps.{FirstDigits, after_gap};
 
 // A number that is larger is as good as this one: both are too large.
 const TOO_LARGE: u32 = 65_536;

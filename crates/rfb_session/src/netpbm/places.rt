@@ -5,8 +5,8 @@ ghost use Rattle.std.specs.Io.KnownBytes.{IsAtEnd};
 ghost use Rattle.rfb_pixel.specs.declared.colour.Colour.{Colour};
 ghost use Rattle.rfb_session.specs.netpbm.Places.{ArePlaces, colours_of, colours_of_bytes};
 ghost use Rattle.rfb_session.specs.netpbm.Places.{colours_of_words, size_of, word_of};
-ghost use Rattle.rfb_session.specs.netpbm.inside.PlacesRead.{FailsEnd, FailsPiece, FailsToFill};
-ghost use Rattle.rfb_session.specs.netpbm.inside.PlacesRead.{ReadPlaces};
+ghost use Rattle.rfb_session.specs.netpbm.PlacesRead.{FailsEnd, FailsPiece, FailsToFill};
+ghost use Rattle.rfb_session.specs.netpbm.PlacesRead.{ReadPlaces};
 
 use crate::netpbm::fault::{Flaw, PixmapError};
 use crate::netpbm::head::Sample;

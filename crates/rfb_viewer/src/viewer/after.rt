@@ -4,9 +4,9 @@
 ghost use Rattle.std.specs.Prelude.{◌≡◌, ◌<◌, ℕ, IfOk, IfErr};
 ghost use Rattle.rfb_wire.specs.declared.server_head.ServerHead.TheVariants.{ColourMap, CutText};
 ghost use Rattle.rfb_viewer.specs.Told.{seen};
-ghost use Rattle.rfb_viewer.specs.inside.FedBytes.{end_event};
-ghost use Rattle.rfb_viewer.specs.inside.Steps.{progress_after, told_after, request_after};
-ghost use Rattle.rfb_viewer.specs.inside.Steps.{AsksAfter, progress_past, told_past, request_past};
+ghost use Rattle.rfb_viewer.specs.steps.FedBytes.{end_event};
+ghost use Rattle.rfb_viewer.specs.steps.Steps.{progress_after, told_after, request_after};
+ghost use Rattle.rfb_viewer.specs.steps.Steps.{AsksAfter, progress_past, told_past, request_past};
 
 use crate::event::ViewerEvent;
 use crate::viewer::progress::{Progress, Request};

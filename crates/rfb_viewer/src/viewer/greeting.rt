@@ -1,8 +1,8 @@
 //! The handshake of a viewer.
 
 ghost use Rattle.std.specs.Prelude.{◌≡◌, length, OnOk, OnErr, None};
-ghost use Rattle.rfb_viewer.specs.inside.ItemDamage.{screen_made};
-ghost use Rattle.rfb_viewer.specs.inside.Steps.{TellsScreen, screen_past};
+ghost use Rattle.rfb_viewer.specs.steps.ItemDamage.{screen_made};
+ghost use Rattle.rfb_viewer.specs.steps.Steps.{TellsScreen, screen_past};
 
 use crate::client_messages::ready_answer;
 use crate::event::ViewerEvent;
@@ -21,7 +21,7 @@ const BLACK: Colour = Colour { r: 0, g: 0, b: 0 };
 
 impl Viewer {
     ghost use Rattle.rfb_viewer.specs.declared.viewer.progress.Progress.{Progress};
-    ghost use Rattle.rfb_viewer.specs.inside.StepPromises.{Steps};
+    ghost use Rattle.rfb_viewer.specs.steps.StepPromises.{Steps};
 
     // Takes a byte of the server's handshake, and makes the screen where a step tells its size. By
     // single bytes a fault comes with the one that is taken.

@@ -4,7 +4,7 @@
 ghost use Rattle.std.specs.Prelude.{◌≡◌, ◌≢◌, ◌<◌, ℕ, List, [], false, None, option_copied};
 ghost use Rattle.rfb_viewer.specs.ServerBytes.{is_between, server_bytes_pending};
 ghost use Rattle.rfb_viewer.specs.ShownPieces.{Shows};
-ghost use Rattle.rfb_viewer.specs.inside.Sound.{is_idle};
+ghost use Rattle.rfb_viewer.specs.steps.Sound.{is_idle};
 ghost use Rattle.rfb_viewer.specs.Viewer.{Viewing, ViewerState};
 
 use crate::viewer::Viewer;

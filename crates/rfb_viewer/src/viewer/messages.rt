@@ -17,7 +17,7 @@ use std::mem;
 
 impl Viewer {
     ghost use Rattle.rfb_viewer.specs.declared.viewer.progress.Progress.{Progress};
-    ghost use Rattle.rfb_viewer.specs.inside.StepPromises.{Steps, Takes};
+    ghost use Rattle.rfb_viewer.specs.steps.StepPromises.{Steps, Takes};
 
     // Takes a byte of a message's head.
     pub(super) fn take_head(&mut self, bytes: &[u8]) -> Result<Fed<ViewerEvent>, Failure>

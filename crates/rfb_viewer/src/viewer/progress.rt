@@ -3,7 +3,7 @@
 ghost use Rattle.std.specs.Prelude.{◌≡◌};
 ghost use Rattle.rfb_viewer.specs.declared.viewer.progress.Progress.{Progress};
 ghost use Rattle.rfb_viewer.specs.Model.{is_outstanding};
-ghost use Rattle.rfb_viewer.specs.inside.Steps.{at_message, at_rectangle};
+ghost use Rattle.rfb_viewer.specs.steps.Steps.{at_message, at_rectangle};
 
 use crate::fault::ViewerFault;
 use arrayvec::ArrayVec;

@@ -30,7 +30,7 @@ pub(crate) struct Taken {
 
 impl Viewer {
     ghost use Rattle.rfb_viewer.specs.declared.viewer.progress.Progress.{Progress};
-    ghost use Rattle.rfb_viewer.specs.inside.StepPromises.{Steps, StepsInData};
+    ghost use Rattle.rfb_viewer.specs.steps.StepPromises.{Steps, StepsInData};
 
     // Takes bytes of a rectangle's head, and after it those of its data.
     pub(super) fn take_rect_head(&mut self, bytes: &[u8]) -> Result<Fed<ViewerEvent>, Failure>

@@ -3,7 +3,7 @@
 use Rattle.std.proofs.Common.{◌≡◌, ℕ, List, [], ◌∷◌, ◌++◌, inl, inr, Option, Some, None, map, refl, sym, subst, ◌∙◌, ap}
 use Rattle.std.specs.Prelude.{IsTrue}
 use Rattle.std.specs.Option.{IfSome}
-use Rattle.rfb_wire.specs.stream.Reading.{Next, More}
+use Rattle.rfb_wire.specs.stream.Prefix.{Next, More}
 use Rattle.rfb_wire.specs.stream.Parts.{named}
 use Rattle.rfb_wire.specs.stream.Grammar.{Grammar, ReadsAll}
 use Rattle.rfb_wire.specs.stream.End.{Machine, IsMachine, acts, EndsWith, Takes, Refuses, RunsOut}

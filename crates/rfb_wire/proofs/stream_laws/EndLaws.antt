@@ -2,7 +2,7 @@
 use Rattle.std.proofs.Common.{◌≡◌, ℕ, List, [], ◌∷◌, ◌++◌, Option, Some, None, refl, sym, subst, ◌∙◌, ap, append_assoc}
 use Rattle.std.proofs.Common.{append-nil, length-append}
 use Rattle.std.specs.Option.{IfSome}
-use Rattle.rfb_wire.specs.stream.Reading.{More, Got, Bad}
+use Rattle.rfb_wire.specs.stream.Prefix.{More, Got, Bad}
 use Rattle.rfb_wire.specs.stream.Grammar.{ReadsAll, past_all}
 use Rattle.rfb_wire.specs.stream.End.{Machine, IsMachine, acts, EndsWith, told, with_event, Takes, Refuses, RunsOut}
 use Rattle.rfb_wire.specs.stream.End.{Runs, Call, CallsTo, bytes_of, events_of, DeliversItems, Delivers}

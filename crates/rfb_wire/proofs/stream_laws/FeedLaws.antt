@@ -3,7 +3,7 @@
 use Rattle.std.proofs.Common.{◌≡◌, ℕ, ◌+◌, List, [], ◌++◌, Option, None, Ok, Err, take, drop, refl, sym, subst, ◌∙◌, ap}
 use Rattle.std.proofs.Common.{arith, take-append-drop}
 use Rattle.std.proofs.lemmas.List.{take-take, drop-take}
-use Rattle.rfb_wire.specs.stream.Reading.{Next, More, Got, Bad}
+use Rattle.rfb_wire.specs.stream.Prefix.{Next, More, Got, Bad}
 use Rattle.rfb_wire.specs.stream.End.{Machine, IsMachine, Takes, Refuses, RunsOut, FedBy, RefusedBy, RunsOutBy, Steps}
 use Rattle.rfb_wire.specs.stream.End.{StepsBy}
 use Rattle.rfb_wire.proofs.stream_laws.EndLaws.{takes_none, takes_part, takes_last, takes_then, refuses_unit}

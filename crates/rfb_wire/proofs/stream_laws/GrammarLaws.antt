@@ -5,7 +5,7 @@ use Rattle.std.proofs.Common.{length-append, take-append-drop}
 use Rattle.std.proofs.lemmas.List.{take_at, take-append-le}
 use Rattle.std.specs.List.{concat}
 use Rattle.std.proofs.lemmas.Bool.{cases_lt}
-use Rattle.rfb_wire.specs.stream.Reading.{Next, More, Got, Bad, Says}
+use Rattle.rfb_wire.specs.stream.Prefix.{Next, More, Got, Bad, Says}
 use Rattle.rfb_wire.specs.stream.Grammar.{Grammar, IsSpelled, IsGrammar, ReadsAll, past_all, sizes, IsWithinFirst}
 use Rattle.rfb_wire.specs.stream.Grammar.{EndsIn, HasVerdict, CutVerdict}
 use Rattle.rfb_wire.proofs.stream_laws.ReadingLaws.{reads_more, reads_bad, reads_alone}

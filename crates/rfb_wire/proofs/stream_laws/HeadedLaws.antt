@@ -2,7 +2,7 @@
 use Rattle.std.proofs.Common.{◌≡◌, ℕ, ◌+◌, ◌*◌, ◌-◌, ◌<◌, inl, inr, List, [], ◌∷◌}
 use Rattle.std.proofs.Common.{◌++◌, Option, Some, None, length}
 use Rattle.std.proofs.Common.{slice_index, refl, sym, subst, ◌∙◌, ap, length-append, arith}
-use Rattle.rfb_wire.specs.stream.Reading.{Reading, Says, Reads, Same, Listed}
+use Rattle.rfb_wire.specs.stream.Prefix.{Reading, Says, Reads, Same, Listed}
 use Rattle.rfb_wire.specs.stream.Parts.{waiting, refused, valued, rest_of_head, headed, and_then}
 use Rattle.rfb_wire.specs.stream.Heads.{BeginsNone, Misses, SpellsList, SpellsText}
 use Rattle.rfb_wire.proofs.stream_laws.HeadLemmas.{SizesSpell, SpelledAlone, misses_rest, begins_some}

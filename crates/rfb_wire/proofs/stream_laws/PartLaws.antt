@@ -4,7 +4,7 @@ use Rattle.std.proofs.Common.{None, if◌then◌else◌, length, take, drop, ref
 use Rattle.std.proofs.Common.{arith, length-append, take-append-drop}
 use Rattle.std.proofs.lemmas.List.{take_at, drop_at, length-take-le}
 use Rattle.std.proofs.lemmas.Bool.Decides.{nat_tests}
-use Rattle.rfb_wire.specs.stream.Reading.{Next, More, Got, Bad, Reading, Says, Reads, Same}
+use Rattle.rfb_wire.specs.stream.Prefix.{Next, More, Got, Bad, Reading, Says, Reads, Same}
 use Rattle.rfb_wire.specs.stream.Parts.{piece, done, judged, continue_with, and_then}
 
 -- ---- what each part says

@@ -5,8 +5,8 @@ use Rattle.std.proofs.lemmas.List.{drop_at}
 use Rattle.std.proofs.lemmas.Nat.{mod-mul-add}
 use Rattle.std.proofs.Math.Nat.{mod-le, mod-lt, mod-one}
 use Rattle.std.proofs.lemmas.Bool.Decides.{nat_tests}
-use Rattle.rfb_wire.specs.stream.Reading.{Listed}
-use Rattle.rfb_wire.specs.stream.Pending.{in_pieces, after_piece, after_head, message_pending}
+use Rattle.rfb_wire.specs.stream.Prefix.{Listed}
+use Rattle.rfb_wire.specs.stream.PendingBytes.{in_pieces, after_piece, after_head, message_pending}
 use Rattle.rfb_wire.proofs.stream_laws.HeadLemmas.{SpelledAlone}
 
 -- ---- pieces

@@ -2,7 +2,7 @@
 use Rattle.std.proofs.Common.{◌≡◌, ℕ, ◌+◌, ◌-◌, ◌<◌, List, [], ◌++◌, None, length, take, drop, sym, subst}
 use Rattle.std.proofs.Common.{arith, append-nil}
 use Rattle.std.proofs.lemmas.List.{take_all}
-use Rattle.rfb_wire.specs.stream.Reading.{More}
+use Rattle.rfb_wire.specs.stream.Prefix.{More}
 use Rattle.rfb_wire.specs.stream.End.{Machine, IsMachine, FedBy, RefusedBy, RunsOutBy}
 use Rattle.rfb_wire.specs.stream.FaultPlace.{TakenBy, RefusedWith, RunsOutWith}
 use Rattle.rfb_wire.proofs.stream_laws.EndLaws.{takes_part, takes_then, runs_out_then}

@@ -1,7 +1,7 @@
 -- What follows from the law of a reading.
 use Rattle.std.proofs.Common.{◌≡◌, ℕ, zero, suc, ◌<◌, List, [], ◌∷◌, ◌++◌, length, refl, subst, append_assoc}
 use Rattle.std.proofs.Common.{append-nil, arith}
-use Rattle.rfb_wire.specs.stream.Reading.{Next, More, Got, Bad, Reading, Says, Reads, Listed, ListedAfter}
+use Rattle.rfb_wire.specs.stream.Prefix.{Next, More, Got, Bad, Reading, Says, Reads, Listed, ListedAfter}
 use Rattle.rfb_wire.specs.stream.Parts.{many, each}
 use Rattle.rfb_wire.proofs.stream_laws.RepeatLaws.{listed_to}
 

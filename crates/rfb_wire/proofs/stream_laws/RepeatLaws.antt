@@ -4,8 +4,8 @@ use Rattle.std.proofs.Common.{◌≡◌, ℕ, zero, suc, ◌-◌, ◌<◌, inl, 
 use Rattle.std.proofs.Common.{Some, None, length, take, refl, sym, subst, ◌∙◌, ap, append_assoc, append-nil, arith}
 use Rattle.std.proofs.Common.{length-append}
 use Rattle.std.proofs.lemmas.List.{take_at}
-use Rattle.rfb_wire.specs.stream.Reading.{Next, More, Got, Bad, Reading, Says, Reads, Same, Listed, ListedAfter}
-use Rattle.rfb_wire.specs.stream.Reading.{Optionally}
+use Rattle.rfb_wire.specs.stream.Prefix.{Next, More, Got, Bad, Reading, Says, Reads, Same, Listed, ListedAfter}
+use Rattle.rfb_wire.specs.stream.Prefix.{Optionally}
 use Rattle.rfb_wire.specs.stream.Parts.{named, renamed, checked, judged, piece, done, taken, kept, and_then}
 use Rattle.rfb_wire.specs.stream.Parts.{valued, optional, many, each}
 use Rattle.rfb_wire.proofs.stream_laws.PartLaws.{alone, judged_says, judged_reads, kept_says, piece_says, done_says}

@@ -1,7 +1,7 @@
 -- A stream of two grammars keeps the laws that each of them has.
 use Rattle.std.proofs.Common.{◌≡◌, ℕ, ◌<◌, List, [], ◌∷◌, ◌++◌, Option, Some, None, length, map, refl, sym, subst, ◌∙◌}
 use Rattle.std.proofs.Common.{ap}
-use Rattle.rfb_wire.specs.stream.Reading.{Reading, Says, Reads}
+use Rattle.rfb_wire.specs.stream.Prefix.{Reading, Says, Reads}
 use Rattle.rfb_wire.specs.stream.Parts.{renamed}
 use Rattle.rfb_wire.specs.stream.Grammar.{IsSpelled, ReadsAll, past_all}
 use Rattle.rfb_wire.proofs.stream_laws.PartLaws.{same_reads}

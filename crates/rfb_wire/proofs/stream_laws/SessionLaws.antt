@@ -3,7 +3,7 @@
 use Rattle.std.proofs.Common.{◌≡◌, ℕ, List, [], ◌++◌, Option, Some, None, sym, subst, ◌∙◌, ap, append_assoc, append-nil}
 use Rattle.std.proofs.Common.{length-append, arith}
 use Rattle.std.specs.Prelude.{⊤}
-use Rattle.rfb_wire.specs.stream.Reading.{More, Bad}
+use Rattle.rfb_wire.specs.stream.Prefix.{More, Bad}
 use Rattle.rfb_wire.specs.stream.Grammar.{ReadsAll, past_all, EndsIn}
 use Rattle.rfb_wire.specs.stream.End.{Machine, IsMachine, acts, told, RunsOut, Runs, Call, CallsTo}
 use Rattle.rfb_wire.specs.stream.End.{bytes_of, events_of, DeliversItems}

@@ -4,7 +4,7 @@ use Rattle.std.proofs.Common.{take, drop, replicate, slice_index, refl, subst, a
 use Rattle.std.proofs.Common.{take-append-drop}
 use Rattle.std.proofs.lemmas.List.{length-replicate, length-take-le}
 use Rattle.std.proofs.lemmas.Bool.{cases_lt}
-use Rattle.rfb_wire.specs.stream.Reading.{More, Got, Reading}
+use Rattle.rfb_wire.specs.stream.Prefix.{More, Got, Reading}
 use Rattle.rfb_wire.specs.stream.Parts.{and_then, valued, each, headed}
 use Rattle.rfb_wire.specs.stream.Heads.{Misses}
 use Rattle.rfb_wire.proofs.stream_laws.PartLaws.{piece_short}

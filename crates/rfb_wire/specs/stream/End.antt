@@ -1,6 +1,6 @@
 -- An end of a connection: what it takes from the stream that it is fed, whatever the slices are.
 use Rattle.std.specs.Prelude.{ℕ, List, [], ◌∷◌, ◌++◌, ◌≡◌, ◌+◌, length, Option, Some, None, Result, Ok, Err, IfSome}
-use Rattle.rfb_wire.specs.stream.Reading.{Next, More, Got, Bad}
+use Rattle.rfb_wire.specs.stream.Prefix.{Next, More, Got, Bad}
 use Rattle.rfb_wire.specs.stream.Grammar.{Grammar, IsGrammar, ReadsAll, sizes, IsWithinFirst}
 
 -- a machine over a grammar: where in its stream a state stands, what an item makes of it, and what

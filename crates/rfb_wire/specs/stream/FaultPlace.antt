@@ -1,7 +1,7 @@
 -- Where bytes are refused: with which byte of a slice a fault comes, and how many bytes were used in
 -- all. Bytes are counted from 1.
 use Rattle.std.specs.Prelude.{ℕ, ◌+◌, ◌-◌, ◌^◌, ◌<◌, ◌≤◌, ◌≡◌, min, List, length, take, None}
-use Rattle.rfb_wire.specs.stream.Reading.{More, Bad, Reading}
+use Rattle.rfb_wire.specs.stream.Prefix.{More, Bad, Reading}
 use Rattle.rfb_wire.specs.stream.End.{Machine, Takes, RefusedBy, RunsOutBy}
 
 -- the reading shows the fault with byte n, and without that byte it waits for more

@@ -1,6 +1,6 @@
 -- Streams: items one after another, each read at the point that those before it lead to.
 use Rattle.std.specs.Prelude.{ℕ, List, [], ◌∷◌, ◌++◌, ◌≡◌, ◌+◌, ◌<◌, Option, Some, None, length}
-use Rattle.rfb_wire.specs.stream.Reading.{Next, More, Got, Bad, Reading, Says, Reads}
+use Rattle.rfb_wire.specs.stream.Prefix.{Next, More, Got, Bad, Reading, Says, Reads}
 
 -- what stands next at each point of a stream, the point after an item, and how many bytes it has
 pub record Grammar (P I F : Type 0) : Type 0 where

@@ -1,7 +1,7 @@
 -- Heads, of which the first byte decides the rest: what bytes that are no whole head are, by the
 -- relation between heads and their bytes; and what a head has after it that tells how much follows.
 use Rattle.std.specs.Prelude.{◌≡◌, ℕ, ◌<◌, List, [], ◌∷◌, ◌++◌, length}
-use Rattle.rfb_wire.specs.stream.Reading.{Listed}
+use Rattle.rfb_wire.specs.stream.Prefix.{Listed}
 
 module _ {V : Type 0} where
   -- no head begins with this byte

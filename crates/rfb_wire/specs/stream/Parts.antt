@@ -1,7 +1,7 @@
 -- The parts that the reading of a grammar is put together of.
 use Rattle.std.specs.Prelude.{ℕ, zero, suc, Bool, true, false, List, [], ◌∷◌, ◌++◌, ◌-◌, Option, Some, None, nat_le}
 use Rattle.std.specs.Prelude.{slice_index, length, take, drop, if◌then◌else◌}
-use Rattle.rfb_wire.specs.stream.Reading.{Next, More, Got, Bad, Reading}
+use Rattle.rfb_wire.specs.stream.Prefix.{Next, More, Got, Bad, Reading}
 
 -- n bytes
 abbrev pub piece : {F : Type 0} → ℕ → Reading (List ℕ) F

@@ -1,6 +1,6 @@
 -- A stream of two grammars: items of the first, until one of them leads to a point of the second.
 use Rattle.std.specs.Prelude.{ℕ, List, [], ◌∷◌, ◌++◌, map, ◌≡◌, Option, Some, None, ⊤}
-use Rattle.rfb_wire.specs.stream.Reading.{Reading, Says}
+use Rattle.rfb_wire.specs.stream.Prefix.{Reading, Says}
 use Rattle.rfb_wire.specs.stream.Parts.{renamed}
 use Rattle.rfb_wire.specs.stream.Grammar.{Grammar}
 

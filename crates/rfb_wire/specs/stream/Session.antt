@@ -1,6 +1,6 @@
 -- Sessions: calls one after another and how they end, and what they make of a queue.
 use Rattle.std.specs.Prelude.{ℕ, List, [], ◌≡◌, Option, Some, None, ⊤}
-use Rattle.rfb_wire.specs.stream.Reading.{More}
+use Rattle.rfb_wire.specs.stream.Prefix.{More}
 use Rattle.rfb_wire.specs.stream.End.{Machine, told, Refuses, RunsOut, Call, CallsTo, DeliversItems}
 
 module _ {S P I F E : Type 0} where

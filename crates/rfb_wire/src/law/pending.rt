@@ -3,13 +3,13 @@
 ghost use Rattle.std.specs.Prelude.{ℕ, ℤ, List, [], ◌++◌, ◌≡◌, ◌<◌, ◌≤◌, length};
 ghost use Rattle.rfb_wire.specs.declared.client_head.ClientHead.{ClientHead as ClientHeadValue};
 ghost use Rattle.rfb_wire.specs.declared.server_head.ServerHead.{ServerHead as ServerHeadValue};
-ghost use Rattle.rfb_wire.specs.stream.Reading.{Listed};
+ghost use Rattle.rfb_wire.specs.stream.Prefix.{Listed};
 ghost use Rattle.rfb_wire.specs.ClientHead.{SpellsClientHead, SpellsSetEncodings};
 ghost use Rattle.rfb_wire.specs.ClientHead.{SpellsClientCutText};
 ghost use Rattle.rfb_wire.specs.ServerHead.{SpellsServerHead, SpellsColourMap, SpellsServerCutText};
 ghost use Rattle.rfb_wire.specs.ClientMessage.{SpellsNumber};
 ghost use Rattle.rfb_wire.specs.ServerMessage.{MapColour, SpellsMapColour};
-ghost use Rattle.rfb_wire.specs.Pending.{client_pending, server_pending};
+ghost use Rattle.rfb_wire.specs.MessagePieces.{client_pending, server_pending};
 
 /// Of a client message the head is one piece, each number of SetEncodings one, and each byte of a
 /// text one. At most 19 bytes are pending, and no more than came.

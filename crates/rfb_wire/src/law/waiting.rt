@@ -2,7 +2,7 @@
 
 ghost use Rattle.std.specs.Prelude.{ℕ, List, ◌∷◌, ◌++◌, ◌≡◌, ◌*◌, ◌<◌, length};
 ghost use Rattle.rfb_wire.specs.stream.Heads.{BeginsNone, Misses};
-ghost use Rattle.rfb_wire.specs.stream.Reading.{More, Bad};
+ghost use Rattle.rfb_wire.specs.stream.Prefix.{More, Bad};
 ghost use Rattle.rfb_wire.specs.ClientHead.{SpellsClientHead};
 ghost use Rattle.rfb_wire.specs.ClientHead.{SpellsSetEncodings, SpellsClientCutText};
 ghost use Rattle.rfb_wire.specs.ClientMessage.{UnknownType};

@@ -7,7 +7,7 @@ pub mod session;
 
 ghost use Rattle.std.specs.Prelude.{ℕ, List, [], ◌≡◌, ◌++◌, Option};
 ghost use Rattle.std.specs.List.{concat};
-ghost use Rattle.rfb_wire.specs.stream.Reading.{More, Got};
+ghost use Rattle.rfb_wire.specs.stream.Prefix.{More, Got};
 ghost use Rattle.rfb_wire.specs.stream.Grammar.{Grammar, IsGrammar, ReadsAll, IsWithinFirst};
 ghost use Rattle.rfb_wire.specs.stream.Grammar.{HasVerdict, CutVerdict};
 ghost use Rattle.rfb_wire.specs.stream.End.{Machine, IsMachine, Takes, Refuses, Call, CallsTo};

@@ -1,6 +1,6 @@
 use Rattle.std.proofs.Common.{◌*◌, take}
 use Rattle.rfb_pixel.specs.Format.{ArePixels}
-use Rattle.rfb_codec.specs.inside.Encode.{PacksRows}
+use Rattle.rfb_codec.specs.encoder.Encode.{PacksRows}
 use Rattle.rfb_codec.proofs.block.pack_each_row.Given as goal
 
 abbrev pub invariant-loop-y : goal.invariant-loop-y

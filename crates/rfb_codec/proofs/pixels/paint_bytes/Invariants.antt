@@ -1,6 +1,6 @@
 use Rattle.std.proofs.Common.{◌+◌, ◌*◌}
 use Rattle.rfb_pixel.specs.Bytes.{byte_colour}
-use Rattle.rfb_codec.specs.inside.Step.{PaintsOver}
+use Rattle.rfb_codec.specs.decoder.Step.{PaintsOver}
 use Rattle.rfb_codec.proofs.pixels.paint_bytes.Given as goal
 
 abbrev pub invariant-loop-row : goal.invariant-loop-row

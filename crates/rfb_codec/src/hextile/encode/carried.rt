@@ -2,7 +2,7 @@
 
 ghost use Rattle.std.specs.Prelude.{◌≡◌};
 ghost use Rattle.rfb_codec.specs.HextileRule.{named_in};
-ghost use Rattle.rfb_codec.specs.inside.Carried.{IsNamed};
+ghost use Rattle.rfb_codec.specs.encoder.Carried.{IsNamed};
 
 /// The background and the foreground that the next tile may use without naming them, where there is
 /// one.

@@ -6,8 +6,8 @@ ghost use Rattle.rfb_codec.specs.Pixels.{IsPixel};
 ghost use Rattle.rfb_codec.specs.Raw.{raw_length};
 ghost use Rattle.rfb_codec.specs.Tile.{Tile};
 ghost use Rattle.rfb_codec.specs.HextileRule.{IsDrawn, IsRuleTile, left_by, tile_length};
-ghost use Rattle.rfb_codec.specs.inside.TileSpelling.{AreTileParts, tile_of};
-ghost use Rattle.rfb_codec.specs.inside.Carried.{Sends, held_of};
+ghost use Rattle.rfb_codec.specs.encoder.TileSpelling.{AreTileParts, tile_of};
+ghost use Rattle.rfb_codec.specs.encoder.Carried.{Sends, held_of};
 
 use super::carried::{Carried, named};
 use super::spelling::spelled_length;

@@ -4,7 +4,7 @@ ghost use Rattle.std.specs.Prelude.{◌≡◌, ◌+◌, ◌-◌, ◌≤◌, ◌*
 ghost use Rattle.std.specs.List.{flat_map};
 ghost use Rattle.arrayvec.specs.ArrayVec.{array_vec_len};
 ghost use Rattle.rfb_pixel.specs.Format.{size_of, pixel_bytes};
-ghost use Rattle.rfb_codec.specs.inside.TileSpelling.{IsTilePart, AreTileParts, own_place};
+ghost use Rattle.rfb_codec.specs.encoder.TileSpelling.{IsTilePart, AreTileParts, own_place};
 ghost use Rattle.rfb_codec.specs.SentTile.{colour_bytes, count_bytes, colored_bytes};
 
 use super::choosing::TileSubrects;

@@ -3,7 +3,7 @@
 ghost use Rattle.std.specs.Prelude.{◌≡◌, ◌+◌, ◌≤◌, ◌*◌, ◌++◌, length, if◌then◌else◌};
 ghost use Rattle.arrayvec.specs.ArrayVec.{array_vec_len};
 ghost use Rattle.rfb_pixel.specs.Format.{size_of};
-ghost use Rattle.rfb_codec.specs.inside.TileSpelling.{AreTileParts, mask_of, tile_bytes};
+ghost use Rattle.rfb_codec.specs.encoder.TileSpelling.{AreTileParts, mask_of, tile_bytes};
 ghost use Rattle.rfb_codec.specs.SentTile.{are_some, is_there, bit_if, colour_bytes};
 
 use super::choosing::TileSubrects;

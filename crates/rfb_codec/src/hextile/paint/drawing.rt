@@ -4,10 +4,10 @@ ghost use Rattle.std.specs.Prelude.{◌≡◌, ℕ, ◌+◌, ◌*◌, ◌≤◌,
 ghost use Rattle.std.specs.Prelude.{false, true};
 ghost use Rattle.rfb_pixel.specs.Format.{size_of, colour_of};
 ghost use Rattle.rfb_codec.specs.Tile.{Tile, AreInside, places_of, tile_pixel, colored_of};
-ghost use Rattle.rfb_codec.specs.inside.TileRead.{LiesIn, tile_of_read};
-ghost use Rattle.rfb_codec.specs.inside.TileRead.{sub_after, sub_size};
+ghost use Rattle.rfb_codec.specs.decoder.TileRead.{LiesIn, tile_of_read};
+ghost use Rattle.rfb_codec.specs.decoder.TileRead.{sub_after, sub_size};
 ghost use Rattle.rfb_codec.specs.Stage.{Sees};
-ghost use Rattle.rfb_codec.specs.inside.Step.{HasSubs, IsPaintable, PaintsSubs};
+ghost use Rattle.rfb_codec.specs.decoder.Step.{HasSubs, IsPaintable, PaintsSubs};
 ghost use Rattle.rfb_codec.specs.Painter.{over};
 
 use super::reading::place_of;

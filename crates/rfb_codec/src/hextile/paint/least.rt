@@ -2,7 +2,7 @@
 
 ghost use Rattle.std.specs.Prelude.{◌≡◌, ◌+◌, ◌*◌, ◌<◌, ◌≤◌, length};
 ghost use Rattle.rfb_codec.specs.Tile.{subrects_colored};
-ghost use Rattle.rfb_codec.specs.inside.TileRead.{sub_size, colours_end, least_size};
+ghost use Rattle.rfb_codec.specs.decoder.TileRead.{sub_size, colours_end, least_size};
 
 use crate::hextile::mask::{
     ANY_SUBRECTS, BACKGROUND_SPECIFIED, FOREGROUND_SPECIFIED, SUBRECTS_COLORED,

@@ -1,11 +1,11 @@
 //! The rectangle's next tile: where it lies, and what becomes of it once it is all there.
 
 ghost use Rattle.std.specs.Prelude.{◌≡◌, ◌+◌, ◌^◌, ◌<◌, ◌≤◌, IfOk, IfErr, IfSome};
-ghost use Rattle.rfb_codec.specs.inside.TileRead.{IsShort, tile_of_read};
+ghost use Rattle.rfb_codec.specs.decoder.TileRead.{IsShort, tile_of_read};
 ghost use Rattle.rfb_codec.specs.Hextile.{tile_count, tile_width, tile_height};
-ghost use Rattle.rfb_codec.specs.inside.Step.{IsPaintable};
+ghost use Rattle.rfb_codec.specs.decoder.Step.{IsPaintable};
 ghost use Rattle.rfb_codec.specs.Front.{tile_places};
-ghost use Rattle.rfb_codec.specs.inside.Step.{IsGoodTile, TellsNext, FaultsNext, DrawsTile};
+ghost use Rattle.rfb_codec.specs.decoder.Step.{IsGoodTile, TellsNext, FaultsNext, DrawsTile};
 
 use super::drawing::draw_tile;
 use super::reading::read_tile;

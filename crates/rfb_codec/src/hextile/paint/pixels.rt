@@ -5,7 +5,7 @@ ghost use Rattle.arrayvec.specs.ArrayVec.{array_vec_len};
 ghost use Rattle.rfb_pixel.specs.Format.{size_of};
 ghost use Rattle.rfb_codec.specs.declared.painter.stage.Stage.TheVariants.{InTiles, InRawTile};
 ghost use Rattle.rfb_codec.specs.Hextile.{tile_count, tile_width, tile_height};
-ghost use Rattle.rfb_codec.specs.inside.Step.{IsPaintable, Takes};
+ghost use Rattle.rfb_codec.specs.decoder.Step.{IsPaintable, Takes};
 
 use super::next::places_of_tile;
 use super::tile_read::Seen;

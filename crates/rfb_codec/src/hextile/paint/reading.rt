@@ -3,14 +3,14 @@
 ghost use Rattle.std.specs.Prelude.{◌≡◌, ℕ, ◌+◌, ◌*◌, ◌≤◌, ◌<◌, ◌==◌, not, List, length, drop};
 ghost use Rattle.std.specs.Prelude.{slice_index, MatchOption, IfErr, None, true, false, ◌⊎◌};
 ghost use Rattle.rfb_pixel.specs.Format.{size_of};
-ghost use Rattle.rfb_wire.specs.stream.Reading.{More, Got};
+ghost use Rattle.rfb_wire.specs.stream.Prefix.{More, Got};
 ghost use Rattle.rfb_wire.specs.stream.Parts.{optional};
 ghost use Rattle.rfb_wire.specs.RectStream.{is_on_screen};
 ghost use Rattle.rfb_wire.specs.stream.FaultPlace.{FaultsWith};
 ghost use Rattle.rfb_codec.specs.Tile.{Tile, is_raw, subrects_colored, mask_fault, tile_colour};
 ghost use Rattle.rfb_codec.specs.Tile.{after_mask, are_inside, places_of, place_of, tile_after};
-ghost use Rattle.rfb_codec.specs.inside.TileRead.{LiesIn, tile_of_read, TellsTile, IsShort};
-ghost use Rattle.rfb_codec.specs.inside.TileRead.{IsCount, places_from};
+ghost use Rattle.rfb_codec.specs.decoder.TileRead.{LiesIn, tile_of_read, TellsTile, IsShort};
+ghost use Rattle.rfb_codec.specs.decoder.TileRead.{IsCount, places_from};
 ghost use Rattle.rfb_codec.specs.Stage.{Sees};
 
 use super::tile_read::{Seen, TileRead};

@@ -6,7 +6,7 @@ ghost use Rattle.arrayvec.specs.ArrayVec.{array_vec_len};
 ghost use Rattle.rfb_codec.specs.declared.painter.stage.Stage.TheVariants.{InTiles, InRawTile};
 ghost use Rattle.rfb_codec.specs.Tile.{is_raw};
 ghost use Rattle.rfb_codec.specs.Hextile.{tile_count};
-ghost use Rattle.rfb_codec.specs.inside.Step.{IsPaintable, Steps};
+ghost use Rattle.rfb_codec.specs.decoder.Step.{IsPaintable, Steps};
 
 use super::least::least_size;
 use super::next::{draw_next, read_next};

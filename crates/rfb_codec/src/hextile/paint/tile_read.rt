@@ -2,7 +2,7 @@
 
 ghost use Rattle.std.specs.Prelude.{◌≡◌};
 ghost use Rattle.rfb_codec.specs.Tile.{later, colour_or_zero};
-ghost use Rattle.rfb_codec.specs.inside.TileRead.{background_named, foreground_named};
+ghost use Rattle.rfb_codec.specs.decoder.TileRead.{background_named, foreground_named};
 
 use crate::hextile::layout::TileLayout;
 

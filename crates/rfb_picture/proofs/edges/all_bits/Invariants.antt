@@ -1,5 +1,5 @@
 use Rattle.std.proofs.Common.{◌+◌, ◌*◌, ◌≤◌}
-use Rattle.rfb_picture.specs.inside.Edges.{HasAllBits, HasNoOtherBits}
+use Rattle.rfb_picture.specs.layout.Edges.{HasAllBits, HasNoOtherBits}
 use Rattle.rfb_picture.proofs.edges.all_bits.Given as goal
 
 -- the bits are those of the rows so far

@@ -1,6 +1,6 @@
 use Rattle.std.proofs.Common.{◌+◌, ◌*◌, ◌≤◌, max}
-use Rattle.rfb_picture.specs.inside.Plane.{has_masked}
-use Rattle.rfb_picture.specs.inside.Edges.{NoMarks}
+use Rattle.rfb_picture.specs.layout.Plane.{has_masked}
+use Rattle.rfb_picture.specs.layout.Edges.{NoMarks}
 use Rattle.rfb_picture.proofs.edges.first_row.Given as goal
 
 -- the rows so far have no mark

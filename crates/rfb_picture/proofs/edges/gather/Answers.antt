@@ -2,7 +2,7 @@ use Rattle.std.proofs.Common.{arith, bit_and}
 use Rattle.std.specs.Int.Bits.{and_lt}
 use Rattle.std.proofs.lemmas.Bool.{and_parts, and_from}
 use Rattle.rfb_picture.specs.Places.{has_bit}
-use Rattle.rfb_picture.specs.inside.Plane.{has_at}
+use Rattle.rfb_picture.specs.layout.Plane.{has_at}
 use Rattle.rfb_picture.proofs.WordLemmas.{has_bit-and}
 use Rattle.rfb_picture.proofs.GatherLemmas.{gathered}
 use Rattle.rfb_picture.proofs.edges.gather.Goals as goal

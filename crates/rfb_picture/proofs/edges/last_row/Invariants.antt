@@ -1,6 +1,6 @@
 use Rattle.std.proofs.Common.{◌+◌, ◌*◌, ◌<◌, ◌≤◌}
-use Rattle.rfb_picture.specs.inside.Plane.{has_masked}
-use Rattle.rfb_picture.specs.inside.Edges.{NoMarks}
+use Rattle.rfb_picture.specs.layout.Plane.{has_masked}
+use Rattle.rfb_picture.specs.layout.Edges.{NoMarks}
 use Rattle.rfb_picture.proofs.edges.last_row.Given as goal
 
 -- the rows below have no mark

@@ -1,5 +1,5 @@
 use Rattle.std.proofs.Common.{◌+◌, length, arith, rules}
-use Rattle.rfb_picture.specs.inside.Lines.{place_in}
+use Rattle.rfb_picture.specs.layout.Lines.{place_in}
 use Rattle.rfb_picture.proofs.LineLemmas.{line_fits}
 use Rattle.rfb_picture.proofs.RowsLemmas.{line_put}
 use Rattle.rfb_picture.proofs.picture.put_lines.Goals as goal

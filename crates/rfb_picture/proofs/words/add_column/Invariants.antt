@@ -1,4 +1,4 @@
-use Rattle.rfb_picture.specs.inside.Plane.{ColumnAdded}
+use Rattle.rfb_picture.specs.layout.Plane.{ColumnAdded}
 use Rattle.rfb_picture.proofs.words.add_column.Given as goal
 
 -- the rows so far have the mask's bits too

@@ -1,6 +1,6 @@
 use Rattle.std.proofs.Common.{arith}
 use Rattle.rfb_picture.specs.Places.{has_bit}
-use Rattle.rfb_picture.specs.inside.Plane.{has_at}
+use Rattle.rfb_picture.specs.layout.Plane.{has_at}
 use Rattle.rfb_picture.proofs.WordLemmas.{one_column_more}
 use Rattle.rfb_picture.proofs.words.add_places.Goals as goal
 

@@ -1,6 +1,6 @@
 use Rattle.std.proofs.Common.{◌≡◌, ℕ, ◌+◌, ◌*◌, ◌<◌, ◌&&◌, ◌||◌, nat_lt}
 use Rattle.rfb_picture.specs.Rect.{contains}
-use Rattle.rfb_picture.specs.inside.Plane.{has_at}
+use Rattle.rfb_picture.specs.layout.Plane.{has_at}
 use Rattle.rfb_picture.proofs.words.add_places.Given as goal
 
 -- the columns of words so far have the rectangle's places too

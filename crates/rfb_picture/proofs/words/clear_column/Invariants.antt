@@ -1,4 +1,4 @@
-use Rattle.rfb_picture.specs.inside.Plane.{ColumnCleared}
+use Rattle.rfb_picture.specs.layout.Plane.{ColumnCleared}
 use Rattle.rfb_picture.proofs.words.clear_column.Given as goal
 
 -- the rows so far have no bit in that word

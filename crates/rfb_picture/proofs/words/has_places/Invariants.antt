@@ -1,6 +1,6 @@
 use Rattle.std.proofs.Common.{◌≡◌, ℕ, ◌<◌, ◌*◌, true}
 use Rattle.rfb_picture.specs.Rect.{contains}
-use Rattle.rfb_picture.specs.inside.Plane.{has_place}
+use Rattle.rfb_picture.specs.layout.Plane.{has_place}
 use Rattle.rfb_picture.proofs.words.has_places.Given as goal
 
 -- the rectangle's places in the columns of words so far have their bits

@@ -1,4 +1,4 @@
-use Rattle.rfb_picture.specs.inside.Plane.{HasMasked}
+use Rattle.rfb_picture.specs.layout.Plane.{HasMasked}
 use Rattle.rfb_picture.proofs.words.has_strip.Given as goal
 
 -- the rows so far have the mask's bits

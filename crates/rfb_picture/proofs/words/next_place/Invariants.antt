@@ -1,5 +1,5 @@
 use Rattle.std.proofs.Common.{◌≡◌, ℕ, ◌<◌, ◌≤◌, ◌*◌, false}
-use Rattle.rfb_picture.specs.inside.Plane.{has_place}
+use Rattle.rfb_picture.specs.layout.Plane.{has_place}
 use Rattle.rfb_picture.proofs.words.next_place.Given as goal
 
 -- the words so far have no bit of those places

@@ -1,4 +1,4 @@
-use Rattle.rfb_picture.specs.inside.Plane.{AreUnused}
+use Rattle.rfb_picture.specs.layout.Plane.{AreUnused}
 use Rattle.rfb_picture.proofs.words.next_used.Given as goal
 
 -- the words so far have no bit

@@ -1,4 +1,4 @@
-use Rattle.rfb_picture.specs.inside.Plane.{ColumnLost}
+use Rattle.rfb_picture.specs.layout.Plane.{ColumnLost}
 use Rattle.rfb_picture.proofs.words.take_column.Given as goal
 
 -- the rows so far lost the other's bits

@@ -1,6 +1,6 @@
 use Rattle.std.proofs.Common.{◌≡◌, ◌&&◌, refl, true, false, nat_le, nat_lt, arith}
 use Rattle.std.proofs.lemmas.Bool.Decides.{nat_tests}
-use Rattle.rfb_picture.specs.inside.Plane.{has_at}
+use Rattle.rfb_picture.specs.layout.Plane.{has_at}
 use Rattle.rfb_picture.proofs.TakenWordLemmas.{one_column_taken, and_true}
 use Rattle.rfb_picture.proofs.words.take_places.Goals as goal
 

@@ -1,5 +1,5 @@
 use Rattle.std.proofs.Common.{◌≡◌, ℕ, ◌<◌, ◌&&◌, not, nat_le, nat_lt}
-use Rattle.rfb_picture.specs.inside.Plane.{has_at}
+use Rattle.rfb_picture.specs.layout.Plane.{has_at}
 use Rattle.rfb_picture.proofs.words.take_places.Given as goal
 
 -- the columns of words so far lost the other's bits

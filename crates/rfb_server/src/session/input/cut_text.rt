@@ -9,8 +9,8 @@ ghost use Rattle.rfb_hello.specs.KeptText.{KeptText, kept_of};
 ghost use Rattle.rfb_server.specs.declared.session.input.progress.Progress.{Progress};
 ghost use Rattle.rfb_server.specs.Progress.{fault_in};
 ghost use Rattle.rfb_server.specs.Model.{notes_in};
-ghost use Rattle.rfb_server.specs.inside.Sessions.{KeepsUp};
-ghost use Rattle.rfb_server.specs.inside.Slice.{StepsAs, RunsOutAs};
+ghost use Rattle.rfb_server.specs.session.Sessions.{KeepsUp};
+ghost use Rattle.rfb_server.specs.session.Slice.{StepsAs, RunsOutAs};
 
 use crate::event::ServerEvent;
 use crate::fault::ServerFault;

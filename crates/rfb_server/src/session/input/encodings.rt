@@ -7,8 +7,8 @@ ghost use Rattle.rfb_wire.specs.RectStream.{encoding_of};
 ghost use Rattle.rfb_server.specs.declared.session.input.progress.Progress.{Progress};
 ghost use Rattle.rfb_server.specs.Encodings.{with_encoding};
 ghost use Rattle.rfb_server.specs.Progress.{fault_in};
-ghost use Rattle.rfb_server.specs.inside.Sessions.{BeginsList, KeepsUp};
-ghost use Rattle.rfb_server.specs.inside.Slice.{StepsAs};
+ghost use Rattle.rfb_server.specs.session.Sessions.{BeginsList, KeepsUp};
+ghost use Rattle.rfb_server.specs.session.Slice.{StepsAs};
 
 use crate::encodings::EncodingList;
 use crate::session::Session;

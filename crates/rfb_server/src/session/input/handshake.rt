@@ -16,8 +16,8 @@ impl Session {
     ghost use Rattle.rfb_hello.specs.ServerModel.{is_open};
     ghost use Rattle.rfb_server.specs.declared.session.input.progress.Progress.{Progress};
     ghost use Rattle.rfb_server.specs.Progress.{fault_in};
-    ghost use Rattle.rfb_server.specs.inside.Sessions.{KeepsUp};
-    ghost use Rattle.rfb_server.specs.inside.Slice.{FeedsAs};
+    ghost use Rattle.rfb_server.specs.session.Sessions.{KeepsUp};
+    ghost use Rattle.rfb_server.specs.session.Slice.{FeedsAs};
     ghost use Rattle.rfb_server.specs.Failed.{EndsAs};
 
     // Takes bytes of the client's handshake, up to the last of its first step that makes an

@@ -7,8 +7,8 @@ ghost use Rattle.rfb_wire.specs.ClientHead.{SpellsClientHead};
 ghost use Rattle.rfb_server.specs.declared.session.input.progress.Progress.{Progress};
 ghost use Rattle.rfb_server.specs.Progress.{fault_in};
 ghost use Rattle.rfb_server.specs.Model.{notes_in};
-ghost use Rattle.rfb_server.specs.inside.Sessions.{BeginsMessage, KeepsUp};
-ghost use Rattle.rfb_server.specs.inside.Slice.{AwaitsMore, StepsAs, RunsOutAs};
+ghost use Rattle.rfb_server.specs.session.Sessions.{BeginsMessage, KeepsUp};
+ghost use Rattle.rfb_server.specs.session.Slice.{AwaitsMore, StepsAs, RunsOutAs};
 
 use crate::event::ServerEvent;
 use crate::fault::ServerFault;

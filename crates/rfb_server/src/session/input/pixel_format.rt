@@ -5,7 +5,7 @@ use rfb_picture::Rect;
 use rfb_pixel::Format;
 
 impl Session {
-    ghost use Rattle.rfb_server.specs.inside.Sessions.{HasFormat, StaysCaughtUp};
+    ghost use Rattle.rfb_server.specs.session.Sessions.{HasFormat, StaysCaughtUp};
 
     /// Updates are sent in the format from here on, and what was sent in another is known no more.
     pub(crate) fn set_format(&mut self, format: Format)

@@ -8,7 +8,7 @@ use crate::session::Session;
 use rfb_picture::Rect;
 
 impl Session {
-    ghost use Rattle.rfb_server.specs.inside.Sessions.{IsAskedFor, StaysCaughtUp};
+    ghost use Rattle.rfb_server.specs.session.Sessions.{IsAskedFor, StaysCaughtUp};
 
     /// The viewer asks for the part of the rectangle that lies on the screen, for whatever it has
     /// there if the request is not incremental.

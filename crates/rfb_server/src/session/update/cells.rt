@@ -6,10 +6,10 @@ ghost use Rattle.std.specs.Int.{div_ceil};
 ghost use Rattle.std.specs.Vec.{vec_capacity};
 ghost use Rattle.rfb_picture.specs.Grid.{Holds};
 ghost use Rattle.rfb_codec.specs.Raw.{raw_length};
-ghost use Rattle.rfb_server.specs.inside.Needs.{IsQuiet};
+ghost use Rattle.rfb_server.specs.update.Needs.{IsQuiet};
 ghost use Rattle.rfb_server.specs.KnownScreen.{Follows};
-ghost use Rattle.rfb_server.specs.inside.Sends.{IsKept, AppendsPixels, SendsCell, AppendsCells};
-ghost use Rattle.rfb_server.specs.inside.Sends.{IsCostIn, IsEnough, AreLimits};
+ghost use Rattle.rfb_server.specs.update.Sends.{IsKept, AppendsPixels, SendsCell, AppendsCells};
+ghost use Rattle.rfb_server.specs.update.Sends.{IsCostIn, IsEnough, AreLimits};
 
 use crate::cells::cell_at;
 use crate::rectangle::append_rect;

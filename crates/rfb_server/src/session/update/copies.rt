@@ -4,13 +4,13 @@ ghost use Rattle.std.specs.Prelude.{◌≡◌, ◌+◌, ◌*◌, ◌≤◌, slic
 ghost use Rattle.rfb_server.specs.Claims.{IsClaimed};
 ghost use Rattle.std.specs.Option.{ForSome};
 ghost use Rattle.std.specs.Vec.{vec_capacity};
-ghost use Rattle.rfb_server.specs.inside.Needs.{IsQuiet};
+ghost use Rattle.rfb_server.specs.update.Needs.{IsQuiet};
 ghost use Rattle.rfb_server.specs.KnownScreen.{Follows};
-ghost use Rattle.rfb_server.specs.inside.Sessions.{IsSame};
-ghost use Rattle.rfb_server.specs.inside.Sends.{IsKept};
-ghost use Rattle.rfb_server.specs.inside.Copies.{SendsHint, FollowsHint, IsUseful};
-ghost use Rattle.rfb_server.specs.inside.Copies.{KeepsMarks, IsMarkedFor, AreMarkedFor};
-ghost use Rattle.rfb_server.specs.inside.Copies.{AppendsCopies, usable_hints};
+ghost use Rattle.rfb_server.specs.session.Sessions.{IsSame};
+ghost use Rattle.rfb_server.specs.update.Sends.{IsKept};
+ghost use Rattle.rfb_server.specs.update.Copies.{SendsHint, FollowsHint, IsUseful};
+ghost use Rattle.rfb_server.specs.update.Copies.{KeepsMarks, IsMarkedFor, AreMarkedFor};
+ghost use Rattle.rfb_server.specs.update.Copies.{AppendsCopies, usable_hints};
 ghost use Rattle.rfb_server.specs.declared.hint.Hint.{Hint};
 
 use crate::claim::{Claim, led_on};

@@ -5,10 +5,10 @@ ghost use Rattle.std.specs.Bool.{OnTrue, OnFalse};
 ghost use Rattle.rfb_picture.specs.Grid.{Holds};
 ghost use Rattle.rfb_server.specs.Claims.{IsClaimed};
 ghost use Rattle.rfb_server.specs.KnownScreen.{Follows};
-ghost use Rattle.rfb_server.specs.inside.Copies.{IsFree, IsUseful};
+ghost use Rattle.rfb_server.specs.update.Copies.{IsFree, IsUseful};
 ghost use Rattle.rfb_server.specs.Composition.{count_rows, count_in};
-ghost use Rattle.rfb_server.specs.inside.Gains.{MayCopy, HasMoreRight, IsJudged, line};
-ghost use Rattle.rfb_server.specs.inside.Gains.{right_before, right_after};
+ghost use Rattle.rfb_server.specs.update.Gains.{MayCopy, HasMoreRight, IsJudged, line};
+ghost use Rattle.rfb_server.specs.update.Gains.{right_before, right_after};
 
 mod claimed;
 mod rows;

@@ -6,12 +6,12 @@ ghost use Rattle.rfb_picture.specs.Grid.{Holds};
 ghost use Rattle.rfb_picture.specs.Box.{IsBox};
 ghost use Rattle.rfb_picture.specs.Places.{HasBitsBetween};
 ghost use Rattle.rfb_server.specs.Request.{wanted_at};
-ghost use Rattle.rfb_server.specs.inside.Needs.{IsFirst, IsEnd, HasBox};
+ghost use Rattle.rfb_server.specs.update.Needs.{IsFirst, IsEnd, HasBox};
 ghost use Rattle.rfb_server.specs.KnownScreen.{Follows};
-ghost use Rattle.rfb_server.specs.inside.Needs.{HasInRow, IsLastOf, SpansRows, TellsOther};
-ghost use Rattle.rfb_server.specs.inside.Needs.{needs_of, rows_above};
+ghost use Rattle.rfb_server.specs.update.Needs.{HasInRow, IsLastOf, SpansRows, TellsOther};
+ghost use Rattle.rfb_server.specs.update.Needs.{needs_of, rows_above};
 ghost use Rattle.rfb_server.specs.Composition.{IsDue};
-ghost use Rattle.rfb_server.specs.inside.Sends.{state_of};
+ghost use Rattle.rfb_server.specs.update.Sends.{state_of};
 
 use crate::cells::cell_at;
 use crate::session::Session;

@@ -1,7 +1,7 @@
 //! Whether a single place needs sending.
 
 ghost use Rattle.std.specs.Prelude.{◌≡◌, ◌<◌};
-ghost use Rattle.rfb_server.specs.inside.Needs.{needs_of};
+ghost use Rattle.rfb_server.specs.update.Needs.{needs_of};
 ghost use Rattle.rfb_server.specs.KnownScreen.{Follows};
 
 use crate::session::Session;

@@ -3,7 +3,7 @@
 ghost use Rattle.std.specs.Prelude.{◌≡◌, ◌≤◌, ◌+◌, ◌⊎◌, ℕ, true};
 ghost use Rattle.rfb_picture.specs.Grid.{Holds};
 ghost use Rattle.rfb_picture.specs.Rect.{contains};
-ghost use Rattle.rfb_server.specs.inside.Needs.{HasBox, IsQuiet, is_quiet, IsPartOf, needs_of};
+ghost use Rattle.rfb_server.specs.update.Needs.{HasBox, IsQuiet, is_quiet, IsPartOf, needs_of};
 ghost use Rattle.rfb_server.specs.KnownScreen.{Follows};
 
 use crate::claim::Stale;

@@ -7,7 +7,7 @@ ghost use Rattle.rfb_picture.specs.Box.{IsClear};
 ghost use Rattle.rfb_picture.specs.Grid.{Holds};
 ghost use Rattle.rfb_server.specs.Cells.{IsCell};
 ghost use Rattle.rfb_server.specs.Room.{cell_room, cells_room, has_asked};
-ghost use Rattle.rfb_server.specs.inside.Sends.{IsCostIn, IsEnough, HasNext, AreLimits};
+ghost use Rattle.rfb_server.specs.update.Sends.{IsCostIn, IsEnough, HasNext, AreLimits};
 
 use crate::cells::cell_at;
 use crate::rectangle::RECT_HEAD_SIZE;

@@ -1,7 +1,7 @@
 //! Laws of pending bytes, those of an item under way that stand after its last whole piece.
 
 ghost use Rattle.std.specs.Prelude.{ℕ, List, ◌++◌, ◌≡◌, ◌*◌, ◌<◌, ◌≤◌, length};
-ghost use Rattle.rfb_wire.specs.stream.Pending.{in_pieces, after_piece};
+ghost use Rattle.rfb_wire.specs.stream.PendingBytes.{in_pieces, after_piece};
 
 /// A piece is pending until its last byte is there; after it, and after whole pieces of one
 /// size, it is what follows that may be. No more bytes are pending than came.

@@ -1,6 +1,6 @@
 use Rattle.std.proofs.Common.{ℕ, ◌%◌, ◌<◌, length, arith, ap, ◌∙◌}
 use Rattle.std.proofs.lemmas.List.{length-set}
-use Rattle.rfb_codec.specs.inside.Background.{slot_of}
+use Rattle.rfb_codec.specs.encoder.Background.{slot_of}
 use Rattle.rfb_codec.proofs.StepLemmas.{claimed_more, more_than_allowed}
 use Rattle.rfb_codec.proofs.choice.background.has_more.Goals as goal
 use Rattle.rfb_codec.proofs.choice.background.has_more.Goals.{then-taken-slot-eq0+else-free-eq0, else-taken-slot-eq0}

@@ -1,5 +1,5 @@
 use Rattle.std.proofs.Common.{◌≡◌, length}
-use Rattle.rfb_codec.specs.inside.Background.{slot_of}
+use Rattle.rfb_codec.specs.encoder.Background.{slot_of}
 use Rattle.rfb_codec.proofs.StepLemmas.{Claimed}
 use Rattle.rfb_codec.proofs.choice.background.has_more.Given as goal
 

@@ -1,5 +1,5 @@
 use Rattle.std.proofs.Common.{refl}
-use Rattle.rfb_codec.specs.inside.Background.{hash_of}
+use Rattle.rfb_codec.specs.encoder.Background.{hash_of}
 use Rattle.rfb_codec.proofs.choice.background.hash.Goals as goal
 
 pub returns : goal.returns

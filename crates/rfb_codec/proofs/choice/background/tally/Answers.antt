@@ -2,7 +2,7 @@ use Rattle.std.proofs.Common.{◌≡◌, ℕ, ◌%◌, [], length, arith, ap}
 use Rattle.std.proofs.lemmas.Grind.{common_steps}
 use Rattle.std.proofs.lemmas.List.{nil_from_length}
 use Rattle.std.proofs.lemmas.Bool.Decides.{nat_tests}
-use Rattle.rfb_codec.specs.inside.Background.{slot_of}
+use Rattle.rfb_codec.specs.encoder.Background.{slot_of}
 use Rattle.rfb_codec.proofs.CountLemmas.{background_found, led_alone}
 use Rattle.rfb_codec.proofs.StepLemmas.{Settled, count_fits, counted_after, counted_aside, counted_first}
 use Rattle.rfb_codec.proofs.StepLemmas.{more_than_allowed, slot_settled}

@@ -1,5 +1,5 @@
 use Rattle.std.proofs.Common.{◌-◌, length}
-use Rattle.rfb_codec.specs.inside.Background.{slot_of}
+use Rattle.rfb_codec.specs.encoder.Background.{slot_of}
 use Rattle.rfb_codec.proofs.StepLemmas.{Counting}
 use Rattle.rfb_codec.proofs.choice.background.tally.Given as goal
 

@@ -3,7 +3,7 @@ use Rattle.std.proofs.lemmas.List.{append-nil, take_at}
 use Rattle.rfb_codec.specs.Hextile.{tile_count}
 use Rattle.rfb_codec.specs.Raw.{raw_length}
 use Rattle.rfb_codec.specs.HextileRule.{nothing_held}
-use Rattle.rfb_codec.specs.inside.TileSpelling.{tile_bytes}
+use Rattle.rfb_codec.specs.encoder.TileSpelling.{tile_bytes}
 use Rattle.rfb_codec.proofs.HextileTilesLemmas.{no_longer}
 use Rattle.rfb_codec.proofs.DrawLemmas.{tile_small}
 use Rattle.rfb_codec.proofs.SpelledTilesLemmas.{spelled_none, spelled_next, spelled_all}

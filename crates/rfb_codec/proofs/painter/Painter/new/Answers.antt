@@ -1,7 +1,7 @@
 use Rattle.std.proofs.Common.{ℕ, List, [], sym, subst}
 use Rattle.rfb_codec.specs.declared.painter.stage.Stage.{Stage}
 use Rattle.rfb_codec.specs.Stage.{StandsAt}
-use Rattle.rfb_codec.specs.inside.Step.{stage_of}
+use Rattle.rfb_codec.specs.decoder.Step.{stage_of}
 use Rattle.rfb_codec.proofs.FeedLemmas.{fresh_stands}
 use Rattle.rfb_codec.proofs.painter.Painter.new.Goals as goal
 

@@ -6,7 +6,7 @@ use Rattle.rfb_codec.specs.declared.painter.rectangle.Rectangle.{Rectangle}
 use Rattle.rfb_codec.specs.declared.painter.stage.Stage.{Stage}
 use Rattle.rfb_codec.specs.RectData.{source_in}
 use Rattle.rfb_codec.specs.Stage.{is_ended}
-use Rattle.rfb_codec.specs.inside.Step.{IsPaintable}
+use Rattle.rfb_codec.specs.decoder.Step.{IsPaintable}
 use Rattle.rfb_codec.specs.UnderWay.{UnderWay, Paints, CopiesFrom, Waits, Refuses, ShowsWith}
 use Rattle.rfb_codec.proofs.FeedLemmas.{feed_paints, feed_waits, feed_refuses, feed_shows}
 use Rattle.rfb_codec.proofs.VerdictLemmas.{ended_source}

@@ -1,7 +1,7 @@
 use Rattle.std.proofs.Common.{◌≡◌, ◌+◌, ◌<◌, false, length, arith}
 use Rattle.std.proofs.lemmas.Bool.Decides.{nat_tests}
 use Rattle.rfb_codec.specs.Stage.{is_ended}
-use Rattle.rfb_codec.specs.inside.Step.{piece_size}
+use Rattle.rfb_codec.specs.decoder.Step.{piece_size}
 use Rattle.rfb_codec.proofs.JoinLemmas.{joined}
 use Rattle.rfb_codec.proofs.painter.joining.joins.Goals as goal
 

@@ -1,5 +1,5 @@
 use Rattle.std.proofs.Common.{◌≡◌, ◌-◌, ◌≤◌, length, take}
-use Rattle.rfb_codec.specs.inside.Step.{Reaches}
+use Rattle.rfb_codec.specs.decoder.Step.{Reaches}
 use Rattle.rfb_codec.proofs.painter.pieces.feed.Given as goal
 
 abbrev pub invariant-pieces : goal.invariant-pieces

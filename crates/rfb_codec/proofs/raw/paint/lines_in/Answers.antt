@@ -2,7 +2,7 @@ use Rattle.std.proofs.Common.{◌≡◌, ◌∙◌, ◌+◌, ◌-◌, ◌*◌, �
 use Rattle.std.proofs.lemmas.Grind.{common_steps}
 use Rattle.std.proofs.Math.Nat.{mul-le-mul_right}
 use Rattle.rfb_pixel.specs.Format.{size_of}
-use Rattle.rfb_codec.specs.inside.Step.{first_of_row}
+use Rattle.rfb_codec.specs.decoder.Step.{first_of_row}
 use Rattle.rfb_codec.proofs.LineLemmas.{next_line, runs_join, runs_none}
 use Rattle.rfb_codec.proofs.raw.paint.lines_in.Goals as goal
 

@@ -1,6 +1,6 @@
 use Rattle.std.proofs.Common.{◌*◌, take}
 use Rattle.rfb_pixel.specs.Format.{size_of}
-use Rattle.rfb_codec.specs.inside.Step.{PaintsPixels, first_of_row}
+use Rattle.rfb_codec.specs.decoder.Step.{PaintsPixels, first_of_row}
 use Rattle.rfb_codec.proofs.raw.paint.lines_in.Given as goal
 
 abbrev pub invariant-lines : goal.invariant-lines

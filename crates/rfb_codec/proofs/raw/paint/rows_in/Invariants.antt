@@ -1,4 +1,4 @@
-use Rattle.rfb_codec.specs.inside.Step.{PaintsOver}
+use Rattle.rfb_codec.specs.decoder.Step.{PaintsOver}
 use Rattle.rfb_pixel.specs.Format.{colour_of}
 use Rattle.rfb_codec.specs.Raw.{raw_pixel}
 use Rattle.rfb_codec.proofs.raw.paint.rows_in.Given as goal

@@ -1,4 +1,4 @@
-use Rattle.rfb_codec.specs.inside.Step.{PaintsOver}
+use Rattle.rfb_codec.specs.decoder.Step.{PaintsOver}
 use Rattle.rfb_pixel.specs.Format.{colour_of, rgb888}
 use Rattle.rfb_codec.specs.Raw.{raw_pixel}
 use Rattle.rfb_codec.proofs.raw.paint.tile_rows_rgb888.Given as goal

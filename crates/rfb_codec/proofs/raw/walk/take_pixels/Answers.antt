@@ -5,7 +5,7 @@ use Rattle.std.proofs.lemmas.Bool.Decides.{nat_tests}
 use Rattle.rfb_pixel.specs.Format.{size_of}
 use Rattle.rfb_codec.specs.declared.painter.stage.Place.{Place}
 use Rattle.rfb_codec.specs.Stage.{places_before}
-use Rattle.rfb_codec.specs.inside.Step.{PaintsRun, first_of_row}
+use Rattle.rfb_codec.specs.decoder.Step.{PaintsRun, first_of_row}
 use Rattle.rfb_codec.proofs.FrontLemmas.{walked, walked_on, walk_waits, no_items}
 use Rattle.rfb_codec.proofs.raw.walk.take_pixels.Goals as goal
 

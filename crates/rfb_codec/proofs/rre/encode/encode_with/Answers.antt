@@ -6,13 +6,13 @@ use Rattle.std.specs.List.{flat_map}
 use Rattle.rfb_pixel.specs.Format.{size_of}
 use Rattle.rfb_codec.specs.Choice.{subrect_bytes}
 use Rattle.rfb_codec.specs.Choice.{IsBackground, AreRuleSubs}
-use Rattle.rfb_codec.specs.inside.Cover.{IsCover}
+use Rattle.rfb_codec.specs.encoder.Cover.{IsCover}
 use Rattle.rfb_codec.specs.Raw.{raw_length}
 use Rattle.rfb_codec.proofs.PixelLemmas.{length-pixel_bytes}
 use Rattle.rfb_codec.proofs.RreEncodeLemmas.{length-subrects, limit_fits, rre_head, stands_rre}
 use Rattle.rfb_codec.specs.Codec.{raw_of}
-use Rattle.rfb_codec.specs.inside.Background.{HasMore}
-use Rattle.rfb_codec.specs.inside.Cover.{IsGivenUp}
+use Rattle.rfb_codec.specs.encoder.Background.{HasMore}
+use Rattle.rfb_codec.specs.encoder.Cover.{IsGivenUp}
 use Rattle.rfb_codec.proofs.NoShorterLemmas.{many_pixels, many_subs, long_data}
 use Rattle.rfb_codec.proofs.rre.encode.encode_with.Given.{Over}
 use Rattle.rfb_codec.proofs.rre.encode.encode_with.Goals.{After-size-size, In-Some}

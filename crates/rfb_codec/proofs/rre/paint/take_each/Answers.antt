@@ -4,7 +4,7 @@ use Rattle.std.proofs.lemmas.Bool.Decides.{nat_tests}
 use Rattle.rfb_pixel.specs.Format.{size_of}
 use Rattle.rfb_codec.specs.declared.fault.PaintFault.TheVariants.{SubrectOutside}
 use Rattle.rfb_codec.specs.declared.painter.stage.Stage.TheVariants.{InSubrects}
-use Rattle.rfb_codec.specs.inside.Step.{IsPaintable, Reaches, Breaks}
+use Rattle.rfb_codec.specs.decoder.Step.{IsPaintable, Reaches, Breaks}
 use Rattle.rfb_codec.proofs.FeedLemmas.{reaches_none, reaches_more, breaks_later}
 use Rattle.rfb_codec.proofs.TakePartLemmas.{subrect_taken, subrect_refused}
 use Rattle.rfb_codec.proofs.rre.paint.take_each.Goals as goal

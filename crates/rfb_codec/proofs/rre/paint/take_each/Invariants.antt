@@ -1,6 +1,6 @@
 use Rattle.std.proofs.Common.{◌≡◌, ◌≤◌, [], length, take}
 use Rattle.rfb_codec.specs.declared.painter.stage.Stage.TheVariants.{InSubrects}
-use Rattle.rfb_codec.specs.inside.Step.{Reaches}
+use Rattle.rfb_codec.specs.decoder.Step.{Reaches}
 use Rattle.rfb_codec.proofs.rre.paint.take_each.Given as goal
 
 abbrev pub invariant-parts : goal.invariant-parts

@@ -3,7 +3,7 @@ use Rattle.std.proofs.lemmas.Bool.Decides.{nat_tests}
 use Rattle.rfb_pixel.specs.Format.{size_of}
 use Rattle.rfb_codec.specs.declared.fault.PaintFault.TheVariants.{SubrectOutside}
 use Rattle.rfb_codec.specs.declared.painter.stage.Stage.TheVariants.{InSubrects}
-use Rattle.rfb_codec.specs.inside.Step.{Breaks}
+use Rattle.rfb_codec.specs.decoder.Step.{Breaks}
 use Rattle.rfb_codec.proofs.FrontLemmas.{no_items, takes_on}
 use Rattle.rfb_codec.proofs.TakePartLemmas.{subrect_taken, subrect_refused, subrect_waits}
 use Rattle.rfb_codec.proofs.rre.paint.take_subrect.Goals as goal

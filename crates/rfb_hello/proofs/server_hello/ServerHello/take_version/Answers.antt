@@ -4,7 +4,7 @@ use Rattle.rfb_hello.specs.declared.step.ServerStep.TheVariants.{Reply}
 use Rattle.rfb_hello.specs.Version.{version_of}
 use Rattle.rfb_hello.specs.ClientHandshake.{client_version_fault}
 use Rattle.rfb_hello.specs.ServerEnd.{as_reply, security_bytes, server_end}
-use Rattle.rfb_hello.specs.inside.ServerPiece.{progress_after}
+use Rattle.rfb_hello.specs.pieces.ServerPiece.{progress_after}
 use Rattle.rfb_hello.specs.ServerModel.{StandsFor}
 use Rattle.rfb_hello.proofs.ServerHelloLemmas.{server_machine, version_told, version_refused, version_leaves}
 use Rattle.rfb_hello.proofs.server_hello.ServerHello.take_version.Goals as goal

@@ -1,6 +1,6 @@
 use Rattle.std.proofs.Common.{◌≡◌, ◌∙◌, Some, ap, refl}
 use Rattle.rfb_hello.specs.declared.fault.HelloFault.{HelloFault}
-use Rattle.rfb_hello.specs.inside.ViewerPiece.{fault_for}
+use Rattle.rfb_hello.specs.pieces.ViewerPiece.{fault_for}
 use Rattle.rfb_hello.proofs.ViewerStepLemmas.{takes}
 use Rattle.rfb_hello.proofs.ViewerReasonLemmas.{reason_part, reason_told, reason_refuses, text_kept}
 use Rattle.rfb_hello.proofs.viewer_hello.ViewerHello.take_reason.Goals as goal

@@ -1,6 +1,6 @@
 use Rattle.std.proofs.Common.{◌∙◌, sym, arith}
 use Rattle.std.proofs.lemmas.List.{get_or_default}
-use Rattle.rfb_picture.specs.inside.Lines.{place_in}
+use Rattle.rfb_picture.specs.layout.Lines.{place_in}
 use Rattle.rfb_picture.proofs.LineLemmas.{line_fits}
 use Rattle.rfb_picture.proofs.ShownLemmas.{at-shown}
 use Rattle.rfb_picture.proofs.picture.Picture.at.Goals as goal

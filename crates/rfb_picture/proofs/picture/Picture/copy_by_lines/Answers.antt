@@ -2,7 +2,7 @@ use Rattle.std.proofs.Common.{◌≡◌, ◌≤◌, ◌+◌, length, arith, ap, 
 use Rattle.std.proofs.lemmas.List.{with_items_is}
 use Rattle.std.specs.Vec.{with_items}
 use Rattle.rfb_picture.specs.Grid.{Grid, copied}
-use Rattle.rfb_picture.specs.inside.Turn.{Turned}
+use Rattle.rfb_picture.specs.layout.Turn.{Turned}
 use Rattle.rfb_picture.proofs.TurnCopyLemmas.{still_kept, turned_copy}
 use Rattle.rfb_picture.proofs.picture.Picture.copy_by_lines.Given.{Over}
 use Rattle.rfb_picture.proofs.picture.Picture.copy_by_lines.Goals as goal

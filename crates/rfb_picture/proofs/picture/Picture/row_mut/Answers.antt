@@ -2,7 +2,7 @@ use Rattle.std.proofs.Common.{◌≡◌, ◌<◌, ◌+◌, ◌*◌, ◌-◌, ℕ
 use Rattle.std.proofs.Common.{◌∙◌, slice_index_or}
 use Rattle.std.proofs.lemmas.List.{with_items_is}
 use Rattle.std.specs.Vec.{with_items}
-use Rattle.rfb_picture.specs.inside.Lines.{AreInOrder, place_in}
+use Rattle.rfb_picture.specs.layout.Lines.{AreInOrder, place_in}
 use Rattle.rfb_picture.proofs.LoanLemmas.{row_lent, run_lent, still_picture}
 use Rattle.rfb_picture.proofs.ShownLemmas.{whole-shown}
 use Rattle.rfb_picture.proofs.picture.Picture.row_mut.Given.{Over}

@@ -1,5 +1,5 @@
 use Rattle.std.proofs.Common.{ℕ, ◌≡◌, ◌≤◌, ◌+◌, ◌-◌, ◌⊎◌, inl, inr, subst, arith}
-use Rattle.rfb_picture.specs.inside.Runs.{RunCopied}
+use Rattle.rfb_picture.specs.layout.Runs.{RunCopied}
 use Rattle.rfb_picture.proofs.ShiftLemmas.{left_more}
 use Rattle.rfb_picture.proofs.picture.copying.copy_apart.Goals as goal
 

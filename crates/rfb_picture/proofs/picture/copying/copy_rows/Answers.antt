@@ -1,6 +1,6 @@
 use Rattle.std.proofs.Common.{◌≡◌, ℕ, ◌+◌, slice_index_or, length, arith}
 use Rattle.std.proofs.lemmas.Bool.Decides.{nat_tests}
-use Rattle.rfb_picture.specs.inside.Lines.{place_in}
+use Rattle.rfb_picture.specs.layout.Lines.{place_in}
 use Rattle.rfb_picture.proofs.CopyLemmas.{row_after, rows_all_done, line_copied}
 use Rattle.rfb_picture.proofs.LineLemmas.{line_fits}
 use Rattle.rfb_picture.proofs.picture.copying.copy_rows.Goals.{then-dst-sy, else-dst-sy}

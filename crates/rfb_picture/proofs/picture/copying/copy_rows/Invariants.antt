@@ -1,7 +1,7 @@
 -- The rows so far have what stood at their source at first, and the other places are as they were.
 use Rattle.std.proofs.Common.{◌≡◌, ℕ, ◌+◌, ◌-◌, ◌<◌, length, slice_index_or, if◌then◌else◌}
 use Rattle.rfb_picture.specs.Rect.{contains}
-use Rattle.rfb_picture.specs.inside.Lines.{place_in}
+use Rattle.rfb_picture.specs.layout.Lines.{place_in}
 use Rattle.rfb_picture.proofs.CopyLemmas.{rows_done}
 use Rattle.rfb_picture.proofs.picture.copying.copy_rows.Given as goal
 

@@ -1,5 +1,5 @@
 use Rattle.std.proofs.Common.{◌≡◌, ℕ, ◌+◌, ◌-◌, subst, arith}
-use Rattle.rfb_picture.specs.inside.Runs.{RunCopied}
+use Rattle.rfb_picture.specs.layout.Runs.{RunCopied}
 use Rattle.rfb_picture.proofs.ShiftLemmas.{right_more}
 use Rattle.rfb_picture.proofs.picture.copying.shift_right.Goals as goal
 

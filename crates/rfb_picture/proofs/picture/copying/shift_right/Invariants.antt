@@ -1,5 +1,5 @@
 use Rattle.std.proofs.Common.{◌≡◌, ◌+◌, ◌-◌, ◌≤◌, length}
-use Rattle.rfb_picture.specs.inside.Runs.{RunCopied}
+use Rattle.rfb_picture.specs.layout.Runs.{RunCopied}
 use Rattle.rfb_picture.proofs.picture.copying.shift_right.Given as goal
 
 -- all but the first of the places have what stood at their source at first

@@ -1,5 +1,5 @@
 use Rattle.std.proofs.Common.{◌+◌, length, arith, rules}
-use Rattle.rfb_picture.specs.inside.Lines.{place_in}
+use Rattle.rfb_picture.specs.layout.Lines.{place_in}
 use Rattle.rfb_picture.proofs.LineLemmas.{line_filled, line_fits}
 use Rattle.rfb_picture.proofs.picture.filling.fill_lines.Goals as goal
 

@@ -1,7 +1,7 @@
 -- The rectangle's rows so far have the value, and the other places are as they were.
 use Rattle.std.proofs.Common.{◌≡◌, ℕ, ◌<◌, length, slice_index_or, if◌then◌else◌}
 use Rattle.rfb_picture.specs.Rect.{contains}
-use Rattle.rfb_picture.specs.inside.Lines.{place_in}
+use Rattle.rfb_picture.specs.layout.Lines.{place_in}
 use Rattle.rfb_picture.proofs.picture.filling.fill_lines.Given as goal
 
 abbrev pub invariant-loop-row : goal.invariant-loop-row

@@ -1,6 +1,6 @@
 -- The columns so far have changed their lines.
 use Rattle.std.proofs.Common.{◌≡◌, ℕ, ◌+◌, ◌*◌, ◌<◌, slice_index_or, if◌then◌else◌, nat_lt}
-use Rattle.rfb_picture.specs.inside.Lines.{other_of}
+use Rattle.rfb_picture.specs.layout.Lines.{other_of}
 use Rattle.rfb_picture.proofs.picture.lines.swap_lines.Given as goal
 
 abbrev pub invariant-loop-x : goal.invariant-loop-x

@@ -1,4 +1,4 @@
-use Rattle.rfb_picture.specs.inside.PlaceSet.{AreAlike}
+use Rattle.rfb_picture.specs.layout.PlaceSet.{AreAlike}
 use Rattle.rfb_picture.proofs.TakenLemmas.{layered-without, sound-without}
 use Rattle.rfb_picture.proofs.place_set.PlaceSet.take_away.Goals as goal
 

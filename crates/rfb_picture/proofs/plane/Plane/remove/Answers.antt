@@ -1,7 +1,7 @@
 use Rattle.std.proofs.Common.{◌≡◌, ◌+◌, ◌*◌, ◌/◌, slice_index_or}
 use Rattle.std.proofs.lemmas.List.{get_or_read, length-set}
 use Rattle.rfb_picture.proofs.PlaneLemmas.{place_word_below}
-use Rattle.rfb_picture.specs.inside.Cells.{one_cell}
+use Rattle.rfb_picture.specs.layout.Cells.{one_cell}
 use Rattle.rfb_picture.proofs.TakenPlaneLemmas.{plane-removed}
 use Rattle.rfb_picture.proofs.SpanLemmas.{within-cleared}
 use Rattle.rfb_picture.proofs.plane.Plane.remove.Goals as goal

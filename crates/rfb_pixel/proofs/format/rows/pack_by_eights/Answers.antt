@@ -1,5 +1,5 @@
 use Rattle.std.proofs.Common.{arith}
-use Rattle.rfb_pixel.specs.inside.Lanes.{laned}
+use Rattle.rfb_pixel.specs.bits.Lanes.{laned}
 use Rattle.rfb_pixel.proofs.PackLemmas.{packed_whole}
 use Rattle.rfb_pixel.proofs.format.rows.pack_by_eights.Goals as goal
 

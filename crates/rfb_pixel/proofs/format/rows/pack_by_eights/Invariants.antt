@@ -1,5 +1,5 @@
 use Rattle.std.proofs.Common.{◌≡◌, ◌+◌, ◌-◌, ◌≤◌, length}
-use Rattle.rfb_pixel.specs.inside.Lanes.{ArePacked, laned}
+use Rattle.rfb_pixel.specs.bits.Lanes.{ArePacked, laned}
 use Rattle.rfb_pixel.proofs.format.rows.pack_by_eights.Given as goal
 
 abbrev pub invariant-loop-at : goal.invariant-loop-at

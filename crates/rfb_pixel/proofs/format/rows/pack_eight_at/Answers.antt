@@ -2,7 +2,7 @@ use Rattle.std.proofs.Common.{◌≡◌, ◌∙◌, ◌+◌, ◌-◌, slice_inde
 use Rattle.std.proofs.lemmas.Bool.{cases_lt}
 use Rattle.std.proofs.lemmas.Simd.{get_or-chunk, get_or-put_chunk_at, get_or-put_chunk_below, length-put_chunk}
 use Rattle.rfb_pixel.specs.Format.{pixel_of}
-use Rattle.rfb_pixel.specs.inside.Lanes.{laned}
+use Rattle.rfb_pixel.specs.bits.Lanes.{laned}
 use Rattle.rfb_pixel.proofs.format.rows.pack_eight_at.Goals as goal
 
 pub returns-clause-packed : goal.returns-clause-packed

@@ -1,5 +1,5 @@
 use Rattle.std.proofs.Common.{◌≡◌, ◌+◌, ◌-◌, ◌≤◌, length}
-use Rattle.rfb_pixel.specs.inside.Lanes.{AreUnpacked, laned}
+use Rattle.rfb_pixel.specs.bits.Lanes.{AreUnpacked, laned}
 use Rattle.rfb_pixel.proofs.format.rows.unpack_by_eights.Given as goal
 
 abbrev pub invariant-loop-at : goal.invariant-loop-at

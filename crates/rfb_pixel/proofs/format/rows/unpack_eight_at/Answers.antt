@@ -1,5 +1,5 @@
 use Rattle.std.proofs.Common.{arith}
-use Rattle.rfb_pixel.specs.inside.Lanes.{laned}
+use Rattle.rfb_pixel.specs.bits.Lanes.{laned}
 use Rattle.rfb_pixel.proofs.UnpackLemmas.{unpacked_more}
 use Rattle.rfb_pixel.proofs.format.rows.unpack_eight_at.Goals as goal
 

@@ -1,6 +1,6 @@
 use Rattle.std.proofs.Common.{◌≡◌, ◌+◌, ◌-◌, ◌≤◌, length}
 use Rattle.rfb_pixel.specs.Format.{rgb888}
-use Rattle.rfb_pixel.specs.inside.Lanes.{AreUnpacked}
+use Rattle.rfb_pixel.specs.bits.Lanes.{AreUnpacked}
 use Rattle.rfb_pixel.proofs.format.rows.unpack_rgb888.Given as goal
 
 abbrev pub invariant-loop-at : goal.invariant-loop-at

@@ -1,7 +1,7 @@
 use Rattle.std.proofs.Common.{◌≡◌, map, slice_index, arith}
 use Rattle.std.proofs.lemmas.Grind.{same_number_lists}
 use Rattle.rfb_pixel.specs.Format.{pixel_of, rgb888}
-use Rattle.rfb_pixel.specs.inside.Lanes.{colours_in}
+use Rattle.rfb_pixel.specs.bits.Lanes.{colours_in}
 use Rattle.rfb_pixel.proofs.Pack888Lemmas.{packed}
 use Rattle.rfb_pixel.proofs.PackLemmas.{eight_below, three_fit}
 use Rattle.rfb_pixel.proofs.lanes.rgb888.pixels_of.Goals as goal

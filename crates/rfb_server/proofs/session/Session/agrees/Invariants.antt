@@ -1,6 +1,6 @@
 use Rattle.std.proofs.Common.{◌≤◌, ◌*◌, ◌-◌}
 use Rattle.std.specs.Int.{div_ceil}
-use Rattle.rfb_server.specs.inside.Twins.{AgreeBelow}
+use Rattle.rfb_server.specs.session.Twins.{AgreeBelow}
 use Rattle.rfb_server.proofs.session.Session.agrees.Given as goal
 
 -- the cells so far agree

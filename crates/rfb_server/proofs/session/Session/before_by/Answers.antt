@@ -5,7 +5,7 @@ use Rattle.rfb_pixel.specs.Rows.{TellsDifferences}
 use Rattle.rfb_picture.specs.Grid.{Grid}
 use Rattle.rfb_picture.specs.Box.{is_in}
 use Rattle.rfb_picture.specs.Places.{HasBitsBetween}
-use Rattle.rfb_server.specs.inside.Gains.{right_before}
+use Rattle.rfb_server.specs.update.Gains.{right_before}
 use Rattle.rfb_server.specs.Composition.{count_row}
 use Rattle.rfb_server.proofs.BitCountLemmas.{ones_between, row_le}
 use Rattle.rfb_server.proofs.RightLemmas.{before_bits}

@@ -1,5 +1,5 @@
 use Rattle.std.proofs.Common.{◌+◌, ◌-◌}
-use Rattle.rfb_server.specs.inside.Gains.{right_before}
+use Rattle.rfb_server.specs.update.Gains.{right_before}
 use Rattle.rfb_server.proofs.RightRowsLemmas.{IsCountTo}
 use Rattle.rfb_server.proofs.session.Session.before_in_row.Given as goal
 

@@ -1,6 +1,6 @@
 use Rattle.std.proofs.lemmas.Result.{IfOk-weaker, IfErr-weaker}
-use Rattle.rfb_server.specs.inside.Composed.{IsAwaited}
-use Rattle.rfb_server.specs.inside.Sessions.{IsSame}
+use Rattle.rfb_server.specs.update.Composed.{IsAwaited}
+use Rattle.rfb_server.specs.session.Sessions.{IsSame}
 use Rattle.rfb_server.proofs.UpdatingLemmas.{sends, owes, owes_none, keeps_session, appends}
 use Rattle.rfb_server.proofs.session.Session.compose.Goals as goal
 

@@ -1,5 +1,5 @@
 use Rattle.std.proofs.Common.{arith}
-use Rattle.rfb_server.specs.inside.Sends.{may_need}
+use Rattle.rfb_server.specs.update.Sends.{may_need}
 use Rattle.rfb_server.proofs.RoomLemmas.{cost_cell, cost_nothing, none_asked, room_asked}
 use Rattle.rfb_server.proofs.session.Session.cost_of.Goals as goal
 

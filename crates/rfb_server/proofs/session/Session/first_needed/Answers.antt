@@ -1,5 +1,5 @@
 use Rattle.std.proofs.Common.{arith}
-use Rattle.rfb_server.specs.inside.Needs.{needs_of}
+use Rattle.rfb_server.specs.update.Needs.{needs_of}
 use Rattle.rfb_server.proofs.NeedingBits.{first_between, none_between, none_joined}
 use Rattle.rfb_server.proofs.session.Session.first_needed.Goals as goal
 

@@ -1,5 +1,5 @@
 use Rattle.std.proofs.Common.{rules}
-use Rattle.rfb_server.specs.inside.Copies.{IsUseful}
+use Rattle.rfb_server.specs.update.Copies.{IsUseful}
 use Rattle.rfb_server.proofs.CopiedLemmas.{about_copied, alike_copied}
 use Rattle.rfb_server.proofs.QuietLemmas.{quiet_copied, quiet_left}
 use Rattle.rfb_server.proofs.session.Session.follow_hint.Goals as goal

@@ -1,8 +1,8 @@
 use Rattle.std.proofs.Common.{◌≡◌, None}
-use Rattle.rfb_server.specs.inside.Needs.{IsQuiet}
+use Rattle.rfb_server.specs.update.Needs.{IsQuiet}
 use Rattle.rfb_server.specs.Claims.{IsClaimed}
 use Rattle.rfb_server.specs.KnownScreen.{Follows}
-use Rattle.rfb_server.specs.inside.Sends.{IsKept}
+use Rattle.rfb_server.specs.update.Sends.{IsKept}
 use Rattle.rfb_server.proofs.session.Session.follow_hints.Given as goal
 
 -- what the viewer has by the hints so far is known

@@ -1,5 +1,5 @@
 use Rattle.std.proofs.Common.{◌-◌, refl, arith}
-use Rattle.rfb_server.specs.inside.Gains.{right_before}
+use Rattle.rfb_server.specs.update.Gains.{right_before}
 use Rattle.rfb_server.proofs.RightRowsLemmas.{before_row, before_left, few_lines, few_in}
 use Rattle.rfb_server.proofs.session.Session.has_more_above.Goals as goal
 

@@ -1,6 +1,6 @@
 use Rattle.std.proofs.Common.{◌≡◌, ◌+◌}
 use Rattle.rfb_server.specs.Composition.{count_rows}
-use Rattle.rfb_server.specs.inside.Gains.{right_before}
+use Rattle.rfb_server.specs.update.Gains.{right_before}
 use Rattle.rfb_server.proofs.session.Session.has_more_above.Given as goal
 
 -- the rows so far are counted too

@@ -1,5 +1,5 @@
 use Rattle.std.proofs.Common.{◌-◌, sym, arith}
-use Rattle.rfb_server.specs.inside.Gains.{right_before, right_after}
+use Rattle.rfb_server.specs.update.Gains.{right_before, right_after}
 use Rattle.rfb_server.proofs.QuietLemmas.{rows_bound}
 use Rattle.rfb_server.proofs.RightRowsLemmas.{before_row, after_row, before_left, after_left, few_lines, few_in}
 use Rattle.rfb_server.proofs.session.Session.has_more_right.Goals as goal

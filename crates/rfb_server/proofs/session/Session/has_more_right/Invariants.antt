@@ -1,6 +1,6 @@
 use Rattle.std.proofs.Common.{◌≡◌, ◌+◌, ◌≤◌}
 use Rattle.rfb_server.specs.Composition.{count_rows}
-use Rattle.rfb_server.specs.inside.Gains.{right_before, right_after}
+use Rattle.rfb_server.specs.update.Gains.{right_before, right_after}
 use Rattle.rfb_server.proofs.session.Session.has_more_right.Given as goal
 
 -- both are counted of the rows so far, those before the copy from row `top` on

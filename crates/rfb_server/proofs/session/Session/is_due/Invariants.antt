@@ -1,7 +1,7 @@
 use Rattle.std.proofs.Common.{◌≡◌, ◌<◌, ◌≤◌, ◌*◌, ◌-◌, ℕ, false}
 use Rattle.std.specs.Int.{div_ceil}
 use Rattle.rfb_server.specs.Cells.{cell_of}
-use Rattle.rfb_server.specs.inside.Needs.{needs_of}
+use Rattle.rfb_server.specs.update.Needs.{needs_of}
 use Rattle.rfb_server.proofs.session.Session.is_due.Given as goal
 
 -- no place of the cells so far needs sending

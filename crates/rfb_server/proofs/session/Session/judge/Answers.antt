@@ -8,9 +8,9 @@ use Rattle.rfb_server.specs.declared.session.Session.{Session}
 use Rattle.rfb_server.specs.KnownScreen.{Follows}
 use Rattle.rfb_server.specs.Record.{AreKnown}
 use Rattle.rfb_server.specs.UsedHints.{move_of}
-use Rattle.rfb_server.specs.inside.Copies.{IsFree, IsUseful}
-use Rattle.rfb_server.specs.inside.Gains.{HasMoreRight}
-use Rattle.rfb_server.specs.inside.Sends.{state_of}
+use Rattle.rfb_server.specs.update.Copies.{IsFree, IsUseful}
+use Rattle.rfb_server.specs.update.Gains.{HasMoreRight}
+use Rattle.rfb_server.specs.update.Sends.{state_of}
 use Rattle.rfb_server.proofs.CountLemmas.{gain_is, gain_only}
 use Rattle.rfb_server.proofs.session.Session.judge.Goals as goal
 

@@ -1,7 +1,7 @@
 use Rattle.std.proofs.Common.{arith}
 use Rattle.rfb_picture.specs.Rect.{contains}
 use Rattle.rfb_picture.proofs.GridLaws.{contains_row, contains_true}
-use Rattle.rfb_server.specs.inside.Gains.{right_before, right_after}
+use Rattle.rfb_server.specs.update.Gains.{right_before, right_after}
 use Rattle.rfb_server.proofs.QuietLemmas.{rows_count}
 use Rattle.rfb_server.proofs.ClaimedRowLemmas.{first_holds}
 use Rattle.rfb_server.proofs.session.Session.judge_all.Goals as goal

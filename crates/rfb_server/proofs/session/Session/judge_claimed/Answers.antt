@@ -1,6 +1,6 @@
 use Rattle.std.proofs.Common.{◌≡◌, ◌+◌, nat_lt, true, false, inl, inr, arith}
 use Rattle.std.proofs.lemmas.Bool.Decides.{nat_tests}
-use Rattle.rfb_server.specs.inside.Gains.{HasMoreRight, right_before, right_after, claims_row}
+use Rattle.rfb_server.specs.update.Gains.{HasMoreRight, right_before, right_after, claims_row}
 use Rattle.rfb_server.proofs.ClaimedCountLemmas.{told_by_won}
 use Rattle.rfb_server.proofs.ClaimedRowLemmas.{claimed_full, place_before, place_after}
 use Rattle.std.specs.Bool.{OnTrue, OnFalse}

@@ -1,6 +1,6 @@
 use Rattle.std.proofs.Common.{◌≡◌, Some, ◌∙◌, subst}
 use Rattle.rfb_server.specs.declared.hint.Hint.{Hint}
-use Rattle.rfb_server.specs.inside.Copies.{IsMarkedFor}
+use Rattle.rfb_server.specs.update.Copies.{IsMarkedFor}
 use Rattle.rfb_server.proofs.CopiedLemmas.{about_marked, keeps_marked, marked_for}
 use Rattle.rfb_server.proofs.session.Session.mark_hint.Goals as goal
 

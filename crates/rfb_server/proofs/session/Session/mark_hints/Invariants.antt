@@ -1,7 +1,7 @@
 use Rattle.std.proofs.Common.{◌≡◌}
 use Rattle.rfb_server.specs.KnownScreen.{Follows}
-use Rattle.rfb_server.specs.inside.Sessions.{IsSame}
-use Rattle.rfb_server.specs.inside.Copies.{AreMarkedFor}
+use Rattle.rfb_server.specs.session.Sessions.{IsSame}
+use Rattle.rfb_server.specs.update.Copies.{AreMarkedFor}
 use Rattle.rfb_server.proofs.session.Session.mark_hints.Given as goal
 
 -- all but marks is as it was

@@ -1,4 +1,4 @@
-use Rattle.rfb_server.specs.inside.Needs.{needs_of}
+use Rattle.rfb_server.specs.update.Needs.{needs_of}
 use Rattle.rfb_server.proofs.NeedingLemmas.{first_in_row, row_spans, box_is}
 use Rattle.rfb_server.proofs.session.Session.needed_from.Goals as goal
 

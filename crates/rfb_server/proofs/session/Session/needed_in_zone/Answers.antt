@@ -1,5 +1,5 @@
 use Rattle.std.proofs.Common.{ℕ, ◌+◌, ◌∙◌, None, arith, sym, subst}
-use Rattle.rfb_server.specs.inside.Needs.{IsFirst, needs_of}
+use Rattle.rfb_server.specs.update.Needs.{IsFirst, needs_of}
 use Rattle.rfb_server.proofs.NeedingLemmas.{no_rows, all_rows, row_clear, single_box}
 use Rattle.rfb_server.proofs.session.Session.needed_in_zone.Goals as goal
 

@@ -1,5 +1,5 @@
 use Rattle.std.proofs.Common.{None}
-use Rattle.rfb_server.specs.inside.Needs.{HasBox, needs_of, rows_above}
+use Rattle.rfb_server.specs.update.Needs.{HasBox, needs_of, rows_above}
 use Rattle.rfb_server.proofs.session.Session.needed_in_zone.Given as goal
 
 -- none was found in the rows so far

@@ -4,7 +4,7 @@ use Rattle.rfb_picture.specs.Grid.{Grid}
 use Rattle.rfb_picture.specs.Box.{is_in}
 use Rattle.rfb_picture.specs.CellOrder.{NoneInCells, HasCandidate}
 use Rattle.rfb_server.specs.declared.session.Session.{Session}
-use Rattle.rfb_server.specs.inside.Sends.{NoneMayNeed, HasNext}
+use Rattle.rfb_server.specs.update.Sends.{NoneMayNeed, HasNext}
 use Rattle.rfb_server.proofs.session.Session.next_cell.Goals as goal
 
 none_here : (s : Session) (n m : ℕ) →

@@ -1,5 +1,5 @@
 use Rattle.std.proofs.Common.{◌≡◌, ◌∙◌, ℕ, ◌+◌, ◌*◌, not, ap, sym, arith}
-use Rattle.rfb_server.specs.inside.Gains.{right_before, right_after, claims_row, counts}
+use Rattle.rfb_server.specs.update.Gains.{right_before, right_after, claims_row, counts}
 use Rattle.rfb_server.proofs.ClaimedCountLemmas.{row_taken, row_passed}
 use Rattle.rfb_server.proofs.ClaimedRowLemmas.{before_line, after_line}
 use Rattle.rfb_server.proofs.session.Session.right_in_others.Goals as goal

@@ -1,5 +1,5 @@
 use Rattle.std.proofs.Common.{◌≡◌, ◌*◌, ◌≤◌, not}
-use Rattle.rfb_server.specs.inside.Gains.{right_before, right_after, claims_row, sum_where, counts}
+use Rattle.rfb_server.specs.update.Gains.{right_before, right_after, claims_row, sum_where, counts}
 use Rattle.rfb_server.proofs.session.Session.right_in_others.Given as goal
 
 -- the rows so far are counted

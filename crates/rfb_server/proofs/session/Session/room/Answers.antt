@@ -4,7 +4,7 @@ use Rattle.rfb_picture.specs.declared.rect.Rect.{Rect}
 use Rattle.rfb_server.specs.declared.session.Session.{Session}
 use Rattle.rfb_server.specs.Cells.{IsCell, cell_at}
 use Rattle.rfb_server.specs.Room.{cell_room}
-use Rattle.rfb_server.specs.inside.Sends.{may_need, IsCost, IsEnough, NoneMayNeed}
+use Rattle.rfb_server.specs.update.Sends.{may_need, IsCost, IsEnough, NoneMayNeed}
 use Rattle.rfb_server.proofs.RoomLemmas.{costs_none, costs_more, costs_skip, cut, sum_cut, with_cost, sum_with}
 use Rattle.rfb_server.proofs.RoomLemmas.{few_cells, one_cell_more, all_cells}
 use Rattle.rfb_server.proofs.session.Session.room.Goals as goal

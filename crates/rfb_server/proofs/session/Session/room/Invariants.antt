@@ -1,7 +1,7 @@
 use Rattle.std.proofs.Common.{◌<◌, ◌≤◌, ◌*◌, ◌-◌}
 use Rattle.std.specs.Int.{div_ceil}
 use Rattle.rfb_server.specs.Room.{cells_room}
-use Rattle.rfb_server.specs.inside.Sends.{IsEnough, NoneMayNeed}
+use Rattle.rfb_server.specs.update.Sends.{IsEnough, NoneMayNeed}
 use Rattle.rfb_server.proofs.session.Session.room.Given as goal
 
 -- the room is enough for the cells so far, and none before the first needs any

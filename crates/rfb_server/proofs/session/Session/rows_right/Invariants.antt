@@ -1,6 +1,6 @@
 use Rattle.std.proofs.Common.{◌≡◌, ◌*◌}
 use Rattle.rfb_server.specs.Composition.{count_rows}
-use Rattle.rfb_server.specs.inside.Gains.{right_after}
+use Rattle.rfb_server.specs.update.Gains.{right_after}
 use Rattle.rfb_server.proofs.session.Session.rows_right.Given as goal
 
 -- the rows so far have it at each place

@@ -1,7 +1,7 @@
 use Rattle.std.proofs.Common.{rules, ◌≡◌, ◌+◌, ◌*◌, ◌<◌, ℕ, refl, subst, arith, ◌∙◌}
 use Rattle.std.specs.Int.{div_ceil}
 use Rattle.rfb_server.specs.Cells.{IsCell}
-use Rattle.rfb_server.specs.inside.Sends.{IsCost, AppendsCells, NoneMayNeed, may_need}
+use Rattle.rfb_server.specs.update.Sends.{IsCost, AppendsCells, NoneMayNeed, may_need}
 use Rattle.rfb_server.proofs.RoomLemmas.{sum_more, sum_order, few_cells}
 use Rattle.rfb_server.proofs.KeptLemmas.{kept_then}
 use Rattle.rfb_server.proofs.SentCells.{cells_start, cells_more, cells_skip, same_wide, same_high, limits_kept}

@@ -1,9 +1,9 @@
 use Rattle.std.proofs.Common.{◌≡◌, ◌≤◌, ◌*◌, ◌+◌, ◌-◌, ℕ, vec_len}
 use Rattle.std.specs.Int.{div_ceil}
 use Rattle.std.specs.Vec.{vec_capacity}
-use Rattle.rfb_server.specs.inside.Needs.{IsQuiet}
+use Rattle.rfb_server.specs.update.Needs.{IsQuiet}
 use Rattle.rfb_server.specs.KnownScreen.{Follows}
-use Rattle.rfb_server.specs.inside.Sends.{IsKept, AppendsCells, AreCosts, may_need}
+use Rattle.rfb_server.specs.update.Sends.{IsKept, AppendsCells, AreCosts, may_need}
 use Rattle.rfb_server.specs.Room.{sum_below}
 use Rattle.rfb_server.proofs.session.Session.send_cells.Given as goal
 

@@ -1,6 +1,6 @@
 use Rattle.std.proofs.Common.{rules, ◌≡◌, ◌<◌, ◌≤◌, Bool, true, false, slice_get, Some, None, sym, refl}
 use Rattle.std.proofs.Common.{arith, ◌∙◌}
-use Rattle.rfb_server.specs.inside.Copies.{usable_hints}
+use Rattle.rfb_server.specs.update.Copies.{usable_hints}
 use mir.Val.{bool_byte}
 use Rattle.rfb_server.proofs.KeptLemmas.{kept_then}
 use Rattle.rfb_server.proofs.CopiedLemmas.{copies_begin, copies_go_on, listed_usable}

@@ -1,11 +1,11 @@
 use Rattle.std.proofs.Common.{◌≡◌, ◌≤◌, ◌*◌, ◌+◌, vec_len, None}
 use Rattle.std.specs.Option.{ForSome}
 use Rattle.std.specs.Vec.{vec_capacity}
-use Rattle.rfb_server.specs.inside.Needs.{IsQuiet}
+use Rattle.rfb_server.specs.update.Needs.{IsQuiet}
 use Rattle.rfb_server.specs.Claims.{IsClaimed}
 use Rattle.rfb_server.specs.KnownScreen.{Follows}
-use Rattle.rfb_server.specs.inside.Sends.{IsKept}
-use Rattle.rfb_server.specs.inside.Copies.{AppendsCopies, IsUseful}
+use Rattle.rfb_server.specs.update.Sends.{IsKept}
+use Rattle.rfb_server.specs.update.Copies.{AppendsCopies, IsUseful}
 use Rattle.rfb_server.proofs.session.Session.send_copies.Given as goal
 
 -- the copies so far were sent, and there is room for the others

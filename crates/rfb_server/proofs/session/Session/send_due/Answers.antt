@@ -1,10 +1,10 @@
 use Rattle.std.specs.Vec.{vec_capacity}
 use Rattle.std.proofs.Common.{vec_len, ◌*◌, ℕ, List, refl, sym, subst, rules}
-use Rattle.rfb_server.specs.inside.Composed.{HasComposed}
+use Rattle.rfb_server.specs.update.Composed.{HasComposed}
 use Rattle.std.specs.Int.{div_ceil}
 use Rattle.rfb_server.specs.Server.{ServerState}
 use Rattle.rfb_server.specs.Composition.{IsDue}
-use Rattle.rfb_server.specs.inside.Sends.{IsEnough}
+use Rattle.rfb_server.specs.update.Sends.{IsEnough}
 use Rattle.rfb_server.proofs.CopiedLemmas.{state_same}
 use Rattle.rfb_server.proofs.RoomLemmas.{room_within}
 use Rattle.rfb_server.proofs.UpdateLemmas.{nothing_due, composed_same}

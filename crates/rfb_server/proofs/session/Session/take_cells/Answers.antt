@@ -4,7 +4,7 @@ use Rattle.rfb_server.specs.Cells.{IsCell}
 use Rattle.rfb_picture.specs.Rect.{contains}
 use Rattle.rfb_picture.specs.Box.{is_in}
 use Rattle.rfb_picture.proofs.GridLaws.{contains_true}
-use Rattle.rfb_server.specs.inside.Twins.{IsKnownAlike, ShowsAll, TakesSome}
+use Rattle.rfb_server.specs.session.Twins.{IsKnownAlike, ShowsAll, TakesSome}
 use Rattle.rfb_server.proofs.RoomLemmas.{few_cells}
 use Rattle.rfb_server.proofs.KeptLemmas.{setting_then, kept_then}
 use Rattle.rfb_server.proofs.TakenOverLemmas.{shown_known, some_more, quiet_taken, taken_more, taken_all, caught_by}

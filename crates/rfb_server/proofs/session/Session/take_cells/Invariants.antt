@@ -2,8 +2,8 @@ use Rattle.std.proofs.Common.{◌≡◌, ◌<◌, ◌≤◌, ◌*◌, ◌-◌, �
 use Rattle.std.specs.Int.{div_ceil}
 use Rattle.rfb_picture.specs.Box.{is_in}
 use Rattle.rfb_server.specs.Cells.{cell_of}
-use Rattle.rfb_server.specs.inside.Sends.{IsKept}
-use Rattle.rfb_server.specs.inside.Twins.{IsKnownAlike, TakesSome}
+use Rattle.rfb_server.specs.update.Sends.{IsKept}
+use Rattle.rfb_server.specs.session.Twins.{IsKnownAlike, TakesSome}
 use Rattle.rfb_server.proofs.session.Session.take_cells.Given as goal
 
 -- what is marked in the cells so far was taken over

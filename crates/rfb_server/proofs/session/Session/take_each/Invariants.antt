@@ -1,7 +1,7 @@
 use Rattle.std.proofs.Common.{◌≡◌, ◌-◌, ◌≤◌, length, take, None}
 use Rattle.rfb_server.specs.Progress.{fault_in}
-use Rattle.rfb_server.specs.inside.Sessions.{KeepsUp}
-use Rattle.rfb_server.specs.inside.Slice.{FeedsAs}
+use Rattle.rfb_server.specs.session.Sessions.{KeepsUp}
+use Rattle.rfb_server.specs.session.Slice.{FeedsAs}
 use Rattle.rfb_server.proofs.session.Session.take_each.Given as goal
 
 abbrev pub invariant-loop-used : goal.invariant-loop-used

@@ -3,7 +3,7 @@ use Rattle.std.specs.Int.{div_ceil}
 use Rattle.rfb_picture.specs.declared.rect.Rect.{Rect}
 use Rattle.rfb_picture.specs.Rect.{contains}
 use Rattle.rfb_picture.proofs.GridLaws.{contains_row}
-use Rattle.rfb_server.specs.inside.Twins.{ShowsAll}
+use Rattle.rfb_server.specs.session.Twins.{ShowsAll}
 use Rattle.rfb_server.proofs.KeptLemmas.{setting_then}
 use Rattle.rfb_server.proofs.TakenOverLemmas.{shown_known, taken_all, caught_by}
 use Rattle.rfb_server.proofs.ClaimLemmas.{nothing_claimed}

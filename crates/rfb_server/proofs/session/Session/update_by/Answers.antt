@@ -1,8 +1,8 @@
 use Rattle.std.proofs.Common.{◌≡◌, ℕ, ◌+◌, List, [], ◌∷◌, ◌++◌, length, ap, sym, subst, ◌∙◌, rules, arith, vec_len}
 use Rattle.std.proofs.lemmas.Grind.{common_steps}
 use Rattle.std.proofs.Math.Seq.{take-append_seam}
-use Rattle.rfb_server.specs.inside.Copies.{AppendsCopies, usable_hints}
-use Rattle.rfb_server.specs.inside.Composed.{IsCounted}
+use Rattle.rfb_server.specs.update.Copies.{AppendsCopies, usable_hints}
+use Rattle.rfb_server.specs.update.Composed.{IsCounted}
 use Rattle.rfb_server.proofs.UpdateLemmas.{enough_kept, updated, about_updated, sent_whole, stayed}
 use Rattle.rfb_server.proofs.QuietLemmas.{quiet_nowhere}
 use Rattle.rfb_server.proofs.SentCells.{limits_kept}

@@ -1,5 +1,5 @@
 use Rattle.std.proofs.Common.{inl, arith}
-use Rattle.rfb_server.specs.inside.Needs.{needs_of}
+use Rattle.rfb_server.specs.update.Needs.{needs_of}
 use Rattle.rfb_server.proofs.NeedingLemmas.{wide_top, wide_more, wide_all}
 use Rattle.rfb_server.proofs.session.Session.widened.Goals as goal
 

@@ -1,5 +1,5 @@
 use Rattle.std.proofs.Common.{◌-◌}
-use Rattle.rfb_server.specs.inside.Needs.{needs_of}
+use Rattle.rfb_server.specs.update.Needs.{needs_of}
 use Rattle.rfb_server.proofs.NeedingLemmas.{IsWide}
 use Rattle.rfb_server.proofs.session.Session.widened.Given as goal
 

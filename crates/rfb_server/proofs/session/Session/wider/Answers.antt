@@ -1,6 +1,6 @@
 use Rattle.std.proofs.Common.{◌+◌, arith}
 use Rattle.rfb_picture.specs.Places.{NoneInRow}
-use Rattle.rfb_server.specs.inside.Needs.{needs_of}
+use Rattle.rfb_server.specs.update.Needs.{needs_of}
 use Rattle.rfb_server.proofs.NeedingBits.{first_left, last_right, none_left, none_right, none_between}
 use Rattle.rfb_server.proofs.session.Session.wider.Goals.{Then-due-eq0}
 use Rattle.rfb_server.proofs.session.Session.wider.Goals as goal

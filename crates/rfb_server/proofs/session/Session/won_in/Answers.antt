@@ -1,5 +1,5 @@
 use Rattle.std.proofs.Common.{◌≡◌, ◌∙◌, ℕ, ◌+◌, ◌-◌, ◌*◌, ap, sym, arith}
-use Rattle.rfb_server.specs.inside.Gains.{right_before, claims_row, won_by}
+use Rattle.rfb_server.specs.update.Gains.{right_before, claims_row, won_by}
 use Rattle.rfb_server.proofs.ClaimedCountLemmas.{row_taken, row_passed, sum_up}
 use Rattle.rfb_server.proofs.ClaimedRowLemmas.{before_line}
 use Rattle.rfb_server.proofs.session.Session.won_in.Goals as goal

@@ -1,5 +1,5 @@
 use Rattle.std.proofs.Common.{◌≡◌, ◌*◌, ◌≤◌}
-use Rattle.rfb_server.specs.inside.Gains.{right_before, claims_row, sum_where, won_by}
+use Rattle.rfb_server.specs.update.Gains.{right_before, claims_row, sum_where, won_by}
 use Rattle.rfb_server.proofs.session.Session.won_in.Given as goal
 
 -- the rows so far are counted

@@ -4,12 +4,12 @@ ghost use Rattle.std.specs.Prelude.{◌≡◌, ◌+◌, ◌*◌, ◌≤◌, ℕ,
 ghost use Rattle.rfb_picture.specs.Rect.{contains};
 ghost use Rattle.std.specs.Bool.{OnTrue, OnFalse};
 ghost use Rattle.rfb_server.specs.Claims.{IsTrue, IsAsFar, is_claimed};
-ghost use Rattle.rfb_server.specs.inside.Needs.{is_quiet};
+ghost use Rattle.rfb_server.specs.update.Needs.{is_quiet};
 ghost use Rattle.rfb_server.specs.KnownScreen.{Follows};
-ghost use Rattle.rfb_server.specs.inside.Copies.{IsFree};
-ghost use Rattle.rfb_server.specs.inside.Gains.{MayCopy, HasMoreRight, IsJudged};
-ghost use Rattle.rfb_server.specs.inside.Gains.{right_before, right_after, claims_row};
-ghost use Rattle.rfb_server.specs.inside.Gains.{sum_where, counts, won_by};
+ghost use Rattle.rfb_server.specs.update.Copies.{IsFree};
+ghost use Rattle.rfb_server.specs.update.Gains.{MayCopy, HasMoreRight, IsJudged};
+ghost use Rattle.rfb_server.specs.update.Gains.{right_before, right_after, claims_row};
+ghost use Rattle.rfb_server.specs.update.Gains.{sum_where, counts, won_by};
 
 use crate::claim::Claim;
 use crate::hint::Hint;

@@ -6,7 +6,7 @@ ghost use Rattle.rfb_picture.specs.Grid.{Holds, row_of};
 ghost use Rattle.rfb_server.specs.Claims.{IsClaimed};
 ghost use Rattle.rfb_server.specs.KnownScreen.{Follows};
 ghost use Rattle.rfb_server.specs.Composition.{count_row};
-ghost use Rattle.rfb_server.specs.inside.Gains.{MayCopy, part, right_before, right_after};
+ghost use Rattle.rfb_server.specs.update.Gains.{MayCopy, part, right_before, right_after};
 
 use crate::claim::Claim;
 use crate::hint::Hint;

@@ -7,7 +7,7 @@ ghost use Rattle.rfb_picture.specs.Grid.{Holds, row_of};
 ghost use Rattle.rfb_server.specs.Claims.{IsClaimed};
 ghost use Rattle.rfb_server.specs.KnownScreen.{Follows};
 ghost use Rattle.rfb_server.specs.Composition.{count_row};
-ghost use Rattle.rfb_server.specs.inside.Gains.{MayCopy, right_before};
+ghost use Rattle.rfb_server.specs.update.Gains.{MayCopy, right_before};
 
 use crate::claim::Claim;
 use crate::hint::Hint;

@@ -1,5 +1,5 @@
 use Rattle.std.proofs.Common.{◌≡◌, ℕ, ◌-◌, ◌≤◌, ◌<◌, false, inl, refl, ◌∙◌, subst, arith}
-use Rattle.rfb_session.specs.inside.LinkDelivery.{HasHeard}
+use Rattle.rfb_session.specs.ends.LinkDelivery.{HasHeard}
 use Rattle.rfb_session.proofs.LeavingLemmas.{all_gone, more_gone, none_gone, to_session}
 use Rattle.rfb_session.proofs.ReachingLemmas.{heard_none, heard_goes_on, heard_done}
 use Rattle.rfb_session.proofs.link.Link.deliver_to_server.Goals as goal

@@ -1,6 +1,6 @@
 use Rattle.std.proofs.Common.{◌-◌, ◌≡◌, ◌⊎◌}
 use Rattle.rfb_server.specs.Hints.{hints_in}
-use Rattle.rfb_session.specs.inside.LinkDelivery.{DeliversToServer, HasHeard, EndsHearing}
+use Rattle.rfb_session.specs.ends.LinkDelivery.{DeliversToServer, HasHeard, EndsHearing}
 use Rattle.rfb_session.specs.LinkModel.{LosesToServer, server_fault_of, session_of_link, to_server_on, FollowsStill}
 use Rattle.rfb_session.proofs.LeavingLemmas.{Leaves}
 use Rattle.rfb_session.proofs.link.Link.deliver_to_server.Given as goal

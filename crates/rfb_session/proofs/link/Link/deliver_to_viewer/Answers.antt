@@ -1,5 +1,5 @@
 use Rattle.std.proofs.Common.{◌≡◌, ℕ, ◌-◌, ◌≤◌, ◌<◌, inl, refl, ◌∙◌, subst, arith}
-use Rattle.rfb_session.specs.inside.LinkDelivery.{HasWatched}
+use Rattle.rfb_session.specs.ends.LinkDelivery.{HasWatched}
 use Rattle.rfb_session.proofs.LeavingLemmas.{all_gone, more_gone, none_gone, to_viewer}
 use Rattle.rfb_session.proofs.ReachingLemmas.{watched_none, watched_goes_on, watched_done}
 use Rattle.rfb_session.proofs.link.Link.deliver_to_viewer.Goals as goal

@@ -1,5 +1,5 @@
 use Rattle.std.proofs.Common.{◌-◌, ◌≡◌, ◌⊎◌}
-use Rattle.rfb_session.specs.inside.LinkDelivery.{DeliversToViewer, HasWatched, EndsWatching}
+use Rattle.rfb_session.specs.ends.LinkDelivery.{DeliversToViewer, HasWatched, EndsWatching}
 use Rattle.rfb_session.specs.LinkModel.{LosesToViewer, session_of_link, to_viewer_on, viewer_fault_of}
 use Rattle.rfb_session.proofs.LeavingLemmas.{Leaves}
 use Rattle.rfb_session.proofs.link.Link.deliver_to_viewer.Given as goal

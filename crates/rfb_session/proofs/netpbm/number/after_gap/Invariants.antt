@@ -1,6 +1,6 @@
 -- What follows the gap is what follows the rest of it.
 use Rattle.std.proofs.Common.{◌≡◌, false, length}
-use Rattle.rfb_session.specs.netpbm.inside.Gaps.{after_gap}
+use Rattle.rfb_session.specs.netpbm.Gaps.{after_gap}
 use Rattle.rfb_session.proofs.netpbm.number.after_gap.Given as goal
 
 abbrev pub invariant-loop-rest : goal.invariant-loop-rest

@@ -1,6 +1,6 @@
 -- The places so far came, and the others are left.
 use Rattle.std.proofs.Common.{◌≡◌, ◌+◌, ℕ}
-use Rattle.rfb_session.specs.netpbm.inside.PlacesRead.{ReadPlaces}
+use Rattle.rfb_session.specs.netpbm.PlacesRead.{ReadPlaces}
 use Rattle.rfb_session.proofs.netpbm.places.read_places.Given as goal
 
 abbrev pub invariant-loop-left : goal.invariant-loop-left

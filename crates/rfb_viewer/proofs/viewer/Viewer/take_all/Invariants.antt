@@ -1,5 +1,5 @@
 use Rattle.std.proofs.Common.{◌-◌, length}
-use Rattle.rfb_viewer.specs.inside.StepPromises.{HasTaken}
+use Rattle.rfb_viewer.specs.steps.StepPromises.{HasTaken}
 use Rattle.rfb_viewer.proofs.viewer.Viewer.take_all.Given as goal
 
 abbrev pub invariant-loop-used : goal.invariant-loop-used

@@ -1,7 +1,7 @@
 use Rattle.std.proofs.Common.{arith}
 use Rattle.std.proofs.lemmas.Bool.Decides.{nat_tests}
 use Rattle.rfb_wire.specs.ClientHead.{client_head_size}
-use Rattle.rfb_wire.specs.Pending.{client_piece_size}
+use Rattle.rfb_wire.specs.MessagePieces.{client_piece_size}
 use Rattle.rfb_wire.proofs.stream_laws.PendingLaws.{message_below}
 use Rattle.rfb_wire.proofs.PendingLaws.{numbers_pending}
 use Rattle.rfb_wire.proofs.law.pending.client_pending_follows_the_last_piece.Goals as goal

@@ -1,9 +1,9 @@
 use Rattle.std.proofs.Common.{arith, inl, inr, ◌<◌, ◌≤◌, ◌+◌, length, refl}
 use Rattle.rfb_codec.specs.Raw.{raw_length}
-use Rattle.rfb_codec.specs.inside.TileSpelling.{tile_of, tile_bytes}
+use Rattle.rfb_codec.specs.encoder.TileSpelling.{tile_of, tile_bytes}
 use Rattle.rfb_codec.proofs.DrawLemmas.{sends_raw}
 use Rattle.rfb_codec.proofs.HextileRuleLemmas.{tile_length_is, raw_where_drawn_is_long}
-use Rattle.rfb_codec.specs.inside.Carried.{held_of}
+use Rattle.rfb_codec.specs.encoder.Carried.{held_of}
 use Rattle.rfb_codec.proofs.hextile.encode.choosing.choose.Goals.{in-Some+else-spelled_length-raw, in_default}
 use Rattle.rfb_codec.proofs.hextile.encode.choosing.choose.Goals as goal
 

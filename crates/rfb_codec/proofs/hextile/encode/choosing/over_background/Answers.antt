@@ -2,7 +2,7 @@ use Rattle.std.proofs.Common.{◌≡◌, ◌+◌, ◌/◌, inl, inr, map, min}
 use Rattle.rfb_pixel.specs.Format.{size_of}
 use Rattle.rfb_codec.specs.Raw.{raw_length}
 use Rattle.rfb_codec.specs.Tile.{PlainTile, rect_in}
-use Rattle.rfb_codec.specs.inside.Carried.{held_of}
+use Rattle.rfb_codec.specs.encoder.Carried.{held_of}
 use Rattle.rfb_codec.proofs.HextileRuleLemmas.{two_background, two_differ, few_places, two_no_shorter, many_pixels_long}
 use Rattle.rfb_codec.proofs.HextileRuleLemmas.{many_subs_long}
 use Rattle.rfb_codec.proofs.DrawLemmas.{pixel_small, tile_parts, small_parts, sends_one, sends_two, sends_more}

@@ -1,7 +1,7 @@
 use Rattle.std.proofs.Common.{◌≡◌, ◌+◌, ◌*◌, ◌++◌, take}
 use Rattle.std.specs.List.{flat_map}
 use Rattle.arrayvec.specs.ArrayVec.{array_vec_len}
-use Rattle.rfb_codec.specs.inside.TileSpelling.{own_place}
+use Rattle.rfb_codec.specs.encoder.TileSpelling.{own_place}
 use Rattle.rfb_codec.proofs.hextile.encode.pieces.append_places.Given as goal
 
 abbrev pub invariant-loop-sub : goal.invariant-loop-sub

@@ -6,7 +6,7 @@ use Rattle.rfb_picture.proofs.GridLaws.{whole-changed}
 use Rattle.rfb_wire.specs.RectHead.{IsOnScreen}
 use Rattle.rfb_codec.specs.declared.subrect.Subrect.{Subrect}
 use Rattle.rfb_codec.specs.Rre.{pixel_at}
-use Rattle.rfb_codec.specs.inside.TileRead.{sub_after, subs_in}
+use Rattle.rfb_codec.specs.decoder.TileRead.{sub_after, subs_in}
 use Rattle.rfb_codec.specs.Painter.{over}
 use Rattle.rfb_codec.proofs.PaintRreLemmas.{moved, moved_inside, over_filled}
 use Rattle.rfb_codec.proofs.TileReadLemmas.{subs_in-none, subs_in-more}

@@ -1,4 +1,4 @@
-use Rattle.rfb_codec.specs.inside.Step.{PaintsSubs}
+use Rattle.rfb_codec.specs.decoder.Step.{PaintsSubs}
 use Rattle.rfb_codec.proofs.hextile.paint.drawing.draw_each.Given as goal
 
 abbrev pub invariant-loop-n : goal.invariant-loop-n

@@ -1,7 +1,7 @@
 use Rattle.std.proofs.Common.{◌≡◌, ◌∙◌, ◌+◌, ◌-◌, ◌*◌, ◌&&◌, ℕ, suc, Bool, take, drop, arith, sym, ap}
 use Rattle.rfb_wire.specs.RectStream.{is_on_screen}
 use Rattle.rfb_codec.specs.Tile.{are_inside, place_of}
-use Rattle.rfb_codec.specs.inside.TileRead.{places_from}
+use Rattle.rfb_codec.specs.decoder.TileRead.{places_from}
 use Rattle.rfb_codec.proofs.PaintTileLemmas.{inside_more, nth_place}
 use Rattle.rfb_codec.proofs.hextile.paint.reading.are_places_inside.Goals as goal
 

@@ -1,7 +1,7 @@
 use Rattle.std.proofs.Common.{◌∙◌, List, ℕ, ap, sym, drop}
 use Rattle.std.proofs.lemmas.List.{take_rest}
 use Rattle.rfb_codec.specs.Tile.{are_inside}
-use Rattle.rfb_codec.specs.inside.TileRead.{places_from}
+use Rattle.rfb_codec.specs.decoder.TileRead.{places_from}
 use Rattle.rfb_codec.proofs.PaintTileLemmas.{places_plain, places_colored}
 use Rattle.rfb_codec.proofs.hextile.paint.reading.fits.Goals as goal
 

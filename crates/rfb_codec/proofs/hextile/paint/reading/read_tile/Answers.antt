@@ -1,7 +1,7 @@
 use Rattle.std.proofs.Common.{◌≡◌, ◌∙◌, ◌≤◌, true, refl, sym, arith, false, length, slice_index}
 use Rattle.std.proofs.lemmas.Bool.Decides.{nat_tests}
 use Rattle.rfb_codec.specs.Tile.{are_inside, places_of}
-use Rattle.rfb_codec.specs.inside.TileRead.{tile_of_read}
+use Rattle.rfb_codec.specs.decoder.TileRead.{tile_of_read}
 use Rattle.rfb_codec.proofs.TileLaws.{inside_true}
 use Rattle.rfb_codec.proofs.PaintTileLemmas.{tile_got}
 use Rattle.rfb_codec.proofs.TileOutsideLemmas.{outside_faults}

@@ -1,8 +1,8 @@
 use Rattle.std.proofs.Common.{◌≡◌, ◌∙◌, ◌<◌, [], ◌∷◌, ◌++◌, List, ℕ, None, Ok, length, drop, ap, refl, subst, arith}
 use Rattle.std.proofs.lemmas.Bool.Decides.{nat_tests}
 use Rattle.rfb_codec.specs.Hextile.{tile_width, tile_height}
-use Rattle.rfb_codec.specs.inside.TileRead.{tile_of_read}
-use Rattle.rfb_codec.specs.inside.Step.{TellsNext}
+use Rattle.rfb_codec.specs.decoder.TileRead.{tile_of_read}
+use Rattle.rfb_codec.specs.decoder.Step.{TellsNext}
 use Rattle.rfb_codec.proofs.TakeTileLemmas.{byte_waits, last_taken, tile_goes_on}
 use Rattle.rfb_codec.proofs.TileRefusalLemmas.{byte_refused}
 use Rattle.rfb_codec.proofs.FrontLemmas.{takes_on}

@@ -1,6 +1,6 @@
 use Rattle.std.proofs.Common.{◌≡◌, ◌<◌, length, take, refl, arith}
 use Rattle.std.proofs.lemmas.Bool.Decides.{nat_tests}
-use Rattle.rfb_codec.specs.inside.TileRead.{least_size}
+use Rattle.rfb_codec.specs.decoder.TileRead.{least_size}
 use Rattle.rfb_codec.proofs.TileRefusalLemmas.{first_steps}
 use Rattle.rfb_codec.proofs.JoinLemmas.{tile_waits}
 use Rattle.rfb_codec.proofs.FrontLemmas.{takes_on}

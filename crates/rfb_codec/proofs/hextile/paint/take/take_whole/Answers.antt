@@ -5,8 +5,8 @@ use Rattle.std.proofs.lemmas.List.{take_rest}
 use Rattle.std.proofs.lemmas.Bool.Decides.{nat_tests}
 use Rattle.rfb_codec.specs.declared.painter.stage.Stage.TheVariants.{InTiles}
 use Rattle.rfb_codec.specs.Hextile.{tile_count, tile_width, tile_height}
-use Rattle.rfb_codec.specs.inside.Step.{IsPaintable, Breaks, Takes}
-use Rattle.rfb_codec.specs.inside.TileRead.{tile_of_read}
+use Rattle.rfb_codec.specs.decoder.Step.{IsPaintable, Breaks, Takes}
+use Rattle.rfb_codec.specs.decoder.TileRead.{tile_of_read}
 use Rattle.rfb_codec.proofs.FeedLemmas.{takes_later, breaks_later}
 use Rattle.rfb_codec.proofs.FrontLemmas.{no_items, some_places, takes_on}
 use Rattle.rfb_codec.proofs.TakeTileLemmas.{front_goes_on, front_sound, front_some, tile_goes_on, tile_taken}

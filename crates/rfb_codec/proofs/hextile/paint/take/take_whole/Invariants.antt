@@ -1,6 +1,6 @@
 use Rattle.std.proofs.Common.{◌≡◌, ◌-◌, ◌≤◌, [], length, take}
 use Rattle.rfb_codec.specs.declared.painter.stage.Stage.TheVariants.{InTiles}
-use Rattle.rfb_codec.specs.inside.Step.{Reaches}
+use Rattle.rfb_codec.specs.decoder.Step.{Reaches}
 use Rattle.rfb_codec.proofs.hextile.paint.take.take_whole.Given as goal
 
 abbrev pub invariant-tiles : goal.invariant-tiles

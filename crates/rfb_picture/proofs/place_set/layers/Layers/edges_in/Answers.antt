@@ -1,6 +1,6 @@
 use Rattle.std.proofs.Common.{◌+◌, arith}
-use Rattle.rfb_picture.specs.inside.PlaceSet.{in_set}
-use Rattle.rfb_picture.specs.inside.Cells.{in_column}
+use Rattle.rfb_picture.specs.layout.PlaceSet.{in_set}
+use Rattle.rfb_picture.specs.layout.Cells.{in_column}
 use Rattle.rfb_picture.proofs.CellLemmas.{columns_to, columns_more, columns_done}
 use Rattle.rfb_picture.proofs.place_set.layers.Layers.edges_in.Goals as goal
 

@@ -1,6 +1,6 @@
 use Rattle.std.proofs.Common.{◌≡◌, ◌/◌, true, false, sym, ◌∙◌, refl, arith}
 use Rattle.rfb_picture.specs.Box.{is_in}
-use Rattle.rfb_picture.specs.inside.PlaceSet.{in_set}
+use Rattle.rfb_picture.specs.layout.PlaceSet.{in_set}
 use Rattle.rfb_picture.proofs.CellLemmas.{full_edges, same_cell}
 use Rattle.rfb_picture.proofs.EdgesLemmas.{same_edges}
 use Rattle.rfb_picture.proofs.place_set.layers.Layers.edges_in_cell.Goals as goal

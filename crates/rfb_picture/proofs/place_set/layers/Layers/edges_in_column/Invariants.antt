@@ -1,6 +1,6 @@
 use Rattle.std.proofs.Common.{◌+◌, ◌-◌, ◌*◌, min}
-use Rattle.rfb_picture.specs.inside.Edges.{HasEdges}
-use Rattle.rfb_picture.specs.inside.PlaceSet.{in_set}
+use Rattle.rfb_picture.specs.layout.Edges.{HasEdges}
+use Rattle.rfb_picture.specs.layout.PlaceSet.{in_set}
 use Rattle.rfb_picture.proofs.place_set.layers.Layers.edges_in_column.Given as goal
 
 -- the edges of the places in the rows of cells so far

@@ -1,7 +1,7 @@
 use Rattle.std.proofs.Common.{refl, arith, rules}
 use Rattle.std.proofs.lemmas.Grind.{common_steps}
 use Rattle.std.proofs.lemmas.Bool.{false≢true}
-use Rattle.rfb_picture.specs.inside.PlaceSet.{in_set}
+use Rattle.rfb_picture.specs.layout.PlaceSet.{in_set}
 use Rattle.rfb_picture.proofs.CoverLemmas.{column_inside, all_columns_more, all_columns_done}
 use Rattle.rfb_picture.proofs.place_set.layers.Layers.has_all.Goals as goal
 

@@ -1,5 +1,5 @@
 use Rattle.rfb_picture.specs.Places.{AllMarked}
-use Rattle.rfb_picture.specs.inside.PlaceSet.{in_set}
+use Rattle.rfb_picture.specs.layout.PlaceSet.{in_set}
 use Rattle.rfb_picture.proofs.CellLemmas.{columns_to}
 use Rattle.rfb_picture.proofs.place_set.layers.Layers.has_all.Given as goal
 

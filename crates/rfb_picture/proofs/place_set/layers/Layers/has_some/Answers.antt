@@ -1,5 +1,5 @@
 use Rattle.std.proofs.Common.{arith}
-use Rattle.rfb_picture.specs.inside.PlaceSet.{in_set}
+use Rattle.rfb_picture.specs.layout.PlaceSet.{in_set}
 use Rattle.rfb_picture.proofs.NextCellLemmas.{place_in_cell, none_in_cell}
 use Rattle.rfb_picture.proofs.place_set.layers.Layers.has_some.Goals as goal
 

@@ -1,6 +1,6 @@
 use Rattle.std.proofs.Common.{◌≤◌, ◌-◌, ◌*◌}
 use Rattle.rfb_picture.specs.CellOrder.{NoneInCells}
-use Rattle.rfb_picture.specs.inside.PlaceSet.{in_set}
+use Rattle.rfb_picture.specs.layout.PlaceSet.{in_set}
 use Rattle.rfb_picture.proofs.place_set.layers.Layers.next_cell.Given as goal
 
 -- the cells so far have no place of the set

@@ -1,5 +1,5 @@
 use Rattle.std.proofs.Common.{◌≡◌, ◌⊎◌, ◌+◌, ◌-◌, ◌*◌, ◌≤◌}
-use Rattle.rfb_picture.specs.inside.PlaceSet.{NoneOpen}
+use Rattle.rfb_picture.specs.layout.PlaceSet.{NoneOpen}
 use Rattle.rfb_picture.proofs.place_set.layers.Layers.next_open.Given as goal
 
 -- the rows so far have no open cell; the search goes on where it was to begin, or at a row's start

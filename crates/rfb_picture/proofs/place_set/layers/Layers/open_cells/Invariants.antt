@@ -1,5 +1,5 @@
 use Rattle.std.proofs.Common.{◌-◌}
-use Rattle.rfb_picture.specs.inside.PlaceSet.{IsOpened}
+use Rattle.rfb_picture.specs.layout.PlaceSet.{IsOpened}
 use Rattle.rfb_picture.proofs.place_set.layers.Layers.open_cells.Given as goal
 
 -- the rows so far are open

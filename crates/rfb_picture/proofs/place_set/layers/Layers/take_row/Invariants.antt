@@ -1,5 +1,5 @@
 use Rattle.std.proofs.Common.{◌≤◌, ◌-◌, ◌&&◌, nat_eq, nat_lt}
-use Rattle.rfb_picture.specs.inside.PlaceSet.{HasLost}
+use Rattle.rfb_picture.specs.layout.PlaceSet.{HasLost}
 use Rattle.rfb_picture.proofs.place_set.layers.Layers.take_row.Given as goal
 
 -- the cells so far lost their places

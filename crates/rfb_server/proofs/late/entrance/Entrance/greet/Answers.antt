@@ -1,5 +1,5 @@
 use Rattle.std.proofs.Common.{refl, ap, rules}
-use Rattle.rfb_server.specs.inside.Ended.{progress_at}
+use Rattle.rfb_server.specs.session.Ended.{progress_at}
 use Rattle.rfb_server.specs.Late.{entered}
 use Rattle.rfb_server.proofs.GreetLemmas.{greets}
 use Rattle.rfb_server.proofs.EndingLemmas.{greets_end}

@@ -1,3 +1,0 @@
--- Words of private contracts. No public clause reads them, so a reader can skip them.
-pub mod ServerPiece
-pub mod ViewerPiece
