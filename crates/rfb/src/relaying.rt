@@ -35,10 +35,13 @@ use std::os::fd::AsRawFd;
 use std::time::Clock;
 
 /// Relays a server until it goes away, or until the last viewer does if that is wanted. Standard
-/// input is not read. Sentences are said, unless the options are against them. It fails where
-/// standard output is closed, where the server cannot be reached, where nothing can listen, where
-/// there is no memory, where a line cannot be written, and where the server goes away and the
-/// options do not have it called again: with the fault that a view of it would end with.
+/// input is not read. Sentences are said, unless the options are against them. It fails where:
+///
+/// - standard output is closed, or a line cannot be written,
+/// - the server cannot be reached, or nothing can listen,
+/// - there is no memory,
+/// - the server goes away and the options do not have it called again: with the fault that a view
+///   of it would end with.
 pub fn relay_at<P: AllocGlobal + Clock + Net, R: Read, W: Write, E: Write>(
     context: &mut Context<P, R, W, E>,
     options: RelayOptions<'_>,

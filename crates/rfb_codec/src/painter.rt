@@ -90,10 +90,12 @@ impl Painter {
     /// Takes bytes of the rectangle's data up to their last one, and paints each piece of them at
     /// its last byte. A rectangle without data is painted at once, by the empty slice too.
     ///
-    /// `SubrectOutside` at the last byte of a subrectangle that leaves the rectangle, or of a tile
-    /// that one leaves; `NoBackground`, `BothColourBits` and `NoForeground` at a tile's mask, in
-    /// that order; `SourceOutside` at the last byte of a source that leaves the picture. The
-    /// picture then shows the pieces before that one, and the painter is not fed again.
+    /// - `SubrectOutside` at the last byte of a subrectangle that leaves the rectangle, or of a tile
+    ///   that one leaves
+    /// - `NoBackground`, `BothColourBits` and `NoForeground` at a tile's mask, in that order
+    /// - `SourceOutside` at the last byte of a source that leaves the picture
+    ///
+    /// The picture then shows the pieces before that one, and the painter is not fed again.
     pub fn feed(
         &mut self,
         bytes: &[u8],

@@ -37,10 +37,13 @@ pub mod streams;
 pub mod viewers;
 
 /// Whatever is drawn, asked, composed and delivered, in any number and order, refused calls among
-/// it: wherever it is known what the viewer has, it shows that once all that is in flight to it has
-/// reached it; and over the area that the latest update answered it then shows the screen as it was
-/// at that composing, seen through the format of that update. A fresh world is one that this holds
-/// of, whatever was drawn on its screen.
+/// it: once all that is in flight to the viewer has reached it,
+///
+/// - wherever it is known what it has, it shows that,
+/// - over the area that the latest update answered it shows the screen as it was at that composing,
+///   seen through the format of that update.
+///
+/// A fresh world is one that this holds of, whatever was drawn on its screen.
 pub fn what_is_due_is_the_screen()
     ensures fresh { (e : Ends) (screen : Grid Colour) →
         screen.width ≡ e.serving.hello.width → screen.height ≡ e.serving.hello.height →

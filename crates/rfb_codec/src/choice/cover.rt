@@ -17,10 +17,10 @@ use rfb_pixel::run_of;
 /// Gives `subs` the subrectangles that cover the places of another pixel than the background, or
 /// answers false once there are more than `limit`.
 ///
-/// Rows are gone through from the top, each from the left. At a place that is not covered and has
-/// another pixel than the background, the longest run to the right of uncovered places with its
-/// pixel begins a subrectangle, and as many further rows belong to it as have that pixel under the
-/// whole run.
+/// Rows are gone through from the top, each from the left. A subrectangle begins at a place that is
+/// not covered and has another pixel than the background. It is as wide as the longest run to the
+/// right of uncovered places with its pixel, and goes down as many rows as have that pixel under
+/// the whole run.
 pub(crate) fn cover<const N: usize>(
     pixels: &[u32],
     width: usize,

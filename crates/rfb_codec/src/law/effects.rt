@@ -44,10 +44,12 @@ pub fn effects_keep_the_size()
         IsGrid picture → IsGrid (effects p items picture) }
 {}
 
-/// A picture that agrees with what is known goes on to agree: where the pixels of a block are
-/// painted and known from then on, as they are put into the record or as they are found in one;
-/// where a source on the screen is copied, with what is known of it; and so where an item has its
-/// effect.
+/// A picture that agrees with what is known goes on to agree:
+///
+/// - where the pixels of a block are painted and known from then on, as they are put into the
+///   record or as they are found in one,
+/// - where a source on the screen is copied, with what is known of it,
+/// - and so where an item has its effect.
 pub fn agreement_is_kept()
     ensures replaced { (f : PixelFormat) (rect : Rect) (block : Grid ℕ)
         (picture : Grid Colour) (known : Grid (Option ℕ)) →

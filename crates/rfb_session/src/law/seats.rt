@@ -25,8 +25,8 @@ ghost use Rattle.rfb_session.specs.Slots.{OnSlot};
 
 /// A seat that a viewer takes begins its life: nothing was received there, nothing written. A call
 /// of the share's carries that on. So at any time its session stands for what the bytes received
-/// there lead to, over the screen that the drawings lead to; and what was written and what waits
-/// are its greeting, its answers and its updates, in order, no byte lost and none twice.
+/// there lead to, over the screen that the drawings lead to. What was written and what waits are its
+/// greeting, its answers and its updates, in order, no byte lost and none twice.
 pub fn a_seat_lives_as_its_calls_say()
     ensures joined { (old new : Share) (joined : Option ℕ) (k : ℕ) →
         JoinsAs old joined new → joined ≡ Some k → LivesAt (serving_in old) new k [] [] }

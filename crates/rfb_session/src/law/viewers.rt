@@ -116,9 +116,9 @@ pub fn a_viewer_of_a_seat_goes_on_as_a_link()
 {}
 
 /// At any time neither end of such a seat has failed. Once all that is on its way and all that
-/// waits has reached the viewer, it shows what the session knows it to show; and over the area of
-/// its latest update the screen as it was composed of, as that update's format can show it. Where
-/// nothing is on its way and nothing waits, that is what it shows.
+/// waits has reached the viewer, it shows what the session knows it to show. Over the area of its
+/// latest update it then shows the screen as it was composed of, as that update's format can show
+/// it. Where nothing is on its way and nothing waits, that is what it shows.
 pub fn a_viewer_of_a_seat_shows_the_screen()
     ensures going { (e : Ends) (share : Share) (k : ℕ) (viewer : Viewer)
         (to_server on_way : List ℕ) (n : Network) →

@@ -80,11 +80,15 @@ impl Viewer {
     }
 
     /// Makes a call, and gives its message, without memory. A text has at most 1,048,576 bytes.
-    /// `NotReady` before the handshake is done and once the viewer has failed; else for a request
-    /// `Busy` where one is outstanding, and then `AreaOutside` where the area has no place or
-    /// leaves the screen; for a format `Busy` where a request is outstanding or the server's bytes
-    /// stand inside an update, from its type byte to its last. A refusal changes nothing. A request
-    /// is outstanding until the next `UpdateDone`, and the next update is read in the format.
+    /// `NotReady` before the handshake is done and once the viewer has failed. Else
+    ///
+    /// - for a request `Busy` where one is outstanding, and then `AreaOutside` where the area has no
+    ///   place or leaves the screen,
+    /// - for a format `Busy` where a request is outstanding or the server's bytes stand inside an
+    ///   update, from its type byte to its last.
+    ///
+    /// A refusal changes nothing. A request is outstanding until the next `UpdateDone`, and the
+    /// next update is read in the format.
     pub fn spell<'a>(&mut self, call: &Call<'a>) -> Result<Message<'a>, CallFault>
         requires few { length (text_in call.now) ≤ 1048576 }
 

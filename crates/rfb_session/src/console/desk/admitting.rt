@@ -23,9 +23,9 @@ pub(crate) struct Admission {
 
 impl Desk {
     /// A connection from there takes a seat, and a line tells it. Where there are as many viewers
-    /// as there may be, the oldest one whose handshake is not done gives way to it; where all are
-    /// done, or there is no memory for a session, a line says so and it gets none. An error is want
-    /// of memory for a line.
+    /// as there may be, the oldest one whose handshake is not done gives way to it. Where all are
+    /// done, or there is no memory for a session, it gets none, and a line says so. An error is
+    /// want of memory for a line.
     pub(crate) fn admit(&mut self, from: &str) -> io::Result<Admission>
         ensures { IfOk result (λ told. Admits self.old from.now told.seat told.left self.new) }
     {
