@@ -157,7 +157,7 @@ module _ {S : Type 0} where
     comes_so was s prefix here stood order used part_is (FailedAt now fault fails used_is loses) =
         Leaves (loses_gone mid _ new
         (ap (λ (p : Presence). is_gone p) taken.presence ∙ not_gone old was false here) loses)
-    comes_so was s prefix here stood order used part_is (Met now fed takes used_is meets) = by s.point refl
+    comes_so was s prefix here stood order used part_is (Met now fed takes used_is meets named) = by s.point refl
       where
         view : Bool
         view = old.console.rules.view_only

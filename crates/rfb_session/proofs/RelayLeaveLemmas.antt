@@ -67,7 +67,7 @@ module _ {S : Type 0} where
     meets_leaves now (Some Said.ColourMapSkipped) so = stands_leaves now _ so
 
     comes_leaves : (was : Viewer) (bytes : List ℕ) (used : ℕ) → HearsComing old was bytes used new → HasGone new
-    comes_leaves was bytes used (Met now fed takes is meets) = meets_leaves now fed.event meets
+    comes_leaves was bytes used (Met now fed takes is meets named) = meets_leaves now fed.event meets
     comes_leaves was bytes used (FailedAt now fault fails is loses) = loses_gone old _ new there loses
 
     shows_leaves : (bytes : List ℕ) (used : ℕ) → HearsShown old bytes used new → HasGone new

@@ -19,7 +19,7 @@ use Rattle.rfb_session.specs.declared.relay.gone.Gone.{Gone}
 use Rattle.rfb_session.specs.console.Console.{KeepsSide, OpensRooms}
 use Rattle.rfb_session.specs.declared.console.plan.Rules.{Rules}
 use Rattle.rfb_session.specs.declared.share.event.SeatEvent.{SeatEvent}
-use Rattle.rfb_session.specs.console.Console.{HearsBytes}
+use Rattle.rfb_session.specs.console.Console.{HearsBytes, RunsOut}
 use Rattle.rfb_session.specs.relay.Desk.{AsksFrom, CallsDesk, FeedsDesk, LosesDesk, SomeWait, TellsSome}
 use Rattle.rfb_session.specs.relay.Desk.{told_of_server, whole_of}
 use Rattle.rfb_session.specs.ShareWaiters.{SomeAsked}
@@ -305,17 +305,20 @@ module _ {S : Type 0} where
 
   pub viewed_so : (old mid new : Relay S) (k : ℕ) (bytes : List ℕ) (used before : ℕ) (heard : Console S)
       (event : Option SeatEvent) → HearsBytes old.console k bytes used event heard →
-      (old.console.outcome ≢ None → event ≡ None) → (old.console.desk ≡ None → event ≡ None) →
+      RunsOut old.console.outcome heard.outcome → (old.console.outcome ≢ None → event ≡ None) →
+      (old.console.desk ≡ None → event ≡ None) →
       KeepsSide old.console heard →
       Passes (passed (heard.rules.view_only || not (is_shown old.presence)) event) heard.desk mid.console.desk
       old.to_server mid.to_server heard.outcome mid.console.outcome → mid.passed ≡ old.passed →
       mid.coming ≡ old.coming → mid.presence ≡ old.presence →
       before ≡ length old.to_server → CountsPassed mid k before new → HearsViewer old k bytes used new
-  viewed_so old mid new k bytes used before heard event hears ended nobody side passes same coming gone was counts =
+  viewed_so old mid new k bytes used before heard event hears ends ended nobody side passes same coming gone
+      was counts =
       record {
         event = event;
         mid = heard;
         hears = hears;
+        ends = ends;
         ended = λ one. elim one [ inl over ↦ ended over | inr none ↦ nobody none ];
         side = side;
         passes = rw (counts.console, counts.waits) (subst (λ (r : Rules). Passes

@@ -6,5 +6,6 @@ pub mod Turns
 pub mod CountedDuplex
 pub mod Places
 pub mod Lives
+pub mod Arrivals
 pub mod Tenants
 pub mod Echo

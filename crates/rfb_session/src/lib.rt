@@ -19,7 +19,7 @@
 //! - What the owner of a share says by lines, and lines that say what its viewers do: `owner`, of
 //!   words that `language` reads.
 //! - Pictures and files: `ppm` writes a picture as PPM, and `netpbm::read_ppm` reads one.
-//! - `Link` is a session and a viewer with the bytes in flight, over a screen that it is lent at
+//! - `Link` is a session and a viewer with the bytes in flight, over a screen that it borrows at
 //!   each call: what worlds and hubs are made of.
 //!
 //! | Bytes | Go |
@@ -29,6 +29,7 @@
 //! | of a `Foreign` event | into flight to the session of a slot, whoever sent them |
 #![tactic(auto)]
 
+mod beginning;
 mod channel;
 pub mod console;
 pub mod doors;

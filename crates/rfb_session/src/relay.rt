@@ -45,7 +45,7 @@ use crate::slots::SLOTS;
 use arrayvec::ArrayVec;
 pub use gone::Gone;
 pub(crate) use hearing::is_shown_size;
-pub(crate) use passing::beginning_of;
+pub(crate) use passing::TEXT_MOST;
 use presence::Presence;
 use rfb_viewer::Viewer;
 use setup::Given;

@@ -22,7 +22,7 @@ pub struct Target<F> {
 struct Beside {
     // Its name, until it is.
     name: String,
-    // Where it comes to then.
+    // Where it is then.
     place: String,
 }
 

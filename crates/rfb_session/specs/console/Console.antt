@@ -1,7 +1,7 @@
 -- What a console is behind its doors, and what happens there.
 use Rattle.std.specs.Prelude.{◌≡◌, ◌≢◌, ◌<◌, ◌≤◌, ◌⊎◌, ℕ, ◌+◌, ◌-◌, ◌==◌, Bool, true, false, nat_le, ◌&&◌, not}
 use Rattle.std.specs.Prelude.{List, [], Option, Some, None, length, take, slice_index_or, if◌then◌else◌}
-use Rattle.std.specs.Prelude.{is_some, nat_lt, cond}
+use Rattle.std.specs.Prelude.{is_some, nat_lt, cond, ◌||◌}
 use Rattle.rfb_server.specs.Strokes.{Stroke, Bytes, Fill as OneFill, Copy as OneCopy, Hint as OneHint}
 use Rattle.rfb_server.specs.Strokes.{Scroll as OneScroll}
 use Rattle.rfb_session.specs.declared.console.Console.{Console}
@@ -22,6 +22,7 @@ use Rattle.rfb_session.specs.Share.{waits_at}
 use Rattle.rfb_session.specs.console.Desk.{guest_at, lines_of, is_over, is_heard, is_idle}
 use Rattle.rfb_session.specs.console.Viewers.{HearsAt, LetsGo, LetsGoFor, Admits}
 use Rattle.rfb_session.specs.console.Turns.{TurnsAs, IsFreshDesk, DrawsAs, HoldsAs, ShowsAs}
+use Rattle.rfb_session.specs.console.Time.{waits_for}
 use Rattle.rfb_session.specs.console.Turns.{WritesLines, WritesSeat}
 
 -- ---- doors
@@ -50,6 +51,11 @@ seat_heard (Some desk) k = is_heard desk k
 abbrev pub is_seat : ℕ → Bool
 is_seat d = nat_le 1 d && nat_le d 8
 
+-- few lines wait for the owner, so a newcomer can be told of
+abbrev pub has_room : Option Desk → Bool
+has_room None = false
+has_room (Some desk) = nat_lt (length (lines_of desk)) 65536
+
 -- what tells the owner has failed
 abbrev pub is_lost : Option Outcome → Bool
 is_lost None = false
@@ -59,6 +65,16 @@ is_lost (Some (BadLine line)) = false
 is_lost (Some NoMemory) = false
 is_lost (Some Device) = true
 is_lost (Some (ServerGone gone)) = false
+
+-- nothing that waits is written any more: memory was wanting, or what tells the owner has failed
+abbrev pub is_abrupt : Option Outcome → Bool
+is_abrupt None = false
+is_abrupt (Some Quit) = false
+is_abrupt (Some Idle) = false
+is_abrupt (Some (BadLine line)) = false
+is_abrupt (Some NoMemory) = true
+is_abrupt (Some Device) = true
+is_abrupt (Some (ServerGone gone)) = false
 
 -- the desk has done so; or there is none; or all has ended before, and nothing was done; or memory for a line
 -- was wanting, with which all ends
@@ -74,6 +90,10 @@ pub data OnDesk (does : Desk → Desk → Type 0) (old : Option Desk) (ended : O
 -- it goes on as it did, or memory was wanting, with which all ends
 abbrev pub RunsOut : Option Outcome → Option Outcome → Type 0
 RunsOut old new = (new ≡ old) ⊎ (new ≡ Some NoMemory)
+
+-- the same, or a line of the owner's said so
+abbrev pub LineEnds : Option Outcome → Option Outcome → Type 0
+LineEnds old new = RunsOut old new ⊎ (new ≡ Some Quit)
 
 -- the owner has ended it: by a line, or by one that gives no screen
 abbrev pub OwnerEnds : Option Desk → Option Outcome → Type 0
@@ -297,6 +317,12 @@ module _ {S : Type 0} where
       (DoesAlways (λ a b. WritesLines a (length bytes) b) old new) (KeepsDesk old new)
   Does old (Turned now) new = TurnsDesk old now new × NamesNext new × OpensRooms new
 
+  -- in a turn all may end for want of memory; or without viewers, if that is wanted
+  abbrev pub TurnEnds : Console S → Console S → Type 0
+  TurnEnds old new =
+      RunsOut old.outcome new.outcome
+      ⊎ ((old.rules.until_idle ≡ true) × IsIdle new.desk × (new.outcome ≡ Some Idle))
+
   -- all ends for want of memory, or by its owner's doing; where lines are lost; or in a turn without viewers, if
   -- that is wanted
   abbrev pub EndsAs : Console S → Event → Console S → Type 0
@@ -308,9 +334,7 @@ module _ {S : Type 0} where
       RunsOut old.outcome new.outcome ⊎ ((door ≡ 0) × OwnerEnds new.desk new.outcome)
       ⊎ ((door ≡ 9) × (new.outcome ≡ Some Device))
   EndsAs old (Wrote door bytes) new = new.outcome ≡ old.outcome
-  EndsAs old (Turned now) new =
-      RunsOut old.outcome new.outcome
-      ⊎ ((old.rules.until_idle ≡ true) × IsIdle new.desk × (new.outcome ≡ Some Idle))
+  EndsAs old (Turned now) new = TurnEnds old new
 
   -- bytes that left are those that waited first
   abbrev pub Left : Console S → Event → Type 0
@@ -327,7 +351,22 @@ module _ {S : Type 0} where
     pub left : Left old event
     pub stays : Stays old new
 
-  -- ---- who comes
+  -- ---- who comes, and when all has ended
+
+  -- a newcomer is welcome: there is a screen, few lines wait, and all goes on
+  abbrev pub is_welcome : Console S → Bool
+  is_welcome console = has_room console.desk && not (is_some console.outcome)
+
+  -- lines and notes that wait for the owner have left, or nobody reads them
+  abbrev pub has_told : Console S → Bool
+  has_told console =
+      not (waits_for (lines_on console.desk)) && (not (waits_for console.notes.items) || console.are_notes_lost)
+
+  -- all has ended: for want of memory or where lines are lost at once, else once what waits has left or its time is
+  -- over
+  abbrev pub has_ended : Console S → Bool
+  has_ended console =
+      is_some console.outcome && (console.is_over || is_abrupt console.outcome || has_told console)
 
   -- a connection from there has the door of a seat, which it has just taken
   pub record OpensAs (old : Console S) (door : ℕ) (from : List ℕ) (new : Console S) : Type 0 where

@@ -1,5 +1,5 @@
 -- What happens at the doors of a relay, and who comes.
-use Rattle.std.specs.Prelude.{◌≡◌, ◌≢◌, ◌<◌, ◌⊎◌, ℕ, ◌+◌, ◌-◌, Bool, true, false}
+use Rattle.std.specs.Prelude.{◌≡◌, ◌≢◌, ◌<◌, ◌⊎◌, ℕ, zero, suc, ◌+◌, ◌-◌, Bool, true, false}
 use Rattle.std.specs.Prelude.{nat_eq}
 use Rattle.std.specs.Prelude.{◌&&◌, ◌||◌, not}
 use Rattle.std.specs.Prelude.{List, [], Option, Some, None}
@@ -15,9 +15,9 @@ use Rattle.rfb_session.specs.declared.relay.presence.Presence.TheVariants.{Comin
 use Rattle.rfb_session.specs.declared.share.event.SeatEvent.{SeatEvent}
 use Rattle.rfb_session.specs.doors.Events.{Event, Received, Ended, Failed, Wrote, Turned}
 use Rattle.rfb_session.specs.console.Console.{HearsBytes, KeepsSide, KeepsButRooms}
-use Rattle.rfb_session.specs.console.Console.{Stays, Steps, TurnsDesk}
-use Rattle.rfb_session.specs.console.Console.{OpensAs, DeclinesAs}
-use Rattle.rfb_session.specs.console.Time.{IsBy}
+use Rattle.rfb_session.specs.console.Console.{RunsOut, Stays, Steps, TurnEnds, TurnsDesk}
+use Rattle.rfb_session.specs.console.Console.{OpensAs, DeclinesAs, has_ended, waiting_at}
+use Rattle.rfb_session.specs.console.Time.{IsBy, waits_for}
 use Rattle.rfb_session.specs.declared.console.desk.Desk.{Desk}
 use Rattle.rfb_session.specs.relay.Calls.{passed, Passes, Asks}
 use Rattle.rfb_session.specs.relay.Presence.{is_shown, is_called}
@@ -38,6 +38,7 @@ module _ {S : Type 0} where
     pub event : Option SeatEvent
     pub mid : Console S
     pub hears : HearsBytes old.console k bytes used event mid
+    pub ends : RunsOut old.console.outcome mid.outcome
     pub ended : (old.console.outcome ≢ None) ⊎ (old.console.desk ≡ None) → event ≡ None
     pub side : KeepsSide old.console mid
     pub passes : Passes (passed (old.console.rules.view_only || not (is_shown old.presence)) event) mid.desk
@@ -73,6 +74,7 @@ module _ {S : Type 0} where
     pub keeps : KeepsButDesk old asked
     pub mid : Console S
     pub turns : TurnsDesk asked.console now mid
+    pub ends : TurnEnds asked.console mid
     pub stays : Stays asked.console mid
     pub asks : Asks (is_shown old.presence) mid.outcome mid.desk new.console.desk asked.to_server new.to_server
         new.console.outcome
@@ -106,6 +108,15 @@ module _ {S : Type 0} where
   -- the server is to be called now
   abbrev pub is_due : Relay S → Bool
   is_due relay = not (is_some relay.console.outcome) && is_called relay.presence
+
+  -- bytes wait at some of the first doors of seats
+  abbrev pub some_wait : ℕ → Console S → Bool
+  some_wait zero console = false
+  some_wait (suc n) console = some_wait n console || waits_for (waiting_at console (n + 1))
+
+  -- all has ended as at a console, and what waits for viewers has left, or its time is over
+  abbrev pub is_ended : Relay S → Bool
+  is_ended relay = has_ended relay.console && (relay.console.is_over || not (some_wait 8 relay.console))
 
   -- the server that was called comes: its viewer was told nothing, and nothing waits
   pub record IsCalledAgain (old new : Relay S) : Type 0 where

@@ -1,7 +1,7 @@
 -- What a relay does with its server: how that comes, is shown, goes away and is called again.
 use Rattle.std.specs.Prelude.{◌≡◌, ◌≢◌, ◌<◌, ◌⊎◌, ℕ, Bool, true, false}
 use Rattle.std.specs.Prelude.{List, [], ◌++◌, Option, Some, None}
-use Rattle.std.specs.Prelude.{length}
+use Rattle.std.specs.Prelude.{length, take}
 use Rattle.rfb_hello.specs.declared.fed.Fed.{Fed}
 use Rattle.rfb_picture.specs.Rect.{rect}
 use Rattle.rfb_viewer.specs.declared.event.ViewerEvent.{ViewerEvent}
@@ -59,6 +59,16 @@ abbrev pub WakesFor : Option ℕ → Option Outcome → Presence → Option ℕ 
 WakesFor None ended presence next = Unit {0}
 WakesFor (Some pause) (Some ended) presence next = Unit {0}
 WakesFor (Some pause) None presence next = WakesToCall (call_time presence) next
+
+-- the server's name is kept as it told it, of 255 bytes at most
+abbrev pub named_by : Option ViewerEvent → List ℕ → List ℕ
+named_by None old = old
+named_by (Some (Said.Reply reply)) old = old
+named_by (Some (Said.Ready reply width height name name_length)) old = take 255 name.items
+named_by (Some Said.UpdateDone) old = old
+named_by (Some Said.Bell) old = old
+named_by (Some (Said.CutText kept text_length)) old = old
+named_by (Some Said.ColourMapSkipped) old = old
 
 module _ {S : Type 0} where
   -- a relay whose server has said nothing: its viewer was fed nothing, and nothing waits
@@ -185,7 +195,8 @@ module _ {S : Type 0} where
   -- the viewer took bytes, as far as its first event; or it has failed at them, and the server has gone
   pub data HearsComing (old : Relay S) (was : Viewer) (bytes : List ℕ) (used : ℕ) (new : Relay S) : Type 0 where
     Met : (now : Viewer) (fed : Fed ViewerEvent) → TakesBytes was bytes fed now → used ≡ fed.used →
-        Meets old now fed.event new → HearsComing old was bytes used new
+        Meets old now fed.event new → new.server_name.items ≡ named_by fed.event old.server_name.items →
+        HearsComing old was bytes used new
     FailedAt : (now : Viewer) (fault : ViewerFault) → FailsAt was bytes fault now → used ≡ length bytes →
         LosesServer old (OfFault fault) new → HearsComing old was bytes used new
 

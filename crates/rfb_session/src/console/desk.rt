@@ -49,7 +49,7 @@ pub(crate) struct Desk {
 }
 
 impl Desk {
-    ghost use Rattle.std.specs.Prelude.{◌++◌, ◌≤◌, ℕ, [], drop, IfOk};
+    ghost use Rattle.std.specs.Prelude.{◌++◌, ◌≤◌, ℕ, None, [], drop, IfOk, nat_lt};
     ghost use Rattle.rfb_picture.specs.Grid.{uniform};
     ghost use Rattle.rfb_server.specs.Server.{black};
     ghost use Rattle.rfb_server.specs.Strokes.{stroke};
@@ -204,7 +204,9 @@ impl Desk {
     }
 
     /// Whether a newcomer could be told of.
-    pub(crate) fn has_room(&self) -> bool {
+    pub(crate) fn has_room(&self) -> bool
+        ensures { result ≡ nat_lt (length (lines_of self.now)) 65536 }
+    {
         self.lines.len() < LINES_ROOM
     }
 

@@ -1,6 +1,6 @@
 //! What the owner of a console says, done.
 
-ghost use Rattle.std.specs.Prelude.{◌≡◌, ◌⊎◌, ◌≤◌, Some, Bool};
+ghost use Rattle.std.specs.Prelude.{◌≡◌, ◌⊎◌, ◌≤◌, Bool};
 ghost use Rattle.rfb_server.specs.Strokes.{stroke};
 ghost use Rattle.rfb_session.specs.owner.ShareLines.{leave_line};
 ghost use Rattle.rfb_session.specs.console.Viewers.{LetsGo};
@@ -8,8 +8,7 @@ ghost use Rattle.rfb_session.specs.console.Turns.{HoldsAs, ShowsAs};
 ghost use Rattle.rfb_session.specs.declared.console.desk.Hold.TheVariants.{Begins};
 ghost use Rattle.rfb_session.specs.console.Console.{ObeysOrder, ObeysLine, OpensDesk, Draws};
 ghost use Rattle.rfb_session.specs.console.Console.{OnDesk};
-ghost use Rattle.rfb_session.specs.console.Console.{KeepsSide, RunsOut};
-ghost use Rattle.rfb_session.specs.declared.console.Outcome.TheVariants.{Quit};
+ghost use Rattle.rfb_session.specs.console.Console.{KeepsSide, LineEnds, RunsOut};
 
 use crate::console::desk::{Desk, Hold};
 use crate::console::speaker::{Speaker, Why};
@@ -23,8 +22,7 @@ impl<S: Speaker + Drop> Console<S> {
     /// Does what the owner says, or notes why not.
     pub(crate) fn follow(&mut self, order: Order)
         ensures obeys { ObeysOrder self.old order self.new }
-        ensures ends { RunsOut self.old.outcome self.new.outcome
-            ⊎ (self.new.outcome ≡ Some Quit) }
+        ensures ends { LineEnds self.old.outcome self.new.outcome }
         ensures side { KeepsSide self.old self.new }
     {
         self.count = self.count.saturating_add(1);
@@ -37,8 +35,7 @@ impl<S: Speaker + Drop> Console<S> {
     // Does what the owner says, and gives why not, if it can't be done.
     fn obey(&mut self, order: Order) -> Option<Refusal>
         ensures obeys { ObeysOrder self.old order self.new }
-        ensures ends { RunsOut self.old.outcome self.new.outcome
-            ⊎ (self.new.outcome ≡ Some Quit) }
+        ensures ends { LineEnds self.old.outcome self.new.outcome }
         ensures side { KeepsSide self.old self.new }
     {
         match order {
@@ -52,8 +49,7 @@ impl<S: Speaker + Drop> Console<S> {
     fn obey_line(&mut self, line: OwnerLine) -> Option<Refusal>
         ensures obeys { ObeysLine self.old.name.items self.old.rules line
             self.old.desk self.old.outcome self.new.desk self.new.outcome }
-        ensures ends { RunsOut self.old.outcome self.new.outcome
-            ⊎ (self.new.outcome ≡ Some Quit) }
+        ensures ends { LineEnds self.old.outcome self.new.outcome }
         ensures side { KeepsSide self.old self.new }
     {
         match line {

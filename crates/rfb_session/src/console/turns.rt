@@ -4,7 +4,7 @@ ghost use Rattle.std.specs.Prelude.{◌≡◌, ◌<◌, ◌+◌, ◌⊎◌, ℕ,
 ghost use Rattle.rfb_session.specs.console.Console.{TurnsDesk, NamesNext, Stays};
 ghost use Rattle.rfb_session.specs.console.Console.{KeepsSide, KeepsOwner, KeepsButRooms};
 ghost use Rattle.rfb_session.specs.console.Console.{KeepsButNotes, OpensRooms, space_at};
-ghost use Rattle.rfb_session.specs.console.Console.{room_of_owner, room_of_seat, RunsOut, IsIdle};
+ghost use Rattle.rfb_session.specs.console.Console.{room_of_owner, room_of_seat, TurnEnds, IsIdle};
 ghost use Rattle.rfb_session.specs.declared.console.Outcome.TheVariants.{Idle};
 
 use crate::console::desk::turning::Late;
@@ -24,9 +24,7 @@ impl<S: Speaker + Drop> Console<S> {
     /// The desk's turn, at this time.
     pub(crate) fn turn_desk(&mut self, now: u64)
         ensures turns { TurnsDesk self.old now self.new }
-        ensures ends { RunsOut self.old.outcome self.new.outcome
-            ⊎ ((self.old.rules.until_idle ≡ true) × IsIdle self.new.desk
-            × (self.new.outcome ≡ Some Idle)) }
+        ensures ends { TurnEnds self.old self.new }
         ensures next { NamesNext self.new }
         ensures side { KeepsSide self.old self.new }
     {
@@ -69,11 +67,14 @@ impl<S: Speaker + Drop> Console<S> {
         ensures next { self.new.next ≡ self.old.next }
         ensures side { KeepsSide self.old self.new }
     {
+        if !self.rules.until_idle {
+            return;
+        }
         let is_idle = match &self.desk {
             Some(desk) => desk.is_idle(),
             None => false,
         };
-        if self.rules.until_idle && is_idle {
+        if is_idle {
             self.outcome = Some(Outcome::Idle);
         }
     }

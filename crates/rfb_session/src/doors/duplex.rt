@@ -40,7 +40,8 @@ pub struct Counted<S> {
 
 impl<S> Counted<S> {
     ghost use Rattle.rfb_session.specs.declared.doors.device.Answer.TheVariants as Answer;
-    ghost use Rattle.rfb_session.specs.doors.CountedDuplex.{within, failures};
+    ghost use Rattle.std.specs.IoError.{error_kind};
+    ghost use Rattle.rfb_session.specs.doors.CountedDuplex.{within, failures, Counts, Means};
 
     /// Counts from here on.
     pub fn new(inner: S) -> Counted<S>
@@ -56,11 +57,22 @@ impl<S> Counted<S> {
     // It has failed: nothing is read or written any more.
     fn fail(&mut self) -> Answer
         ensures answer { result ≡ Answer.Failed }
-        ensures inner { within self.new ≡ within self.old }
-        ensures failed { self.new.has_failed ≡ true }
+        ensures failed { self.new ≡ record self.old { has_failed = true } }
     {
         self.has_failed = true;
         Answer::Failed
+    }
+
+    // What an error means. A failure is counted.
+    fn answer_to(&mut self, error: &io::Error) -> Answer
+        ensures means { Means (error_kind error.now) result }
+        ensures counts { Counts result self.old self.new }
+    {
+        match error.kind() {
+            ErrorKind::Interrupted => Answer::Again,
+            ErrorKind::WouldBlock => Answer::Waits,
+            _ => self.fail(),
+        }
     }
 
     /// Gives the duplex back.
@@ -89,11 +101,7 @@ impl<S: Duplex> Device for Counted<S> {
         match self.inner.read(buf) {
             Ok(0) => Answer::Ended,
             Ok(count) => Answer::Moved(count),
-            Err(error) => match error.kind() {
-                ErrorKind::Interrupted => Answer::Again,
-                ErrorKind::WouldBlock => Answer::Waits,
-                _ => self.fail(),
-            },
+            Err(error) => self.answer_to(&error),
         }
     }
 
@@ -104,11 +112,7 @@ impl<S: Duplex> Device for Counted<S> {
         match self.inner.write(buf) {
             Ok(0) => self.fail(),
             Ok(count) => Answer::Moved(count),
-            Err(error) => match error.kind() {
-                ErrorKind::Interrupted => Answer::Again,
-                ErrorKind::WouldBlock => Answer::Waits,
-                _ => self.fail(),
-            },
+            Err(error) => self.answer_to(&error),
         }
     }
 }

@@ -1,6 +1,7 @@
 //! A run whose doors open and close.
 
 ghost use Rattle.std.specs.Prelude.{IfSome};
+ghost use Rattle.rfb_session.specs.doors.Arrivals.{AsksFor, LetsIn};
 ghost use Rattle.rfb_session.specs.doors.Lives.{Closes, Lives, Opens, telling};
 ghost use Rattle.rfb_session.specs.doors.Tenants.{HasTenants};
 
@@ -48,7 +49,9 @@ pub fn open<C: Host, D: Device + Drop, A: Arrivals<D>>(
     doors: &mut [Place<D>],
     arrivals: &mut A,
 )
-    ensures { Opens C.opens C.declines A.fresh core.old core.new doors.old doors.new }
+    ensures opens { Opens C.opens C.declines A.fresh core.old core.new doors.old doors.new }
+    ensures lets_in { LetsIn C.calling C.welcoming A.called A.asked C.opens C.declines A.placed
+        core.old core.new arrivals.old arrivals.new }
 {
     let Some(Arrival { device, from }) = next_of(core, arrivals) else {
         return;
@@ -64,7 +67,9 @@ pub fn open<C: Host, D: Device + Drop, A: Arrivals<D>>(
 
 // The device that is to be let in, if there is one.
 fn next_of<C: Host, D, A: Arrivals<D>>(core: &C, arrivals: &mut A) -> Option<Arrival<D>>
-    ensures { IfSome result (λ arrival. A.fresh arrival.device) }
+    ensures fresh { IfSome result (λ arrival. A.fresh arrival.device) }
+    ensures asks { AsksFor (C.calling core.now) (C.welcoming core.now) A.called A.asked
+        arrivals.old result arrivals.new }
 {
     if core.calls() {
         return arrivals.call();

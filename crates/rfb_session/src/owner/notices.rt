@@ -6,6 +6,7 @@ ghost use Rattle.hex.specs.Hex.{encode_lower};
 ghost use Rattle.rfb_session.specs.owner.ShareLines.{event_line, join_line, key_line, leave_line};
 ghost use Rattle.rfb_session.specs.owner.ShareLines.{refusal_line, text_line};
 
+use crate::beginning::beginning_of;
 use crate::engine::{Lent, send};
 use crate::owner::order::Refusal;
 use crate::share::event::SeatEvent;
@@ -82,17 +83,7 @@ pub(crate) fn tell_text_hex<W: Write>(output: &mut W, text: &[u8]) -> io::Result
     ensures { OnOk result (Appends (W.contents output.old) (W.contents output.new)
         (encode_lower (take 1024 text.now))) }
 {
-    tell_hex(output, beginning_of(text))
-}
-
-// As much of a text as is printed.
-fn beginning_of(text: &[u8]) -> &[u8]
-    ensures { result.now ≡ take 1024 text.now }
-{
-    if text.len() <= TOLD_MAX {
-        return text;
-    }
-    &text[..TOLD_MAX]
+    tell_hex(output, beginning_of(text, TOLD_MAX))
 }
 
 // Two hexadecimal digits for each byte.

@@ -6,11 +6,13 @@ ghost use Rattle.rfb_session.specs.console.Console.{KeepsSide};
 ghost use Rattle.rfb_session.specs.relay.Calls.{Queues, is_shown_size};
 ghost use Rattle.rfb_session.specs.relay.Doors.{KeepsButName, KeepsButWaits, KeepsDeskBy};
 ghost use Rattle.rfb_session.specs.relay.Server.{Begins, HearsComing, HearsServer, HearsShown};
-ghost use Rattle.rfb_session.specs.relay.Server.{Heeds, Meets, Stands};
+ghost use Rattle.rfb_session.specs.relay.Server.{Heeds, Meets, Stands, named_by};
 
 use crate::console::{Outcome, Speaker};
+use crate::relay::setup::kept_name;
 use crate::relay::{Gone, NAME_MAX, Relay};
 use crate::slots::seat_in;
+use arrayvec::ArrayVec;
 use rfb_hello::Fed;
 use rfb_picture::Rect;
 use rfb_viewer::{Call, Viewer, ViewerEvent};
@@ -62,6 +64,7 @@ impl<S: Speaker + Drop> Relay<S> {
     fn meet(&mut self, viewer: Viewer, event: Option<ViewerEvent>)
         requires stands { ∥ StandsOrFailed viewer ∥₁ }
         ensures meets { Meets self.old viewer event self.new }
+        ensures name { self.new.server_name.items ≡ named_by event self.old.server_name.items }
         ensures side { KeepsSide self.old.console self.new.console }
         ensures given { self.new.given ≡ self.old.given }
     {
@@ -76,7 +79,7 @@ impl<S: Speaker + Drop> Relay<S> {
                     ..
                 },
             ) => {
-                self.take_name(&name);
+                self.take_name(kept_name(&name));
                 self.begin(viewer, reply.as_slice(), width, height);
             }
             Some(ViewerEvent::UpdateDone) => self.open(viewer),
@@ -89,6 +92,7 @@ impl<S: Speaker + Drop> Relay<S> {
     fn stand(&mut self, viewer: Viewer, bytes: &[u8])
         requires stands { ∥ StandsOrFailed viewer ∥₁ }
         ensures stands { Stands self.old viewer bytes.now self.new }
+        ensures name { self.new.server_name ≡ self.old.server_name }
         ensures side { KeepsSide self.old.console self.new.console }
         ensures given { self.new.given ≡ self.old.given }
     {
@@ -96,20 +100,20 @@ impl<S: Speaker + Drop> Relay<S> {
         seat_in(&mut self.coming, viewer);
     }
 
-    // Keeps the beginning of the server's name.
-    fn take_name(&mut self, name: &[u8])
+    // The server has this name.
+    fn take_name(&mut self, name: ArrayVec<u8, NAME_MAX>)
         ensures keeps { KeepsButName self.old self.new }
+        ensures name { self.new.server_name ≡ name }
         ensures given { self.new.given ≡ self.old.given }
     {
-        self.server_name.clear();
-        let few = name.len().min(NAME_MAX);
-        let _ = self.server_name.try_extend_from_slice(&name[..few]);
+        self.server_name = name;
     }
 
     // Answers, and asks for the first update, of the whole screen.
     fn begin(&mut self, mut viewer: Viewer, reply: &[u8], width: u16, height: u16)
         requires stands { ∥ StandsOrFailed viewer ∥₁ }
         ensures begins { Begins self.old viewer reply.now width height self.new }
+        ensures name { self.new.server_name ≡ self.old.server_name }
         ensures side { KeepsSide self.old.console self.new.console }
         ensures given { self.new.given ≡ self.old.given }
     {

@@ -1,6 +1,9 @@
 //! Who comes to a relay.
 
+ghost use Rattle.std.specs.Prelude.{◌≡◌};
+ghost use Rattle.rfb_session.specs.console.Console.{is_welcome};
 ghost use Rattle.rfb_session.specs.relay.Relay.{DeclinesRelay, OpensRelay};
+ghost use Rattle.rfb_session.specs.relay.Relay.{is_due, is_ended, some_wait};
 
 use crate::console::Speaker;
 use crate::doors::{Core, Host};
@@ -11,6 +14,12 @@ impl<S: Speaker + Drop> Host for Relay<S> {
     ghost opens = { OpensRelay };
 
     ghost declines = { DeclinesRelay };
+
+    ghost welcoming = { λ relay. is_welcome relay.console };
+
+    ghost calling = { is_due };
+
+    ghost done = { is_ended };
 
     fn welcomes(&self) -> bool {
         self.console.welcomes()
@@ -39,12 +48,13 @@ impl<S: Speaker + Drop> Host for Relay<S> {
 
 impl<S: Speaker + Drop> Relay<S> {
     // Whether bytes wait for some viewer.
-    fn do_viewers_wait(&self) -> bool {
+    fn do_viewers_wait(&self) -> bool
+        ensures { result ≡ some_wait 8 self.now.console }
+    {
+        let mut wait = false;
         for place in 0..SLOTS {
-            if !self.console.to_write(place + 1).is_empty() {
-                return true;
-            }
+            wait |= !self.console.to_write(place + 1).is_empty();
         }
-        false
+        wait
     }
 }

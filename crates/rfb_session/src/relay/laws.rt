@@ -1,4 +1,4 @@
-//! What a relay comes to by all that happens to it, with nothing to run. The law is of a relay that
+//! What a relay is after all that happens to it, with nothing to run. The law is of a relay that
 //! goes on, and of what happens last: once all has ended nothing more is sent.
 
 ghost use Rattle.std.specs.Prelude.{◌≡◌, ◌≢◌, ℕ, List, [], Some, None, true, false};

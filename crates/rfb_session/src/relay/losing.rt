@@ -17,6 +17,7 @@ impl<S: Speaker + Drop> Relay<S> {
     /// seats are as they were.
     pub(crate) fn lose_server(&mut self, gone: Gone)
         ensures loses { LosesServer self.old gone self.new }
+        ensures name { self.new.server_name ≡ self.old.server_name }
         ensures side { KeepsSide self.old.console self.new.console }
         ensures given { self.new.given ≡ self.old.given }
     {

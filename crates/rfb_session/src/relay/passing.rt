@@ -1,6 +1,6 @@
 //! What viewers do that is passed on to the server.
 
-ghost use Rattle.std.specs.Prelude.{◌≡◌, ◌≤◌, ◌<◌, ◌||◌, false, not, length, take};
+ghost use Rattle.std.specs.Prelude.{◌≡◌, ◌≤◌, ◌<◌, ◌||◌, false, not, length};
 ghost use Rattle.rfb_viewer.specs.Call.{text_in, message_bytes, is_noted};
 ghost use Rattle.rfb_session.specs.console.Console.{KeepsSide};
 ghost use Rattle.rfb_session.specs.relay.Presence.{is_shown};
@@ -8,14 +8,15 @@ ghost use Rattle.rfb_session.specs.relay.Calls.{Passes, PassesOn, passed};
 ghost use Rattle.rfb_session.specs.relay.Doors.{CountsPassed, KeepsButDesk};
 ghost use Rattle.rfb_session.specs.relay.Relay.{HearsViewer};
 
+use crate::beginning::beginning_of;
 use crate::console::{Outcome, Speaker};
 use crate::relay::Relay;
 use crate::seat::Seat;
 use crate::share::event::SeatEvent;
 use rfb_viewer::{AppendFault, Call};
 
-// How many bytes of a text are sent on at most.
-const TEXT_MOST: usize = 1 << 20;
+/// How many bytes of a text are sent to a server at most.
+pub(crate) const TEXT_MOST: usize = 1 << 20;
 
 impl<S: Speaker + Drop> Relay<S> {
     /// Takes bytes of the viewer of a seat. A key, a pointer or a text is passed on to the server,
@@ -52,7 +53,7 @@ impl<S: Speaker + Drop> Relay<S> {
                 self.pass_call(&Call::Pointer { buttons, x, y });
             }
             Some(SeatEvent::CutText { kept, .. }) => {
-                self.pass_call(&Call::CutText(beginning_of(&kept)));
+                self.pass_call(&Call::CutText(beginning_of(&kept, TEXT_MOST)));
             }
             Some(SeatEvent::Ready { .. }) | None => {}
         }
@@ -88,15 +89,4 @@ impl<S: Speaker + Drop> Relay<S> {
             Err(AppendFault::NoMemory) => self.console.outcome = Some(Outcome::NoMemory),
         }
     }
-}
-
-/// As much of a text as is sent to a server.
-pub(crate) fn beginning_of(text: &[u8]) -> &[u8]
-    ensures value { result.now ≡ take 1048576 text.now }
-    ensures few { length result.now ≤ 1048576 }
-{
-    if text.len() <= TEXT_MOST {
-        return text;
-    }
-    &text[..TEXT_MOST]
 }

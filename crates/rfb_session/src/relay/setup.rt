@@ -1,9 +1,10 @@
 //! What a relay is asked for.
 
-ghost use Rattle.std.specs.Prelude.{◌≡◌, ◌≤◌, [], ℕ, length, cond, is_some, option_copied};
+ghost use Rattle.std.specs.Prelude.{◌≡◌, ◌≤◌, [], ℕ, length, cond, is_some, option_copied, take};
 ghost use Rattle.rfb_viewer.specs.Model.{StandsFor};
 ghost use Rattle.rfb_viewer.specs.Viewer.{first_viewer};
 
+use crate::beginning::beginning_of;
 use crate::console::Rules;
 use crate::link::copy_of;
 use crate::relay::NAME_MAX;
@@ -41,11 +42,8 @@ impl Given {
     pub(crate) fn of(name: Option<&[u8]>, viewer: ViewerSetup) -> Given
         ensures { result.viewer ≡ viewer }
     {
-        let given = name.unwrap_or(&[]);
-        let mut kept = ArrayVec::new();
-        let _ = kept.try_extend_from_slice(&given[..given.len().min(NAME_MAX)]);
         Given {
-            name: kept,
+            name: kept_name(name.unwrap_or(&[])),
             is_named: name.is_some(),
             viewer,
         }
@@ -79,4 +77,13 @@ impl Given {
             setup.text_limit,
         )
     }
+}
+
+/// As much of a name as a session takes.
+pub(crate) fn kept_name(name: &[u8]) -> ArrayVec<u8, NAME_MAX>
+    ensures { result.items ≡ take 255 name.now }
+{
+    let mut kept = ArrayVec::new();
+    let _ = kept.try_extend_from_slice(beginning_of(name, NAME_MAX));
+    kept
 }

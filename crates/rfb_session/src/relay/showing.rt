@@ -20,6 +20,7 @@ impl<S: Speaker + Drop> Relay<S> {
     pub(crate) fn open(&mut self, viewer: Viewer)
         requires stands { ∥ StandsOrFailed viewer ∥₁ }
         ensures opens { Opens self.old viewer self.new }
+        ensures name { self.new.server_name ≡ self.old.server_name }
         ensures side { KeepsSide self.old.console self.new.console }
         ensures given { self.new.given ≡ self.old.given }
     {
@@ -37,6 +38,7 @@ impl<S: Speaker + Drop> Relay<S> {
         requires stands { ∥ StandsOrFailed viewer ∥₁ }
         requires none { self.old.console.desk ≡ None }
         ensures opens { Opens self.old viewer self.new }
+        ensures name { self.new.server_name ≡ self.old.server_name }
         ensures side { KeepsSide self.old.console self.new.console }
         ensures given { self.new.given ≡ self.old.given }
     {
@@ -61,6 +63,7 @@ impl<S: Speaker + Drop> Relay<S> {
         requires stands { ∥ StandsOrFailed viewer ∥₁ }
         requires some { self.old.console.desk ≢ None }
         ensures opens { Opens self.old viewer self.new }
+        ensures name { self.new.server_name ≡ self.old.server_name }
         ensures side { KeepsSide self.old.console self.new.console }
         ensures given { self.new.given ≡ self.old.given }
     {
@@ -75,6 +78,7 @@ impl<S: Speaker + Drop> Relay<S> {
     fn begin_anew(&mut self, share: Share)
         requires some { self.old.console.desk ≢ None }
         ensures opens { OpensAnew self.old share self.new }
+        ensures name { self.new.server_name ≡ self.old.server_name }
         ensures side { KeepsSide self.old.console self.new.console }
         ensures given { self.new.given ≡ self.old.given }
     {
@@ -109,6 +113,7 @@ impl<S: Speaker + Drop> Relay<S> {
     // A server that was called shows its screen: a sentence, and a line.
     fn tell_up(&mut self)
         ensures tells { TellsUp self.old self.new }
+        ensures name { self.new.server_name ≡ self.old.server_name }
         ensures side { KeepsSide self.old.console self.new.console }
         ensures given { self.new.given ≡ self.old.given }
     {

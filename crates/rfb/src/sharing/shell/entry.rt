@@ -23,6 +23,12 @@ where
 {
     ghost fresh = { λ _. ⊤ };
 
+    ghost asked = { λ _ _ _. ⊤ };
+
+    ghost called = { λ _ _ _. ⊤ };
+
+    ghost placed = { λ _ _ _. ⊤ };
+
     /// Accepts one connection, where one may be there.
     fn next(&mut self) -> Option<Arrival<Counted<Tenant<'t, R, W, E, L::Stream>>>> {
         if self.ear != Ear::Ringing {

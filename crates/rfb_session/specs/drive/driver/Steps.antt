@@ -1,5 +1,5 @@
 -- What happens at the doors of a driver.
-use Rattle.std.specs.Prelude.{◌≡◌, ◌≢◌, ◌<◌, ℕ, ◌-◌, ◌==◌, Bool, true, false, ◌||◌, List, []}
+use Rattle.std.specs.Prelude.{◌≡◌, ◌≢◌, ◌<◌, ℕ, ◌-◌, ◌==◌, Bool, true, false, ◌&&◌, ◌||◌, List, []}
 use Rattle.std.specs.Prelude.{Option, Some, None, length, take, drop, is_some, if◌then◌else◌}
 use Rattle.rfb_session.specs.declared.drive.driver.Driver.{Driver}
 use Rattle.rfb_session.specs.declared.drive.driver.Rooms.{Rooms}
@@ -24,6 +24,17 @@ is_lost (Some (How.File number)) = false
 is_lost (Some (How.ServerGone how)) = false
 is_lost (Some How.NoMemory) = false
 is_lost (Some How.Device) = true
+
+-- memory was wanting
+abbrev pub wants_memory : Option DriveOutcome → Bool
+wants_memory None = false
+wants_memory (Some How.Done) = false
+wants_memory (Some (How.BadLine number)) = false
+wants_memory (Some (How.Late number)) = false
+wants_memory (Some (How.File number)) = false
+wants_memory (Some (How.ServerGone how)) = false
+wants_memory (Some How.NoMemory) = true
+wants_memory (Some How.Device) = false
 
 -- so many bytes of a door were taken
 abbrev pub rooms_spent : ℕ → ℕ → Rooms → Rooms
@@ -110,6 +121,16 @@ module _ {R : Type 0} where
     pub mid : Driver R
     pub hears : HearsDoor old door bytes used mid
     pub room : new ≡ spent door used mid
+
+  -- lines and notes that wait have left, or nobody reads them
+  abbrev pub has_told : Driver R → Bool
+  has_told driver =
+      length driver.lines == 0 && (length driver.notes == 0 || driver.are_notes_lost)
+
+  -- all has ended: for want of memory at once, else once what waits has left or its time is over
+  abbrev pub has_ended : Driver R → Bool
+  has_ended driver =
+      is_some driver.outcome && (driver.turns.is_over || wants_memory driver.outcome || has_told driver)
 
   -- nobody is let in
   abbrev pub LetsIn : Driver R → ℕ → List ℕ → Driver R → Type 0

@@ -1,6 +1,6 @@
 //! Doors that open and close.
 
-ghost use Rattle.std.specs.Prelude.{◌≡◌, ⊤, None};
+ghost use Rattle.std.specs.Prelude.{◌≡◌, ⊤, None, false, nat_eq, nat_lt};
 ghost use Rattle.rfb_session.specs.doors.Echo.{Echoes, waiting_at, space_at, closed_at};
 
 use super::devices::{Pipe, Ticks};
@@ -65,6 +65,12 @@ impl Host for House {
 
     ghost declines = { λ old from new. new.echo ≡ old.echo };
 
+    ghost welcoming = { λ house. nat_lt house.given 3 };
+
+    ghost calling = { λ house. nat_eq house.given 1 };
+
+    ghost done = { λ house. false };
+
     fn welcomes(&self) -> bool {
         self.given < 3
     }
@@ -118,6 +124,12 @@ fn arrival<D>(device: D) -> Arrival<D> {
 
 impl<'a> Arrivals<Counted<Pipe<'a>>> for Street<'a> {
     ghost fresh = { λ d. ⊤ };
+
+    ghost asked = { λ old came new. ⊤ };
+
+    ghost called = { λ old came new. ⊤ };
+
+    ghost placed = { λ old door new. ⊤ };
 
     fn next(&mut self) -> Option<Arrival<Counted<Pipe<'a>>>> {
         Some(arrival(self.first_of_all()?))

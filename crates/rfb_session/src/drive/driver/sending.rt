@@ -8,11 +8,12 @@ ghost use Rattle.rfb_session.specs.drive.driver.Acts.{OfKey, OfPointer, OfText, 
 ghost use Rattle.rfb_session.specs.drive.driver.Acts.{clicks, pasted, place_named, pressed};
 ghost use Rattle.rfb_session.specs.drive.driver.Acts.{spelled, turning};
 
+use crate::beginning::beginning_of;
 use crate::drive::drive_line::DriveLine;
 use crate::drive::key_event::KeyEvent;
 use crate::drive::typing::type_text;
 use crate::drive::words::{Place, Press, Way};
-use crate::relay::beginning_of;
+use crate::relay::TEXT_MOST;
 use hex::FromHexError;
 use rfb_wire::ClientHead;
 use std::alloc::{AllocError, Global};
@@ -141,7 +142,7 @@ fn spell_pasted(alloc: Global, digits: &[u8], out: &mut Vec<u8>) -> Result<(), A
         ≡ out.old.items ++ spelled (OfText (pasted digits.now) ∷ [])) }
 {
     match hex::decode(alloc, digits) {
-        Ok(text) => spell_text(beginning_of(text.as_slice()), out),
+        Ok(text) => spell_text(beginning_of(text.as_slice(), TEXT_MOST), out),
         Err(FromHexError::OutOfMemory) => Err(AllocError),
         Err(_) => spell_text(&[], out),
     }

@@ -7,7 +7,7 @@ loop-turn-init g c = Still
 
 pub loop-turn-preserved : goal.loop-turn-preserved
 loop-turn-preserved g c =
-    Then c.loop-turn.invariant c.open.ensures c.turn-next.ensures.turns c.close.ensures
+    Then c.loop-turn.invariant c.open.ensures.opens c.turn-next.ensures.turns c.close.ensures
 
 pub returns-then-is_done-clause-tenants : goal.returns-then-is_done-clause-tenants
 returns-then-is_done-clause-tenants g c =

@@ -14,7 +14,7 @@ returns-in-Ok-clause-hears g c =
     let e = c.in-Ok.ensures in
     Met c.feed.new.self c.in-Ok.field-0
     (takes c.args.viewer c.feed.new.self c.args.bytes.now (Ok c.in-Ok.field-0) e.used e.all e.some e.fed e.damage
-    e.moved e.taken e.made) refl c.meet.ensures.meets
+    e.moved e.taken e.made) refl c.meet.ensures.meets c.meet.ensures.name
 
 pub returns-in-Err-clause-hears : goal.returns-in-Err-clause-hears
 returns-in-Err-clause-hears g c =

@@ -21,6 +21,7 @@ returns-clause-steps g c =
         keeps = first.keeps;
         mid = c.turn_desk.new.self;
         turns = turns.turns;
+        ends = turns.ends;
         stays = turns.side.stays;
         asks = rw (
           ← first.keeps.server.presence,
