@@ -58,6 +58,8 @@ pub struct Shell<'a, L, C> {
     // What is worth a read, and what a write.
     reads: Ready,
     writes: Ready,
+    // Which connections were reported to have ended, or to have failed.
+    ending: Ready,
     // Standard input, where it is read.
     input: Option<Blocking>,
     // Whom to call, where anybody.
@@ -117,6 +119,7 @@ impl<'a, L: AsRawFd + Drop, C: Net + Clock> Shell<'a, L, C> {
             events: Events::with_capacity(alloc, SOURCES)?,
             reads,
             writes,
+            ending: Ready::none(),
             input,
             callee: front.callee,
             output,

@@ -16,7 +16,8 @@ pub enum Pause {
 }
 
 /// The time, and which doors are ready: what a loop learns from the system. A door stays ready
-/// until it answers that it waits, has ended or has failed.
+/// until it answers that it waits, has ended or has failed; or gives less than it may, where that
+/// says that no more has come.
 pub trait Clock {
     // Whether a door is worth a read.
     ghost readable: { Self → ℕ → Bool };
@@ -39,8 +40,8 @@ pub trait Clock {
     fn writes(&self, door: usize) -> bool
         ensures { result ≡ writable self.now door };
 
-    /// A door was tried for a read, with this answer.
-    fn heard(&mut self, door: usize, answer: Answer);
+    /// A door was tried for a read of so many bytes at most, with this answer.
+    fn heard(&mut self, door: usize, answer: Answer, most: usize);
 
     /// A door was tried for a write, with this answer.
     fn told(&mut self, door: usize, answer: Answer);

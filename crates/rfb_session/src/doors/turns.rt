@@ -71,8 +71,9 @@ fn hear_at<C: Core, D: Device, K: Clock>(
         core.old core.new doors.old doors.new }
 {
     if clock.reads(door) {
+        let most = core.room(door).min(part.len());
         let answer = hear(core, &mut doors[door], door, part);
-        clock.heard(door, answer);
+        clock.heard(door, answer, most);
     }
 }
 

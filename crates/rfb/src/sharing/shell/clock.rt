@@ -39,8 +39,12 @@ impl<L: Drop, C: time::Clock> Clock for Shell<'_, L, C> {
                 self.ear = Ear::Ringing;
             } else {
                 // A connection that is closed is ready for both.
-                self.reads.note(event.token().0, true);
-                self.writes.note(event.token().0, true);
+                let door = event.token().0;
+                self.reads.note(door, true);
+                self.writes.note(door, true);
+                if event.is_read_closed() || event.is_error() {
+                    self.ending.note(door, true);
+                }
             }
         }
         true
@@ -54,12 +58,14 @@ impl<L: Drop, C: time::Clock> Clock for Shell<'_, L, C> {
         self.writes.has(door)
     }
 
-    /// Of standard input one read waits for nothing, and a second one may.
-    fn heard(&mut self, door: usize, answer: Answer) {
+    /// Of standard input one read waits for nothing, and a second one may. A connection that gave
+    /// less than it may has nothing more: what comes later is reported anew, but for an end that
+    /// was reported with it.
+    fn heard(&mut self, door: usize, answer: Answer, most: usize) {
         if answer != Answer::Again {
             let has_come = self.stir(answer);
             self.note_answered(door, has_come);
-            let goes_on = has_come && self.may_read_on(door);
+            let goes_on = has_come && self.may_read_on(door, answer, most);
             self.reads.note(door, goes_on);
         }
     }
@@ -118,10 +124,10 @@ impl<L: Drop, C: time::Clock> Shell<'_, L, C> {
     }
 
     // Whether a door that was read can be read again without waiting.
-    fn may_read_on(&self, door: usize) -> bool {
+    fn may_read_on(&self, door: usize, answer: Answer, most: usize) -> bool {
         match &self.input {
             Some(input) if door == input.door() => input.is_ready_again(self.poll.registry()),
-            _ => true,
+            _ => answer == Answer::Moved(most) || self.ending.has(door),
         }
     }
 

@@ -84,6 +84,7 @@ where
         }
         self.reads.note(door, true);
         self.writes.note(door, true);
+        self.ending.note(door, false);
     }
 }
 

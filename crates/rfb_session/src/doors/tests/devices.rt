@@ -102,7 +102,7 @@ impl Clock for Ticks {
         self.is_ready
     }
 
-    fn heard(&mut self, _door: usize, _answer: Answer) {}
+    fn heard(&mut self, _door: usize, _answer: Answer, _most: usize) {}
 
     fn told(&mut self, _door: usize, answer: Answer) {
         if let Answer::Moved(left) = answer {

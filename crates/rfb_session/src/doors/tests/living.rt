@@ -168,8 +168,8 @@ impl Clock for Street<'_> {
         self.ticks.writes(door)
     }
 
-    fn heard(&mut self, door: usize, answer: Answer) {
-        self.ticks.heard(door, answer);
+    fn heard(&mut self, door: usize, answer: Answer, most: usize) {
+        self.ticks.heard(door, answer, most);
     }
 
     fn told(&mut self, door: usize, answer: Answer) {
