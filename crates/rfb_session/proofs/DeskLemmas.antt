@@ -71,6 +71,7 @@ both_stay a b c shown before shows after = (
       rules = after.rules.rules ∙ before.rules.rules;
       hold = after.rules.hold ∙ before.rules.hold;
       first = after.rules.first ∙ before.rules.first;
+      large = after.rules.large ∙ before.rules.large;
     };
   },
 )
@@ -118,6 +119,7 @@ tells_of_is old mid told new k heard parts tells counts = record {
     rules = counts.rules.rules ∙ tells.rules.rules ∙ parts.forgets.rules.rules;
     hold = counts.rules.hold ∙ tells.rules.hold ∙ parts.forgets.rules.hold;
     first = counts.rules.first ∙ tells.rules.first ∙ parts.forgets.rules.first;
+    large = counts.rules.large ∙ tells.rules.large ∙ parts.forgets.rules.large;
   };
 }
 
@@ -181,6 +183,7 @@ module _ (old mid heard_by new : Desk) (k : ℕ) (bytes : List ℕ) (stirs : Sti
         rules = tells.rules.rules ∙ made;
         hold = tells.rules.hold ∙ rules.hold ∙ stirs.rules.hold;
         first = tells.rules.first ∙ rules.first ∙ stirs.rules.first;
+        large = tells.rules.large ∙ rules.large ∙ stirs.rules.large;
       })
 
   pub hears_not : (fault : ShareFault) (ended : ℕ) (told : Bool) →
@@ -210,6 +213,7 @@ module _ (old mid heard_by new : Desk) (k : ℕ) (bytes : List ℕ) (stirs : Sti
         rules = fails.rules.rules ∙ rules.rules ∙ stirs.rules.rules;
         hold = fails.rules.hold ∙ rules.hold ∙ stirs.rules.hold;
         first = fails.rules.first ∙ rules.first ∙ stirs.rules.first;
+        large = fails.rules.large ∙ rules.large ∙ stirs.rules.large;
       })
     where
       failed_so : (over : Bool) (p : Progress) → cond (not over) Failing p ≡ cond over p Failing

@@ -2,7 +2,7 @@
 use Rattle.std.proofs.Common.{◌≡◌, ◌<◌, ◌≤◌, ◌+◌, ◌∙◌, ◌||◌, ◌&&◌, ◌⊎◌, ℕ}
 use Rattle.std.proofs.Common.{suc, Bool, true, false, not, List, []}
 use Rattle.std.proofs.Common.{Option, Some, None, refl}
-use Rattle.std.proofs.lemmas.Bool.{both_ways}
+use Rattle.std.proofs.lemmas.Bool.{both_ways, false≢true}
 use Rattle.std.proofs.Common.{sym, ap, subst, arith, inl, inr, length, nat_eq}
 use Rattle.std.proofs.lemmas.Bool.Decides.{eqb_tells, leb_tells}
 use Rattle.rfb_session.specs.declared.console.desk.Desk.{Desk}
@@ -12,7 +12,7 @@ use Rattle.rfb_session.specs.Share.{seat_in, screen_of, waiting_for}
 use Rattle.rfb_session.specs.ShareSteps.{KeepsScreen}
 use Rattle.rfb_session.specs.ShareWork.{RestsIn}
 use Rattle.rfb_session.specs.console.Turns.{Serves, ServesUnless, ComposesOne, RoundUpTo, ComposesRound, IsLarge}
-use Rattle.rfb_session.specs.console.Turns.{KeepsBeside, TriesOne, Tried, Rested}
+use Rattle.rfb_session.specs.console.Turns.{KeepsBeside, OrPutOff, TriesOne, Tried, Rested}
 use Rattle.rfb_pixel.specs.declared.colour.Colour.{Colour}
 use Rattle.rfb_picture.specs.Grid.{Grid}
 use Rattle.rfb_picture.specs.Places.{has_bit}
@@ -62,9 +62,25 @@ differs k n other = elim (eqb_tells k n) [
   | inr not_same ↦ not_same.0
 ]
 
+-- what is done where nobody is put off is done where somebody may be
+pub not_put_off : (busy : Bool) (Does : Type 0) (old new : Option ShareSeat) → Does → OrPutOff busy Does old new
+not_put_off false Does old new does = does
+not_put_off true Does old new does = inr does
+
+put_off : (busy : Bool) (Does : Type 0) (old new : Option ShareSeat) → busy ≡ true → new ≡ old →
+    OrPutOff busy Does old new
+put_off true Does old new is same = inl same
+put_off false Does old new is same = absurd (false≢true is)
+
+put_off_more : (busy : Bool) (Does More : Type 0) (old new : Option ShareSeat) → (Does → More) →
+    OrPutOff busy Does old new → OrPutOff busy More old new
+put_off_more false Does More old new more does = more does
+put_off_more true Does More old new more (inl same) = inl same
+put_off_more true Does More old new more (inr does) = inr (more does)
+
 -- before the first seat
-pub round_start : (old : Desk) (due : ℕ) → RoundUpTo 0 old due due false old
-round_start old due = record {
+pub round_start : (busy : Bool) (old : Desk) (due : ℕ) → RoundUpTo 0 busy old due due false old
+round_start busy old due = record {
   seats = λ k low none. absurd (omega (arith, none));
   small = λ k low none. absurd (omega (arith, none));
   gone = λ k low none. absurd (omega (arith, none));
@@ -75,15 +91,16 @@ round_start old due = record {
   beside = record {
     guests = λ k. refl;
     lines = refl;
-    rules = record { rules = refl; hold = refl; first = refl };
+    rules = record { rules = refl; hold = refl; first = refl; large = refl };
   };
 }
 
 -- one seat more, which is tried where it was left
-module _ {step p due left others given : ℕ} (less : ℕ) {old mid new : Desk} {wants more tries : Bool}
+module _ {step p due left others given : ℕ} (less : ℕ) (busy : Bool) {old mid new : Desk} {wants more tries : Bool}
     (within : step < 8) (is : p ≡ seat_after old.first step)
-    (rests : (k : ℕ) → has_bit due k ≡ false → RestsIn (screen_of old.share) (seat_in old.share k))
-    (before : RoundUpTo step old due left wants mid)
+    (rests : (k : ℕ) → has_bit due k ≡ false →
+    (busy ≡ true) ⊎ RestsIn (screen_of old.share) (seat_in old.share k))
+    (before : RoundUpTo step busy old due left wants mid)
     (tried : tries ≡ has_bit left p) (composed : ComposesOne mid p tries more others given new)
     (others_are : (k : ℕ) → k < 8 → has_bit others k ≡ (has_bit left k && not (nat_eq k p)))
     (less_are : (k : ℕ) → k < 8 → has_bit less k ≡ (has_bit others k && not (has_bit given k))) where
@@ -127,40 +144,49 @@ module _ {step p due left others given : ℕ} (less : ℕ) {old mid new : Desk} 
       by true e = absurd (both_ways (has_bit left k) gone (was_left k low e))
       by false e = e
 
+  -- a seat is served, or put off
+  abbrev IsServed : (a b : Option ShareSeat) → Type 0
+  IsServed a b = OrPutOff busy (Serves (screen_of old.share) (wants || more) a b) a b
+
   -- the seat itself
   mine : (b : Bool) → has_bit left p ≡ b → (d : Bool) → has_bit due p ≡ d →
-      Serves (screen_of old.share) (wants || more) (seat_in old.share p) (seat_in new.share p)
+      IsServed (seat_in old.share p) (seat_in new.share p)
   mine true e d f =
       let same = before.later p here (omega (arith, place)) (inr e) in
-      serves_one (screen_of old.share) (has_bit left p) more (wants || more) (seat_in old.share p) (seat_in new.share p)
+      not_put_off busy _ _ _ (serves_one (screen_of old.share) (has_bit left p) more (wants || more)
+      (seat_in old.share p) (seat_in new.share p)
       (λ clear. absurd (both_ways (has_bit left p) clear e)) (or_second wants more)
-      (rw (sym before.screen.screen, sym same) one.seat)
+      (rw (sym before.screen.screen, sym same) one.seat))
   mine false e true f =
       let given_before = before.given_to p here (omega (arith, place)) f e in
       let still : seat_in new.share p ≡ seat_in mid.share p =
       subst (λ (b : Bool). TriesOne (screen_of mid.share) b more (seat_in mid.share p)
       (seat_in new.share p)) e one.seat in
-      Tried Composed (subst
+      not_put_off busy _ _ _ (Tried Composed (subst
       (λ (s : Option ShareSeat). ComposesIn (screen_of old.share) Composed (seat_in old.share p) s)
-      (sym still) given_before.sent)
+      (sym still) given_before.sent))
   mine false e false f =
       let same = before.later p here (omega (arith, place)) (inl f) in
       let still : seat_in new.share p ≡ seat_in mid.share p =
       subst (λ (b : Bool). TriesOne (screen_of mid.share) b more (seat_in mid.share p)
       (seat_in new.share p)) e one.seat in
-      Rested (rests p f) (still ∙ same)
+      elim (rests p f) [
+        | inl others_leave ↦ put_off busy _ _ _ others_leave (still ∙ same)
+        | inr rested ↦ not_put_off busy _ _ _ (Rested rested (still ∙ same))
+      ]
 
   served : (k : ℕ) → k < 8 → seats_before old.first k < step + 1 →
-      Serves (screen_of old.share) (wants || more) (seat_in old.share k) (seat_in new.share k)
+      IsServed (seat_in old.share k) (seat_in new.share k)
   served k low less_than = elim (eqb_tells k p) [
     | inl same ↦
-        subst (λ (m : ℕ). Serves (screen_of old.share) (wants || more) (seat_in old.share m) (seat_in new.share m))
+        subst (λ (m : ℕ). IsServed (seat_in old.share m) (seat_in new.share m))
         (sym same.1) (mine (has_bit left p) refl (has_bit due p) refl)
     | inr other ↦
         let early = sooner k low less_than other.1 in
-        subst (λ (s : Option ShareSeat). Serves (screen_of old.share) (wants || more) (seat_in old.share k) s)
+        subst (λ (s : Option ShareSeat). IsServed (seat_in old.share k) s)
         (sym (one.seats k other.0 (not_given k low (before.gone k low early))))
-        (serves_more (screen_of old.share) wants (wants || more) _ _ (or_first wants more) (before.seats k low early))
+        (put_off_more busy _ _ _ _ (serves_more (screen_of old.share) wants (wants || more) _ _ (or_first wants more))
+        (before.seats k low early))
   ]
 
   gone_so : (k : ℕ) → k < 8 → seats_before old.first k < step + 1 → has_bit less k ≡ false
@@ -296,7 +322,7 @@ module _ {step p due left others given : ℕ} (less : ℕ) {old mid new : Desk} 
   still = both_stay old mid new before.screen before.beside one.screen one.beside
 
   pub round_next : (IsLarge (seat_in mid.share p) (seat_in new.share p) → ⊥) →
-      RoundUpTo (step + 1) old due less (wants || more) new
+      RoundUpTo (step + 1) busy old due less (wants || more) new
   round_next is_small = record {
     seats = served;
     small = λ k low less_than large. elim (eqb_tells k p) [
@@ -319,16 +345,16 @@ module _ {step p due left others given : ℕ} (less : ℕ) {old mid new : Desk} 
   }
 
   pub round_ends : IsLarge (seat_in mid.share p) (seat_in new.share p) →
-      ComposesRound old (wants || more) (Some p) new
+      ComposesRound old busy (wants || more) (Some p) new
   round_ends is_large = record {
-    seats = λ k low. elim (leb_tells (suc (seats_before old.first p)) (seats_before old.first k)) [
-      | inl far ↦
-          subst (λ (b : Bool). ServesUnless b (screen_of old.share) (wants || more) (seat_in old.share k)
-          (seat_in new.share k)) (sym far.0) (later_serves k low (omega (arith, far.1, place)))
-      | inr reached ↦
-          subst (λ (b : Bool). ServesUnless b (screen_of old.share) (wants || more) (seat_in old.share k)
-          (seat_in new.share k)) (sym reached.0) (served k low (omega (arith, reached.1, place)))
-    ];
+    seats = λ k low.
+        let Served : Bool → Type 0 = λ (b : Bool). OrPutOff busy (ServesUnless b (screen_of old.share) (wants || more)
+        (seat_in old.share k) (seat_in new.share k)) (seat_in old.share k) (seat_in new.share k) in
+        elim (leb_tells (suc (seats_before old.first p)) (seats_before old.first k)) [
+          | inl far ↦
+              subst Served (sym far.0) (not_put_off busy _ _ _ (later_serves k low (omega (arith, far.1, place))))
+          | inr reached ↦ subst Served (sym reached.0) (served k low (omega (arith, reached.1, place)))
+        ];
     ends = (here, mine_large is_large);
     only = λ k low large. elim (eqb_tells k p) [
       | inl same ↦ ap (λ (n : ℕ). waiting_for (seat_in new.share n)) same.1
@@ -342,9 +368,9 @@ module _ {step p due left others given : ℕ} (less : ℕ) {old mid new : Desk} 
   }
 
 -- no update was a large one
-pub round_done : (old : Desk) (due left : ℕ) (wants : Bool) (new : Desk) → RoundUpTo 8 old due left wants new →
-    ComposesRound old wants None new
-round_done old due left wants new all = record {
+pub round_done : (busy : Bool) (old : Desk) (due left : ℕ) (wants : Bool) (new : Desk) →
+    RoundUpTo 8 busy old due left wants new → ComposesRound old busy wants None new
+round_done busy old due left wants new all = record {
   seats = λ k low. all.seats k low (before_below old.first k old.first_of_eight low);
   ends = tt;
   only = λ k low large.
@@ -352,3 +378,38 @@ round_done old due left wants new all = record {
   screen = all.screen;
   beside = all.beside;
 }
+
+-- nobody is left
+pub round_rests : (busy : Bool) (old : Desk) (due left step : ℕ) (wants : Bool) (new : Desk) →
+    ((k : ℕ) → has_bit due k ≡ false → (busy ≡ true) ⊎ RestsIn (screen_of old.share) (seat_in old.share k)) →
+    RoundUpTo step busy old due left wants new → ((k : ℕ) → has_bit left k ≡ false) →
+    ComposesRound old busy wants None new
+round_rests busy old due left step wants new rests all none = record {
+  seats = λ k low. elim (leb_tells step (seats_before old.first k)) [
+    | inl far ↦ later k low (omega (arith, far.1)) (has_bit due k) refl
+    | inr near ↦ all.seats k low (omega (arith, near.1))
+  ];
+  ends = tt;
+  only = λ k low large. elim (leb_tells step (seats_before old.first k)) [
+    | inl far ↦ absurd (none_large k low (omega (arith, far.1)) (has_bit due k) refl large)
+    | inr near ↦ absurd (all.small k low (omega (arith, near.1)) large)
+  ];
+  screen = all.screen;
+  beside = all.beside;
+}
+  where
+    later : (k : ℕ) → k < 8 → step ≤ seats_before old.first k → (d : Bool) → has_bit due k ≡ d →
+        OrPutOff busy (Serves (screen_of old.share) wants (seat_in old.share k) (seat_in new.share k))
+        (seat_in old.share k) (seat_in new.share k)
+    later k low far true is = not_put_off busy _ _ _ (Tried Composed (all.given_to k low far is (none k)).sent)
+    later k low far false is =
+        let same = all.later k low far (inl is) in
+        elim (rests k is) [
+          | inl others_leave ↦ put_off busy _ _ _ others_leave same
+          | inr rested ↦ not_put_off busy _ _ _ (Rested rested same)
+        ]
+
+    none_large : (k : ℕ) → k < 8 → step ≤ seats_before old.first k → (d : Bool) → has_bit due k ≡ d →
+        IsLarge (seat_in old.share k) (seat_in new.share k) → ⊥
+    none_large k low far true is large = (all.given_to k low far is (none k)).small large
+    none_large k low far false is large = not_large _ _ (all.later k low far (inl is)) large

@@ -31,7 +31,7 @@ shares_start old due = record {
   beside = record {
     guests = λ k. refl;
     lines = refl;
-    rules = record { rules = refl; hold = refl; first = refl };
+    rules = record { rules = refl; hold = refl; first = refl; large = refl };
   };
 }
 

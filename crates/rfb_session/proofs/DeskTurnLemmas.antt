@@ -2,7 +2,7 @@
 use Rattle.std.proofs.Common.{◌≡◌, ◌<◌, ◌++◌, ◌∙◌, ◌||◌, ◌&&◌, ℕ, zero, suc, Bool, true}
 use Rattle.std.proofs.Common.{false, not, List, [], Option}
 use Rattle.std.proofs.Common.{Some, None}
-use Rattle.std.proofs.Common.{refl, sym, ap, subst, arith, cond, inl}
+use Rattle.std.proofs.Common.{refl, sym, ap, subst, arith, cond, inl, length}
 use Rattle.rfb_picture.specs.Places.{has_bit}
 use Rattle.rfb_session.specs.declared.console.desk.Desk.{Desk}
 use Rattle.rfb_session.specs.declared.console.desk.Hold.{Hold}
@@ -20,7 +20,8 @@ use Rattle.rfb_session.specs.console.Time.{stamped, is_slow, is_stuck, waits_for
 use Rattle.rfb_session.specs.console.Viewers.{LetsAllGo}
 use Rattle.rfb_session.specs.console.Turns.{ReleasesAll, StampsAll, Stills, ComposesRound, KeepsBeside, GoesRound}
 use Rattle.rfb_session.specs.console.Turns.{Wakes, ServesUnless, EndsLarge, OnlyLarge, IsLarge, hold_after, holds_at}
-use Rattle.rfb_session.proofs.DeskRoundLemmas.{not_large}
+use Rattle.rfb_session.specs.console.Turns.{IsBusy, OrPutOff, large_after}
+use Rattle.rfb_session.proofs.DeskRoundLemmas.{not_large, not_put_off}
 use Rattle.rfb_session.specs.console.Turns.{TurnsAs, seat_kept, guest_then, is_late, tells_late, seat_left}
 
 leave_lines_below : (f g : ℕ → Bool) (n : ℕ) → ((k : ℕ) → k < n → f k ≡ g k) →
@@ -106,20 +107,37 @@ module _ (old released begins stays shows : Desk) (now slow stuck late : ℕ) (h
   hold_then = stills.hold ∙ ap (λ (r : Rules). hold_after r.hold now stays.hold) rules_stay
       ∙ ap (λ (h : Hold). hold_after old.rules.hold now h) hold_stays
 
+  large_shown : shows.large ≡ old.large
+  large_shown = stills.large ∙ goes.forgets.rules.large ∙ stamps.rules.large ∙ releases.rules.large
+
+  busy_shown : IsBusy shows.large now (seat_in shows.share) → IsBusy old.large now (seat_left old now)
+  busy_shown busy = record {
+    since = busy.since;
+    began = sym large_shown ∙ busy.began;
+    fresh = busy.fresh;
+    seat = busy.seat;
+    within = busy.within;
+    waits = subst (λ (s : Option ShareSeat). 65536 < length (waiting_for s)) (seat_shown busy.seat busy.within)
+        busy.waits;
+  }
+
   first_shown : shows.first ≡ old.first
   first_shown = stills.first ∙ goes.forgets.rules.first ∙ stamps.rules.first ∙ releases.rules.first
 
   -- and then they are, or they are held back
-  pub turns_so : (composed rounds new : Desk) (wants : Bool) (last : Option ℕ) →
-      (held ≡ true → composed ≡ shows) →
-      (held ≡ true → last ≡ None) → (held ≡ false → ComposesRound shows wants last composed) →
-      GoesRound composed last rounds → new.share ≡ rounds.share → KeepsBeside rounds new →
-      Wakes new now wants last new.next → TurnsAs old now slow stuck new
-  turns_so composed rounds new wants last kept none composes round share beside wakes = by held refl
+  pub turns_so : (composed rounds new : Desk) (busy wants : Bool) (last : Option ℕ) →
+      (busy ≡ true → IsBusy shows.large now (seat_in shows.share)) → (held ≡ true → composed ≡ shows) →
+      (held ≡ true → last ≡ None) → (held ≡ false → ComposesRound shows busy wants last composed) →
+      GoesRound composed now last rounds → new.share ≡ rounds.share → KeepsBeside rounds new →
+      Wakes new now busy wants last new.next → TurnsAs old now slow stuck new
+  turns_so composed rounds new busy wants last busy_is kept none composes round share beside wakes = by held refl
     where
+      Served : Bool → ℕ → Option ShareSeat → Type 0
+      Served h k seat = OrPutOff busy (ServesUnless (h || is_left old.first last k) (screen_of old.share) wants
+          (seat_left old now k) seat) (seat_left old now k) seat
+
       turns : KeepsBeside shows composed → KeepsScreen shows.share composed.share →
-          ((k : ℕ) → k < 8 → ServesUnless (held || is_left old.first last k) (screen_of old.share) wants
-          (seat_left old now k) (seat_in composed.share k)) →
+          ((k : ℕ) → k < 8 → Served held k (seat_in composed.share k)) →
           EndsLarge last (seat_left old now) (seat_in composed.share) →
           OnlyLarge last (seat_left old now) (seat_in composed.share) → TurnsAs old now slow stuck new
       turns aside screen seats ends only =
@@ -132,14 +150,17 @@ module _ (old released begins stays shows : Desk) (now slow stuck late : ℕ) (h
             held = held;
             held_is = held_then;
             hold = beside.rules.hold ∙ round.hold ∙ aside.rules.hold ∙ hold_then;
+            busy = busy;
+            busy_is = λ is. busy_shown (busy_is is);
             wants = wants;
             last = last;
-            seats = λ k within. subst (λ (s : Share). ServesUnless (held || is_left old.first last k)
-                (screen_of old.share) wants (seat_left old now k) (seat_in s k)) (sym same) (seats k within);
+            seats = λ k within. subst (λ (s : Share). Served held k (seat_in s k)) (sym same) (seats k within);
             ends = subst (λ (s : Share). EndsLarge last (seat_left old now) (seat_in s)) (sym same) ends;
             only = subst (λ (s : Share). OnlyLarge last (seat_left old now) (seat_in s)) (sym same) only;
             first = beside.rules.first ∙ round.first
                 ∙ ap (λ (n : ℕ). first_after n last) (aside.rules.first ∙ first_shown);
+            large = beside.rules.large ∙ round.large
+                ∙ ap (λ (o : Option ℕ). large_after now last o) (aside.rules.large ∙ large_shown);
             screen = record {
               screen = ap (λ (s : Share). screen_of s) same ∙ screen.screen ∙ screen_shown.screen;
               canvas = ap (λ (s : Share). canvas_of s) same ∙ screen.canvas ∙ screen_shown.canvas;
@@ -154,7 +175,7 @@ module _ (old released begins stays shows : Desk) (now slow stuck late : ℕ) (h
       same_beside = record {
         guests = λ k. refl;
         lines = refl;
-        rules = record { rules = refl; hold = refl; first = refl };
+        rules = record { rules = refl; hold = refl; first = refl; large = refl };
       }
 
       ends_so : (o : Option ℕ) → EndsLarge o (seat_in shows.share) (seat_in composed.share) →
@@ -173,15 +194,14 @@ module _ (old released begins stays shows : Desk) (now slow stuck late : ℕ) (h
           turns (subst (λ (d : Desk). KeepsBeside shows d) (sym same) same_beside)
           (subst (λ (d : Desk). KeepsScreen shows.share d.share) (sym same)
           (record { screen = refl; canvas = refl; viewer = refl; made = refl }))
-          (λ k within. subst (λ (h : Bool). ServesUnless (h || is_left old.first last k) (screen_of old.share) wants
-          (seat_left old now k) (seat_in composed.share k)) (sym is) (inl (stays k within)))
+          (λ k within. subst (λ (h : Bool). Served h k (seat_in composed.share k)) (sym is)
+          (not_put_off busy _ _ _ (inl (stays k within))))
           (subst (λ (o : Option ℕ). EndsLarge o (seat_left old now) (seat_in composed.share)) (sym (none is)) tt)
           (λ k within large. absurd (not_large _ _ (stays k within) large))
       by false is =
           let all = composes is in
           turns all.beside all.screen
-          (λ k within. subst (λ (h : Bool). ServesUnless (h || is_left old.first last k) (screen_of old.share) wants
-          (seat_left old now k) (seat_in composed.share k)) (sym is)
+          (λ k within. subst (λ (h : Bool). Served h k (seat_in composed.share k)) (sym is)
           (rw (sym first_shown, sym screen_shown.screen, sym (seat_shown k within)) (all.seats k within)))
           (ends_so last all.ends)
           (λ k within large. all.only k within

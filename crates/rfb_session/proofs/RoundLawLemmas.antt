@@ -1,5 +1,5 @@
 -- What comes of the seats that a turn leaves: they come first in the next one.
-use Rattle.std.proofs.Common.{◌≡◌, ◌⊎◌, ◌<◌, ◌+◌, ◌||◌, ℕ, Bool, true, false, []}
+use Rattle.std.proofs.Common.{◌≡◌, ◌⊎◌, ◌<◌, ◌≤◌, ◌+◌, ◌||◌, ℕ, Bool, true, false, []}
 use Rattle.std.proofs.Common.{Option, Some, None, refl, ap, sym, ◌∙◌, subst, arith, inl, inr}
 use Rattle.std.proofs.lemmas.Bool.{false≢true}
 use Rattle.rfb_server.specs.Model.{session_fault}
@@ -11,7 +11,8 @@ use Rattle.rfb_session.specs.Share.{seat_in, screen_of, waits_at}
 use Rattle.rfb_session.specs.ShareSlots.{ComposesIn}
 use Rattle.rfb_session.specs.ShareSeats.{Sends, session_at, waiting_in}
 use Rattle.rfb_session.specs.console.Turns.{TurnsAs, EndsLarge, IsLarge, ServesUnless, WakesAfter, seat_left}
-use Rattle.rfb_session.specs.console.Turns.{IsLeftOut, IsLeftFor, NotYet, Again, HasOfLast}
+use Rattle.rfb_session.specs.console.Time.{begun}
+use Rattle.rfb_session.specs.console.Turns.{IsLeftOut, IsLeftFor, IsPutOff, NotYet, Again, HasOfLast, OrPutOff}
 use Rattle.rfb_session.specs.declared.share.event.Composing.TheVariants.{Composed}
 use Rattle.rfb_session.proofs.ShareLawLemmas.{composes_at}
 use Rattle.rfb_session.proofs.RoundLemmas.{before_below, left_comes, served_comes, next_before, next_after}
@@ -76,30 +77,63 @@ module _ (old : Desk) (now slow stuck : ℕ) (new : Desk) (turns : TurnsAs old n
   or_true false b is = is
 
   -- it is as it was, or was given what was composed for another
-  left_or_given : is_left old.first turns.last k ≡ true →
+  left_or_given : ServesUnless (turns.held || is_left old.first turns.last k) (screen_of old.share) turns.wants
+      (seat_left old now k) (seat_in new.share k) → is_left old.first turns.last k ≡ true →
       (seat_in new.share k ≡ seat_left old now k)
       ⊎ ComposesIn (screen_of old.share) Composed (seat_left old now k) (seat_in new.share k)
-  left_or_given left =
+  left_or_given serves left =
       subst (λ (h : Bool). ServesUnless h (screen_of old.share) turns.wants (seat_left old now k)
-      (seat_in new.share k)) (or_true turns.held (is_left old.first turns.last k) left) (turns.seats k within)
+      (seat_in new.share k)) (or_true turns.held (is_left old.first turns.last k) left) serves
 
-  pub due_sent_or_left : (seat : ShareSeat) → turns.held ≡ false → turns.wants ≡ false →
+  -- an update was sent there
+  abbrev IsSent : (seat : ShareSeat) → Type 0
+  IsSent seat = (sent : ShareSeat) × (seat_in new.share k ≡ Some sent) × Sends (screen_of old.share) seat sent
+
+  sent_or_left : (seat : ShareSeat) → turns.held ≡ false → turns.wants ≡ false →
       seat_left old now k ≡ Some seat → session_fault (session_at seat) ≡ None → waiting_in seat ≡ [] →
       OwesUpdate (screen_of old.share) (session_at seat) →
-      ((sent : ShareSeat) × (seat_in new.share k ≡ Some sent) × Sends (screen_of old.share) seat sent)
-      ⊎ IsLeftOut old now k new
-  due_sent_or_left seat shown enough there going written due = by (is_left old.first turns.last k) refl
+      ServesUnless (turns.held || is_left old.first turns.last k) (screen_of old.share) turns.wants
+      (seat_left old now k) (seat_in new.share k) → IsSent seat ⊎ IsLeftOut old now k new
+  sent_or_left seat shown enough there going written due serves = by (is_left old.first turns.last k) refl
     where
-      by : (left : Bool) → is_left old.first turns.last k ≡ left →
-          ((sent : ShareSeat) × (seat_in new.share k ≡ Some sent) × Sends (screen_of old.share) seat sent)
-          ⊎ IsLeftOut old now k new
-      by true is = elim (left_or_given is) [
+      by : (left : Bool) → is_left old.first turns.last k ≡ left → IsSent seat ⊎ IsLeftOut old now k new
+      by true is = elim (left_or_given serves is) [
         | inl same ↦ inr (left_by turns.last turns.ends turns.first turns.next.left is same)
         | inr given ↦ inl (composes_at (screen_of old.share) Composed (seat_left old now k) (seat_in new.share k) seat
             given there)
       ]
       by false is =
-          inl (due_sent old now slow stuck new turns k seat shown enough is within there going written due)
+          inl (due_sent old now slow stuck new turns k seat shown enough is serves there going written due)
+
+  pub due_sent_or_left : (seat : ShareSeat) → turns.held ≡ false → turns.wants ≡ false →
+      seat_left old now k ≡ Some seat → session_fault (session_at seat) ≡ None → waiting_in seat ≡ [] →
+      OwesUpdate (screen_of old.share) (session_at seat) →
+      IsSent seat ⊎ IsLeftOut old now k new ⊎ IsPutOff old now k new
+  due_sent_or_left seat shown enough there going written due = by turns.busy refl (turns.seats k within)
+    where
+      served : IsSent seat ⊎ IsLeftOut old now k new → IsSent seat ⊎ IsLeftOut old now k new ⊎ IsPutOff old now k new
+      served (inl sent) = inl sent
+      served (inr left) = inr (inl left)
+
+      by : (busy : Bool) → turns.busy ≡ busy → OrPutOff busy
+          (ServesUnless (turns.held || is_left old.first turns.last k) (screen_of old.share) turns.wants
+          (seat_left old now k) (seat_in new.share k)) (seat_left old now k) (seat_in new.share k) →
+          IsSent seat ⊎ IsLeftOut old now k new ⊎ IsPutOff old now k new
+      by false is serves = served (sent_or_left seat shown enough there going written due serves)
+      by true is (inl same) =
+          inr (inr (record { same = same; busy = turns.busy_is is; soon = turns.next.later is }))
+      by true is (inr serves) = served (sent_or_left seat shown enough there going written due serves)
+
+-- once 100 milliseconds are over nothing is put off
+pub none_put_off : (old : Desk) (now slow stuck since : ℕ) (new : Desk) (turns : TurnsAs old now slow stuck new) →
+    old.large ≡ Some since → since + 100 ≤ now → turns.busy ≡ false
+none_put_off old now slow stuck since new turns began over = by turns.busy refl
+  where
+    by : (busy : Bool) → turns.busy ≡ busy → turns.busy ≡ false
+    by false is = is
+    by true is =
+        let busy = turns.busy_is is in
+        absurd (omega (arith, over, busy.fresh, ap (λ (o : Option ℕ). begun 0 o) (sym began ∙ busy.began)))
 
 pub left_few : (k : ℕ) → k < 8 → (times : ℕ) (desk : Desk) → IsLeftFor k times desk →
     times + seats_before desk.first k < 8

@@ -105,7 +105,7 @@ module _ (serving : Serving) (k : ℕ) (within : k < 8) where
       (rw (if_other (k + 1) 9 bytes (λ same. omega (arith, within, same)))
       (same_share serving k a.share b.share writes.share))
   moved_on h a b kept (Turns now slow stuck is silent turns) =
-      silently h _ _ silent (turned_on serving k (turns.held || is_left a.first turns.last k) turns.wants
+      silently h _ _ silent (turned_on serving k turns.busy (turns.held || is_left a.first turns.last k) turns.wants
       (is_late a now k) (is_done a k)
       a.share b.share turns.screen (turns.seats k within))
   moved_on h a b kept (Comes from n left is admits) =

@@ -27,7 +27,7 @@ use Rattle.rfb_session.specs.ShareSteps.{SeatEnded, RefusesAs, WritesAs}
 use Rattle.rfb_session.specs.Slots.{OnSlot}
 use Rattle.rfb_session.specs.declared.share.event.SeatEvent.{SeatEvent}
 use Rattle.rfb_session.specs.console.Viewers.{HearsAt, Took, Refused, Admits, MakesRoom}
-use Rattle.rfb_session.specs.console.Turns.{Serves, Rested, Tried, Wanted, ServesUnless}
+use Rattle.rfb_session.specs.console.Turns.{OrPutOff, Serves, Rested, Tried, Wanted, ServesUnless}
 use Rattle.rfb_session.proofs.ShareLifeLemmas.{lives_heard}
 use Rattle.rfb_session.proofs.ShareLawLemmas.{over, drawn_lives, refused_lives, written_lives, alone_lives, composes_at}
 use Rattle.rfb_session.proofs.ShareLawLemmas.{composed_seat, wanted_in, not_vacant, not_ended}
@@ -150,16 +150,28 @@ module _ (serving : Serving) (k : ℕ) where
   unless_none true wants screen b (inr given) = none_composed screen Composed b given
   unless_none false wants screen b serves = served_none screen wants None b serves refl
 
-  pub turned_on : (held wants late done : Bool) (a b : Share) → KeepsScreen a b →
+  unless_on : (held wants late done : Bool) (a b : Share) → KeepsScreen a b →
       ServesUnless held (screen_of a) wants (cond late None (cond done None (seat_in a k))) (seat_in b k) →
       GoesOn serving k [] [] a b
-  turned_on held wants true done a b keeps serves =
+  unless_on held wants true done a b keeps serves =
       let_go [] [] a b (unless_none held wants (screen_of a) (seat_in b k) serves)
-  turned_on held wants false true a b keeps serves =
+  unless_on held wants false true a b keeps serves =
       let_go [] [] a b (unless_none held wants (screen_of a) (seat_in b k) serves)
-  turned_on true wants false false a b keeps (inl same) = stayed a b keeps same
-  turned_on true wants false false a b keeps (inr given) = served_on wants a b keeps (Tried Composed given)
-  turned_on false wants false false a b keeps serves = served_on wants a b keeps serves
+  unless_on true wants false false a b keeps (inl same) = stayed a b keeps same
+  unless_on true wants false false a b keeps (inr given) = served_on wants a b keeps (Tried Composed given)
+  unless_on false wants false false a b keeps serves = served_on wants a b keeps serves
+
+  -- or it is put off
+  pub turned_on : (busy held wants late done : Bool) (a b : Share) → KeepsScreen a b →
+      OrPutOff busy
+      (ServesUnless held (screen_of a) wants (cond late None (cond done None (seat_in a k))) (seat_in b k))
+      (cond late None (cond done None (seat_in a k))) (seat_in b k) →
+      GoesOn serving k [] [] a b
+  turned_on false held wants late done a b keeps serves = unless_on held wants late done a b keeps serves
+  turned_on true held wants true done a b keeps (inl same) = let_go [] [] a b same
+  turned_on true held wants false true a b keeps (inl same) = let_go [] [] a b same
+  turned_on true held wants false false a b keeps (inl same) = stayed a b keeps same
+  turned_on true held wants late done a b keeps (inr serves) = unless_on held wants late done a b keeps serves
 
   -- ---- bytes of a viewer
 

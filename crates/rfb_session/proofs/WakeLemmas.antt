@@ -174,14 +174,14 @@ holds_on old now slow stuck new turns held time later before =
 
 pub due_sent : (old : Desk) (now slow stuck : ℕ) (new : Desk) (turns : TurnsAs old now slow stuck new) (k : ℕ)
     (seat : ShareSeat) → turns.held ≡ false → turns.wants ≡ false → is_left old.first turns.last k ≡ false →
-    k < 8 → seat_left old now k ≡ Some seat →
+    ServesUnless (turns.held || is_left old.first turns.last k) (screen_of old.share) turns.wants
+    (seat_left old now k) (seat_in new.share k) → seat_left old now k ≡ Some seat →
     session_fault (session_at seat) ≡ None → waiting_in seat ≡ [] →
     OwesUpdate (screen_of old.share) (session_at seat) →
     (sent : ShareSeat) × (seat_in new.share k ≡ Some sent) × Sends (screen_of old.share) seat sent
-due_sent old now slow stuck new turns k seat shown enough reached within left going written due =
+due_sent old now slow stuck new turns k seat shown enough reached serves left going written due =
     by (subst (λ (h : Bool). ServesUnless h (screen_of old.share) turns.wants (seat_left old now k)
-    (seat_in new.share k)) (ap (λ (h : Bool). h || is_left old.first turns.last k) shown ∙ reached)
-    (turns.seats k within))
+    (seat_in new.share k)) (ap (λ (h : Bool). h || is_left old.first turns.last k) shown ∙ reached) serves)
   where
     composed : (told : Composing) (sent : ShareSeat) → ComposesAt (screen_of old.share) told seat sent →
         Sends (screen_of old.share) seat sent

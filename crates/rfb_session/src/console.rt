@@ -15,7 +15,8 @@
 //!   bytes of lines wait is not read until they are gone. The others go on.
 //! - All that was ready is heard before anything is composed.
 //! - After an update of more than a mebibyte no other is composed before what is ready was written
-//!   and heard. So small ones do not wait behind those of eight whole screens.
+//!   and heard. So small ones do not wait behind those of eight whole screens. Until it has left,
+//!   for 100 milliseconds at most, only slight ones are composed: few of its size wait at once.
 
 pub(crate) mod desk;
 pub(crate) mod entrances;

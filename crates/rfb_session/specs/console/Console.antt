@@ -68,13 +68,9 @@ is_lost (Some (ServerGone gone)) = false
 
 -- nothing that waits is written any more: memory was wanting, or what tells the owner has failed
 abbrev pub is_abrupt : Option Outcome → Bool
-is_abrupt None = false
-is_abrupt (Some Quit) = false
-is_abrupt (Some Idle) = false
-is_abrupt (Some (BadLine line)) = false
 is_abrupt (Some NoMemory) = true
 is_abrupt (Some Device) = true
-is_abrupt (Some (ServerGone gone)) = false
+is_abrupt other = false
 
 -- the desk has done so; or there is none; or all has ended before, and nothing was done; or memory for a line
 -- was wanting, with which all ends

@@ -61,11 +61,13 @@ is_idle desk = desk.came && nat_eq (seated desk) 0
 abbrev pub tells_in : Desk → ℕ → ℕ → Bool
 tells_in desk set k = has_bit set k && not (is_over (guest_at desk k).progress)
 
--- the rules, the hold and the seat that is first in the next turn are as they were
+-- the rules, the hold, the seat that is first in the next turn and when the latest large update was composed are as
+-- they were
 pub record KeepsRules (old new : Desk) : Type 0 where
   pub rules : new.rules ≡ old.rules
   pub hold : new.hold ≡ old.hold
   pub first : new.first ≡ old.first
+  pub large : new.large ≡ old.large
 
 -- what is known of every other viewer is as it was
 abbrev pub OtherGuests : Desk → ℕ → Desk → Type 0

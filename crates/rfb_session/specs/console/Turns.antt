@@ -89,26 +89,43 @@ pub record IsLarge (old new : Option ShareSeat) : Type 0 where
   pub written : waiting_for old ≡ []
   pub large : 1048576 < length (waiting_for new)
 
+-- a large update was composed less than 100 milliseconds ago, and of what waits at some seat more than 65,536 bytes
+-- have not left
+pub record IsBusy (large : Option ℕ) (now : ℕ) (seats : ℕ → Option ShareSeat) : Type 0 where
+  pub since : ℕ
+  pub began : large ≡ Some since
+  pub fresh : now < since + 100
+  pub seat : ℕ
+  pub within : seat < 8
+  pub waits : 65536 < length (waiting_for (seats seat))
+
+-- where others are busy a seat may be put off: then it is as it was
+abbrev pub OrPutOff : Bool → Type 0 → Option ShareSeat → Option ShareSeat → Type 0
+OrPutOff false does old new = does
+OrPutOff true does old new = (new ≡ old) ⊎ does
+
 -- a seat was given an update that was composed for another, and no large one
 pub record IsGivenSmall (screen : Grid Colour) (old new : Option ShareSeat) : Type 0 where
   pub sent : ComposesIn screen Composed old new
   pub small : IsLarge old new → ⊥
 
--- so many seats are served, from the first of this turn on and going round, and for none a large update was composed.
--- Of the others those with work are left, or were given what was composed for one of these
-pub record RoundUpTo (count : ℕ) (old : Desk) (due left : ℕ) (wants : Bool) (new : Desk) : Type 0 where
-  pub seats : (k : ℕ) → k < 8 → seats_before old.first k < count →
-      Serves (screen_of old.share) wants (seat_in old.share k) (seat_in new.share k)
-  pub small : (k : ℕ) → k < 8 → seats_before old.first k < count →
-      IsLarge (seat_in old.share k) (seat_in new.share k) → ⊥
-  pub gone : (k : ℕ) → k < 8 → seats_before old.first k < count → has_bit left k ≡ false
-  pub some : (k : ℕ) → k < 8 → has_bit left k ≡ true → has_bit due k ≡ true
-  pub given_to : (k : ℕ) → k < 8 → count ≤ seats_before old.first k → has_bit due k ≡ true →
-      has_bit left k ≡ false → IsGivenSmall (screen_of old.share) (seat_in old.share k) (seat_in new.share k)
-  pub later : (k : ℕ) → k < 8 → count ≤ seats_before old.first k →
-      (has_bit due k ≡ false) ⊎ (has_bit left k ≡ true) → seat_in new.share k ≡ seat_in old.share k
-  pub screen : KeepsScreen old.share new.share
-  pub beside : KeepsBeside old new
+-- so many seats are served or put off, from the first of this turn on and going round, and for none a large update was
+-- composed. Of the others those with work are left, or were given what was composed for one of these
+pub record RoundUpTo (count : ℕ) (busy : Bool) (old : Desk) (due left : ℕ) (wants : Bool) (new : Desk) : Type 0
+  where
+    pub seats : (k : ℕ) → k < 8 → seats_before old.first k < count →
+        OrPutOff busy (Serves (screen_of old.share) wants (seat_in old.share k) (seat_in new.share k))
+        (seat_in old.share k) (seat_in new.share k)
+    pub small : (k : ℕ) → k < 8 → seats_before old.first k < count →
+        IsLarge (seat_in old.share k) (seat_in new.share k) → ⊥
+    pub gone : (k : ℕ) → k < 8 → seats_before old.first k < count → has_bit left k ≡ false
+    pub some : (k : ℕ) → k < 8 → has_bit left k ≡ true → has_bit due k ≡ true
+    pub given_to : (k : ℕ) → k < 8 → count ≤ seats_before old.first k → has_bit due k ≡ true →
+        has_bit left k ≡ false → IsGivenSmall (screen_of old.share) (seat_in old.share k) (seat_in new.share k)
+    pub later : (k : ℕ) → k < 8 → count ≤ seats_before old.first k →
+        (has_bit due k ≡ false) ⊎ (has_bit left k ≡ true) → seat_in new.share k ≡ seat_in old.share k
+    pub screen : KeepsScreen old.share new.share
+    pub beside : KeepsBeside old new
 
 -- for the last that is served, if others are left, a large update was composed
 abbrev pub EndsLarge : Option ℕ → (ℕ → Option ShareSeat) → (ℕ → Option ShareSeat) → Type 0
@@ -129,18 +146,25 @@ abbrev pub ServesUnless : Bool → Grid Colour → Bool → Option ShareSeat →
 ServesUnless true screen wants old new = (new ≡ old) ⊎ ComposesIn screen Composed old new
 ServesUnless false screen wants old new = Serves screen wants old new
 
--- all are served, or those up to the one for which a large update is composed, and the others are left
-pub record ComposesRound (old : Desk) (wants : Bool) (last : Option ℕ) (new : Desk) : Type 0 where
+-- all are served or put off, or those up to the one for which a large update is composed, and the others are left
+pub record ComposesRound (old : Desk) (busy wants : Bool) (last : Option ℕ) (new : Desk) : Type 0 where
   pub seats : (k : ℕ) → k < 8 →
-      ServesUnless (is_left old.first last k) (screen_of old.share) wants (seat_in old.share k) (seat_in new.share k)
+      OrPutOff busy (ServesUnless (is_left old.first last k) (screen_of old.share) wants (seat_in old.share k)
+      (seat_in new.share k)) (seat_in old.share k) (seat_in new.share k)
   pub ends : EndsLarge last (seat_in old.share) (seat_in new.share)
   pub only : OnlyLarge last (seat_in old.share) (seat_in new.share)
   pub screen : KeepsScreen old.share new.share
   pub beside : KeepsBeside old new
 
+-- when the latest large update was composed
+abbrev pub large_after : ℕ → Option ℕ → Option ℕ → Option ℕ
+large_after now None large = large
+large_after now (Some last) large = Some now
+
 -- the next turn begins with the seat after the last that was served
-pub record GoesRound (old : Desk) (last : Option ℕ) (new : Desk) : Type 0 where
+pub record GoesRound (old : Desk) (now : ℕ) (last : Option ℕ) (new : Desk) : Type 0 where
   pub first : new.first ≡ first_after old.first last
+  pub large : new.large ≡ large_after now last old.large
   pub made : new.rules ≡ old.rules
   pub hold : new.hold ≡ old.hold
   pub share : new.share ≡ old.share
@@ -212,11 +236,12 @@ hold_after limit now (Since since) = cond (nat_lt (now - since) limit) (Since si
 pub record Stills (old : Desk) (now : ℕ) (held : Bool) (new : Desk) : Type 0 where
   pub held_is : held ≡ holds_at old.rules.hold now old.hold
   pub hold : new.hold ≡ hold_after old.rules.hold now old.hold
-  pub made : new.rules ≡ old.rules
-  pub first : new.first ≡ old.first
-  pub share : new.share ≡ old.share
-  pub guests : (k : ℕ) → guest_at new k ≡ guest_at old k
   pub lines : lines_of new ≡ lines_of old
+  pub guests : (k : ℕ) → guest_at new k ≡ guest_at old k
+  pub share : new.share ≡ old.share
+  pub large : new.large ≡ old.large
+  pub first : new.first ≡ old.first
+  pub made : new.rules ≡ old.rules
 
 -- ---- a turn
 
@@ -235,11 +260,12 @@ abbrev pub WakesAfter : ℕ → Option ℕ → Option ℕ → Type 0
 WakesAfter now None next = Unit {0}
 WakesAfter now (Some last) next = IsBy now next
 
-pub record Wakes (desk : Desk) (now : ℕ) (wants : Bool) (last next : Option ℕ) : Type 0 where
+pub record Wakes (desk : Desk) (now : ℕ) (busy wants : Bool) (last next : Option ℕ) : Type 0 where
   pub guests : (k : ℕ) → k < 8 → WakesFor desk.rules (guest_at desk k) next
   pub hold : WakesAt desk.rules.hold desk.hold next
   pub again : wants ≡ true → IsBy (now + 100) next
   pub left : WakesAfter now last next
+  pub later : busy ≡ true → IsByEnd 100 desk.large next
 
 -- what is known of a viewer at that time, and whether its time is over
 abbrev pub guest_then : Desk → ℕ → ℕ → Guest
@@ -259,7 +285,7 @@ seat_left desk now k = cond (is_late desk now k) None (seat_kept desk k)
 -- a turn: who failed goes once all is written, whoever's time is over is let go, and a line tells each; the
 -- others' time goes on, and their seats are served, unless updates are held back. They are served going round, and
 -- after one for which a large update is composed the others are left: the next turn, which is wanted at once,
--- begins with them
+-- begins with them. While a large one leaves, for 100 milliseconds at most, a seat may be put off
 pub record TurnsAs (old : Desk) (now slow stuck : ℕ) (new : Desk) : Type 0 where
   pub slow_is : (k : ℕ) → k < 8 → has_bit slow k ≡ is_slow old.rules now (guest_then old now k)
   pub stuck_is : (k : ℕ) → k < 8 → has_bit stuck k ≡ is_stuck old.rules now (guest_then old now k)
@@ -268,17 +294,20 @@ pub record TurnsAs (old : Desk) (now slow stuck : ℕ) (new : Desk) : Type 0 whe
   pub held : Bool
   pub held_is : held ≡ holds_at old.rules.hold now old.hold
   pub hold : new.hold ≡ hold_after old.rules.hold now old.hold
+  pub busy : Bool
+  pub busy_is : busy ≡ true → IsBusy old.large now (seat_left old now)
   pub wants : Bool
   pub last : Option ℕ
   pub seats : (k : ℕ) → k < 8 →
-      ServesUnless (held || is_left old.first last k) (screen_of old.share) wants (seat_left old now k)
-      (seat_in new.share k)
+      OrPutOff busy (ServesUnless (held || is_left old.first last k) (screen_of old.share) wants (seat_left old now k)
+      (seat_in new.share k)) (seat_left old now k) (seat_in new.share k)
   pub ends : EndsLarge last (seat_left old now) (seat_in new.share)
   pub only : OnlyLarge last (seat_left old now) (seat_in new.share)
   pub first : new.first ≡ first_after old.first last
+  pub large : new.large ≡ large_after now last old.large
   pub screen : KeepsScreen old.share new.share
   pub rules : new.rules ≡ old.rules
-  pub next : Wakes new now wants last new.next
+  pub next : Wakes new now busy wants last new.next
 
 -- a seat is left out in a turn: in it a large update was composed for another, and it is as it was; in the next
 -- turn, which is wanted at once, fewer seats come before it than in this one
@@ -289,6 +318,13 @@ pub record IsLeftOut (old : Desk) (now k : ℕ) (new : Desk) : Type 0 where
   pub same : seat_in new.share k ≡ seat_left old now k
   pub sooner : seats_before new.first k < seats_before old.first k
   pub at_once : IsBy now new.next
+
+-- a seat is put off in a turn: it is as it was, since another's large update leaves, and the next turn is wanted no
+-- later than 100 milliseconds after the latest of these was composed
+pub record IsPutOff (old : Desk) (now k : ℕ) (new : Desk) : Type 0 where
+  pub same : seat_in new.share k ≡ seat_left old now k
+  pub busy : IsBusy old.large now (seat_left old now)
+  pub soon : IsByEnd 100 new.large new.next
 
 -- it was left out in so many turns one after the other, of which this desk is what the last one made; between them
 -- whatever happened kept the seat that is first
@@ -310,6 +346,7 @@ pub record IsFreshDesk (size : Size) (name : List ℕ) (rules : Rules) (desk : D
   pub rules_are : desk.rules ≡ rules
   pub hold : desk.hold ≡ Shown
   pub first : desk.first ≡ 0
+  pub large : desk.large ≡ None
 
 -- a drawing is done, or leaves the screen and nothing is
 pub record DrawsAs (old : Desk) (stroke : Stroke) (done : Bool) (new : Desk) : Type 0 where
@@ -320,6 +357,7 @@ pub record HoldsAs (old : Desk) (hold : Hold) (new : Desk) : Type 0 where
   pub hold_is : new.hold ≡ hold
   pub made : new.rules ≡ old.rules
   pub first : new.first ≡ old.first
+  pub large : new.large ≡ old.large
   pub share : new.share ≡ old.share
   pub guests : (k : ℕ) → guest_at new k ≡ guest_at old k
   pub lines : lines_of new ≡ lines_of old

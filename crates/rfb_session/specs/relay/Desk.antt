@@ -48,6 +48,7 @@ pub record IsOver (share : Share) (rules : Rules) (name : List ℕ) (desk : Desk
   pub rules_are : desk.rules ≡ rules
   pub hold : desk.hold ≡ Shown
   pub first : desk.first ≡ 0
+  pub large : desk.large ≡ None
 
 -- a line tells that a share's picture is shown, and the server's name
 abbrev pub up_of : Share → List ℕ → List ℕ
@@ -58,6 +59,7 @@ pub record KeepsGuests (old new : Desk) : Type 0 where
   pub guests : (k : ℕ) → guest_at new k ≡ guest_at old k
   pub rules : new.rules ≡ old.rules
   pub first : new.first ≡ old.first
+  pub large : new.large ≡ old.large
 
 -- ---- bytes of the server's
 

@@ -44,6 +44,8 @@ pub(crate) struct Desk {
     next: Option<u64>,
     // The seat with which composing begins in the next turn.
     first: Seat,
+    // When the latest large update was composed, in milliseconds.
+    large: Option<u64>,
     ghost eight: { length guests ≡ 8 },
     ghost first_of_eight: { first < 8 },
 }
@@ -87,6 +89,7 @@ impl Desk {
         ensures rules { result.rules ≡ rules }
         ensures hold { result.hold ≡ Shown }
         ensures first { result.first ≡ 0 }
+        ensures large { result.large ≡ None }
     {
         Desk {
             share,
@@ -97,6 +100,7 @@ impl Desk {
             came: false,
             next: None,
             first: Seat::at(0),
+            large: None,
         }
     }
 

@@ -1,4 +1,4 @@
-//! What a console comes to by all that happens to it, with nothing to run. Each law is of a console
+//! What a console is after all that happens to it, with nothing to run. Each law is of a console
 //! that goes on: once all has ended nothing more is obeyed or composed.
 
 ghost use Rattle.std.specs.Prelude.{◌≡◌, ◌≤◌, ◌<◌, ◌+◌, ◌++◌, ◌⊎◌, ℕ, List, [], Some, None};
@@ -18,7 +18,7 @@ ghost use Rattle.rfb_session.specs.console.Console.{IsFreshConsole, OpensAs, wai
 ghost use Rattle.rfb_session.specs.console.Desk.{guest_at};
 ghost use Rattle.rfb_session.specs.console.Time.{IsBefore, is_slow, is_stuck};
 ghost use Rattle.rfb_session.specs.console.Turns.{TurnsAs, seat_left, holds_at};
-ghost use Rattle.rfb_session.specs.console.Turns.{IsLeftOut, IsLeftFor, IsLarge};
+ghost use Rattle.rfb_session.specs.console.Turns.{IsLeftOut, IsLeftFor, IsLarge, IsPutOff};
 ghost use Rattle.rfb_session.specs.console.History.{Lasts, HasRead, IsObeyed, TellsAll};
 ghost use Rattle.rfb_session.specs.console.History.{SeatLives, IsEmptySeat};
 ghost use Rattle.rfb_session.specs.console.History.{Happens, is_turn, KeepsFirst};
@@ -56,23 +56,29 @@ pub fn lines_leave_as_they_were_told<S: Drop>()
 {}
 
 /// An update that is due where nothing waits is composed in the next turn, of the screen as it is
-/// then, unless updates are held back or memory was wanting, or the seat is left out: in that turn
-/// an update of more than a mebibyte was composed for another. Then the turn after it is wanted at
-/// once, and fewer seats come before this one there. Each other seat is one for which nothing waits
-/// and none is due.
+/// then, unless updates are held back or memory was wanting, or the seat is left out or put off.
+///
+/// - It is left out where in that turn an update of more than a mebibyte was composed for another.
+///   Then the turn after it is wanted at once, and fewer seats come before this one there.
+/// - It is put off while such an update leaves, for 100 milliseconds at most after it was composed:
+///   the next turn is wanted no later.
+///
+/// Each other seat is one for which nothing waits and none is due.
 pub fn an_update_that_is_due_is_composed()
     ensures { (old new : ADesk) (now slow stuck k : ℕ) (seat : AShareSeat) →
         (turns : TurnsAs old now slow stuck new) → turns.held ≡ false → turns.wants ≡ false →
         k < 8 → seat_left old now k ≡ Some seat → session_fault (session_at seat) ≡ None →
         waiting_in seat ≡ [] → OwesUpdate (screen_of old.share) (session_at seat) →
         ((sent : AShareSeat) × (seat_in new.share k ≡ Some sent)
-        × Sends (screen_of old.share) seat sent) ⊎ IsLeftOut old now k new }
+        × Sends (screen_of old.share) seat sent)
+        ⊎ IsLeftOut old now k new ⊎ IsPutOff old now k new }
 {}
 
 /// The seats take turns. Whoever is left out in a turn comes in the next one before each that was
 /// served, whatever happens between them; so of eight turns, one after the other, not each leaves
-/// out the same seat. And a turn composes one update of more than a mebibyte at most: where such a
-/// one waits at two seats, it is the same to the byte.
+/// out the same seat. A turn composes one update of more than a mebibyte at most: where such a one
+/// waits at two seats, it is the same to the byte. And 100 milliseconds after the latest of these
+/// none is put off.
 pub fn nobody_is_left_out_for_ever<S: Drop>()
     ensures first { (old new : ADesk) (now slow stuck j k : ℕ) →
         (turns : TurnsAs old now slow stuck new) → j < 8 → k < 8 →
@@ -86,6 +92,9 @@ pub fn nobody_is_left_out_for_ever<S: Drop>()
         j < 8 → k < 8 → IsLarge (seat_left old now j) (seat_in new.share j) →
         IsLarge (seat_left old now k) (seat_in new.share k) →
         waits_at new.share j ≡ waits_at new.share k }
+    ensures later { (old new : ADesk) (now slow stuck since : ℕ) →
+        (turns : TurnsAs old now slow stuck new) → old.large ≡ Some since → since + 100 ≤ now →
+        turns.busy ≡ false }
 {}
 
 /// Before the time at which the next turn is wanted nobody's time is over, and updates that are

@@ -60,6 +60,20 @@ impl Share {
         }
     }
 
+    /// Those of some seats to whose viewers little may need sending. It is about costs: nothing
+    /// rests on it.
+    pub fn slight_of(&self, seats: Seats) -> Seats {
+        let mut slight = Seats::none();
+        for place in 0..SLOTS {
+            let seat = Seat::at(place);
+            match &self.seats[place] {
+                Some(own) if seats.has(seat) && own.is_slight() => slight = slight.with(seat),
+                _ => {}
+            }
+        }
+        slight
+    }
+
     // What waits at a seat is given to its twins.
     fn give(&mut self, seat: Seat, twins: Seats) -> Seats
         requires { (k : ℕ) → has_bit twins k ≡ true →

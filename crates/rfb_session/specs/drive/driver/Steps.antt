@@ -27,14 +27,8 @@ is_lost (Some How.Device) = true
 
 -- memory was wanting
 abbrev pub wants_memory : Option DriveOutcome → Bool
-wants_memory None = false
-wants_memory (Some How.Done) = false
-wants_memory (Some (How.BadLine number)) = false
-wants_memory (Some (How.Late number)) = false
-wants_memory (Some (How.File number)) = false
-wants_memory (Some (How.ServerGone how)) = false
 wants_memory (Some How.NoMemory) = true
-wants_memory (Some How.Device) = false
+wants_memory other = false
 
 -- so many bytes of a door were taken
 abbrev pub rooms_spent : ℕ → ℕ → Rooms → Rooms

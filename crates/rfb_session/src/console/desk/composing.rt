@@ -1,8 +1,12 @@
 //! Updates that are composed for the viewers of a console.
 
-ghost use Rattle.std.specs.Prelude.{◌≡◌, true, false};
-ghost use Rattle.rfb_session.specs.Share.{seat_in};
-ghost use Rattle.rfb_session.specs.console.Turns.{ComposesAll, ComposesOne, ComposesRound, IsLarge};
+ghost use Rattle.std.specs.Prelude.{◌≡◌, ◌⊎◌, ℕ, true, false};
+ghost use Rattle.rfb_picture.specs.Places.{has_bit};
+ghost use Rattle.rfb_session.specs.Share.{screen_of, seat_in};
+ghost use Rattle.rfb_session.specs.ShareWork.{RestsIn};
+ghost use Rattle.rfb_session.specs.console.Time.{IsByEnd};
+ghost use Rattle.rfb_session.specs.console.Turns.{ComposesAll, ComposesOne, ComposesRound, IsBusy};
+ghost use Rattle.rfb_session.specs.console.Turns.{IsLarge};
 
 use crate::console::desk::Desk;
 use crate::seat::Seat;
@@ -11,6 +15,12 @@ use crate::slots::SLOTS;
 
 // After an update of more bytes than a mebibyte no other is composed in a turn.
 const LARGE: usize = 1 << 20;
+
+// While more bytes than these of it wait, what is not slight is put off,
+const MUCH: usize = 1 << 16;
+
+// but not for longer than this after it was composed, in milliseconds.
+const PUT_OFF: u64 = 100;
 
 /// What came of composing in a turn.
 #[derive(Clone, Copy, Debug)]
@@ -58,14 +68,18 @@ impl Desk {
     }
 
     /// The same, but one seat after the other from the first of this turn on, going round, and no
-    /// further than to a large update. So at most one is composed before anything is written.
-    pub(crate) fn compose_round(&mut self) -> Round
-        ensures { ComposesRound self.old result.wants result.last self.new }
+    /// further than to a large update. So at most one is composed before anything is written. Where
+    /// another leaves, what is not slight is put off.
+    pub(crate) fn compose_round(&mut self, is_busy: bool) -> Round
+        ensures { ComposesRound self.old is_busy result.wants result.last self.new }
     {
         let mut wants = false;
-        let mut left = self.share.to_serve();
+        let mut left = self.to_serve(is_busy);
         let first = self.first;
         for step in 0..SLOTS {
+            if left.is_empty() {
+                return Round { wants, last: None };
+            }
             let seat = first.after(step);
             let tries = left.has(seat);
             let others = left.without(seat);
@@ -80,6 +94,49 @@ impl Desk {
             }
         }
         Round { wants, last: None }
+    }
+
+    // Whether a large update leaves, composed so short a time ago that others are put off for it.
+    // Each is most of the memory that waits, and on its own it leaves sooner.
+    pub(super) fn is_busy(&self, now: u64) -> bool
+        ensures { result ≡ true → IsBusy self.now.large now (seat_in self.now.share) }
+    {
+        let Some(since) = self.large else {
+            return false;
+        };
+        if now.saturating_sub(since) >= PUT_OFF {
+            return false;
+        }
+        for place in 0..SLOTS {
+            if self.share.to_write(Seat::at(place)).len() > MUCH {
+                return true;
+            }
+        }
+        false
+    }
+
+    // When nothing is put off any more, if anything is now.
+    pub(super) fn busy_ends(&self, is_busy: bool) -> Option<u64>
+        ensures { is_busy ≡ true → IsByEnd 100 self.now.large result }
+    {
+        match self.large {
+            Some(since) if is_busy => Some(since.saturating_add(PUT_OFF)),
+            _ => None,
+        }
+    }
+
+    // The seats with work, but where others are put off those alone for which little may need
+    // sending.
+    fn to_serve(&self, is_busy: bool) -> Seats
+        ensures rests { (k : ℕ) → has_bit result k ≡ false → (is_busy ≡ true)
+            ⊎ RestsIn (screen_of self.now.share) (seat_in self.now.share k) }
+    {
+        let work = self.share.to_serve();
+        if is_busy {
+            self.share.slight_of(work)
+        } else {
+            work
+        }
     }
 
     // Composes an update for the viewer of a seat, if that is to be tried, and tells whether it is

@@ -33,8 +33,9 @@ impl Desk {
     /// All that was ready has been heard, and it is this time, in milliseconds. Viewers whose time
     /// is over are let go, and a line tells each; then updates are composed for the others, unless
     /// they are held back. After one of more than a mebibyte the seats that come after it are left
-    /// for the next turn, which begins with them and is wanted at once. An error is want of memory
-    /// for a line.
+    /// for the next turn, which begins with them and is wanted at once. Until that one has left,
+    /// for 100 milliseconds at most, what is not slight is put off. An error is want of memory for a
+    /// line.
     pub(crate) fn turn(&mut self, now: u64) -> io::Result<Late>
         ensures { IfOk result (λ late. TurnsAs self.old now late.slow late.stuck self.new) }
     {
@@ -43,16 +44,17 @@ impl Desk {
         let late = self.late(now);
         self.let_all_go(late.slow.or(late.stuck))?;
         let is_held = self.still(now);
-        let round = self.compose_unless(is_held);
-        self.go_round(round.last);
-        self.plan_next(now, round);
+        let is_busy = self.is_busy(now);
+        let round = self.compose_unless(is_held, is_busy);
+        self.go_round(now, round.last);
+        self.plan_next(now, is_busy, round);
         Ok(late)
     }
 
     // Updates are composed, unless they are held back.
-    fn compose_unless(&mut self, is_held: bool) -> Round
+    fn compose_unless(&mut self, is_held: bool, is_busy: bool) -> Round
         ensures composes { is_held ≡ false →
-            ComposesRound self.old result.wants result.last self.new }
+            ComposesRound self.old is_busy result.wants result.last self.new }
         ensures held { is_held ≡ true → self.new ≡ self.old }
         ensures none { is_held ≡ true → result.last ≡ None }
     {
@@ -62,25 +64,26 @@ impl Desk {
                 last: None,
             };
         }
-        self.compose_round()
+        self.compose_round(is_busy)
     }
 
     // The next turn begins with the seat after the last of this one.
-    fn go_round(&mut self, last: Option<Seat>)
-        ensures { GoesRound self.old last self.new }
+    fn go_round(&mut self, now: u64, last: Option<Seat>)
+        ensures { GoesRound self.old now last self.new }
     {
         if let Some(seat) = last {
             self.first = seat.after(1);
+            self.large = Some(now);
         }
     }
 
     // The next turn is wanted when something is due.
-    fn plan_next(&mut self, now: u64, round: Round)
+    fn plan_next(&mut self, now: u64, is_busy: bool, round: Round)
         ensures share { self.new.share ≡ self.old.share }
         ensures beside { KeepsBeside self.old self.new }
-        ensures wakes { Wakes self.new now round.wants round.last self.new.next }
+        ensures wakes { Wakes self.new now is_busy round.wants round.last self.new.next }
     {
-        self.next = self.due(now, round);
+        self.next = self.due(now, is_busy, round);
     }
 
     // Viewers that have failed go once all is written that waited for them.
@@ -183,10 +186,11 @@ impl Desk {
     }
 
     // When the next turn is wanted even if nothing happens before.
-    fn due(&self, now: u64, round: Round) -> Option<u64>
-        ensures { Wakes self.now now round.wants round.last result }
+    fn due(&self, now: u64, is_busy: bool, round: Round) -> Option<u64>
+        ensures { Wakes self.now now is_busy round.wants round.last result }
     {
-        let mut next = sooner(self.hold_ends(), goes_on(now, round));
+        let ends = sooner(self.hold_ends(), self.busy_ends(is_busy));
+        let mut next = sooner(ends, goes_on(now, round));
         for place in 0..SLOTS {
             next = sooner(next, self.guests[place].due(&self.rules));
         }

@@ -1,6 +1,6 @@
 use Rattle.std.proofs.Common.{arith}
 use Rattle.rfb_session.proofs.RoundKeptLemmas.{first_kept}
-use Rattle.rfb_session.proofs.RoundLawLemmas.{left_first, left_few, one_large}
+use Rattle.rfb_session.proofs.RoundLawLemmas.{left_first, left_few, none_put_off, one_large}
 use Rattle.rfb_session.proofs.console.laws.nobody_is_left_out_for_ever.Goals as goal
 
 pub returns : goal.returns
@@ -12,4 +12,6 @@ returns g c = record {
   times = λ desk k times within left. omega (arith, left_few k within times desk left);
   one = λ old new now slow stuck j k turns low within first second.
       one_large old now slow stuck new turns j k low within first second;
+  later = λ old new now slow stuck since turns began over.
+      none_put_off old now slow stuck since new turns began over;
 }

@@ -7,6 +7,6 @@ returns c =
     c.args.now c.late-late.result.slow c.late-late.result.stuck c.or.result c.still-is_held.result
     c.release_all.ensures c.stamp.ensures c.late-late.ensures.slow c.late-late.ensures.stuck c.or.ensures
     c.in_ok-let_all_go.ensures c.still-is_held.ensures c.compose_unless-round.new.self c.go_round.new.self
-    c.plan_next.new.self c.compose_unless-round.result.wants c.compose_unless-round.result.last
-    c.compose_unless-round.ensures.held c.compose_unless-round.ensures.none c.compose_unless-round.ensures.composes
-    c.go_round.ensures c.plan_next.ensures.share c.plan_next.ensures.beside c.plan_next.ensures.wakes
+    c.plan_next.new.self c.is_busy-is_busy.result c.compose_unless-round.result.wants c.compose_unless-round.result.last
+    c.is_busy-is_busy.ensures c.compose_unless-round.ensures.held c.compose_unless-round.ensures.none
+    c.compose_unless-round.ensures.composes c.go_round.ensures c.plan_next.ensures.share c.plan_next.ensures.beside c.plan_next.ensures.wakes
