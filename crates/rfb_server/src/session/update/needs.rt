@@ -64,9 +64,9 @@ impl Session {
         }
     }
 
-    // The same of a zone, which is one place, or is gone through from its first row with such a
-    // place on.
-    fn needed_in_zone(&self, screen: &Picture<Colour>, zone: Rect) -> Option<Rect>
+    /// The same of a zone, which is one place, or is gone through from its first row with such a
+    /// place on.
+    pub(super) fn needed_in_zone(&self, screen: &Picture<Colour>, zone: Rect) -> Option<Rect>
         requires about { Follows screen.now self.now }
         requires held { Holds self.now.known zone }
         ensures { HasBox (needs_of screen.now self.now) zone result }

@@ -47,7 +47,36 @@ impl Session {
         if zone.h == 0 {
             return None;
         }
-        self.needed_in(screen, zone)
+        self.needed_marked(screen, zone, quiet)
+    }
+
+    // The least rectangle of the zone's places that need sending. It costs by those that are marked
+    // and not quiet.
+    fn needed_marked(&self, screen: &Picture<Colour>, zone: Rect, quiet: &Quiet) -> Option<Rect>
+        requires about { Follows screen.now self.now }
+        requires quiet { IsQuiet screen.now self.now quiet.now }
+        requires held { Holds self.now.known zone }
+        ensures { HasBox (needs_of screen.now self.now) zone result }
+    {
+        match self.marks.bounds_in(zone) {
+            None => None,
+            Some(left) => self.needed_left(screen, left, quiet),
+        }
+    }
+
+    // The same of what is marked there. All of that may be quiet, where the cell is not: a copy
+    // that ends within it marks no more than its own places.
+    fn needed_left(&self, screen: &Picture<Colour>, left: Rect, quiet: &Quiet) -> Option<Rect>
+        requires held { Holds self.now.known left }
+        requires quiet { IsQuiet screen.now self.now quiet.now }
+        requires about { Follows screen.now self.now }
+        ensures { HasBox (needs_of screen.now self.now) left result }
+    {
+        let rows = outside(left, quiet);
+        if rows.h == 0 {
+            return None;
+        }
+        self.needed_in_zone(screen, rows)
     }
 }
 

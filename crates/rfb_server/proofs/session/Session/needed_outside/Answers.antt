@@ -5,4 +5,4 @@ pub returns : goal.returns
 returns c =
     let s = c.args.self.now in
     quiet_rows c.args.screen.now s c.args.cell c.outside-zone.result c.args.quiet.now _ c.requires.held
-    c.outside-zone.ensures.part c.outside-zone.ensures.others c.requires.quiet c.needed_in.ensures
+    c.outside-zone.ensures.part c.outside-zone.ensures.others c.requires.quiet c.needed_marked.ensures
