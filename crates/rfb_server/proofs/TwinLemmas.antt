@@ -1,11 +1,13 @@
 -- Sessions for which one update is composed: what is marked and asked is the same.
 use Rattle.std.proofs.Common.{◌≡◌, ℕ, ◌<◌, ◌+◌, ◌*◌, ◌||◌, ◌&&◌}
 use Rattle.std.proofs.Common.{Bool, true, false}
-use Rattle.std.proofs.Common.{sym, subst, not, ◌∙◌, refl, arith, inl, inr, Option, Some, None}
+use Rattle.std.proofs.Common.{sym, subst, ap, not, ◌∙◌, refl, arith, inl, inr, Option, Some, None}
 use Rattle.std.specs.Int.{div_ceil}
 use Rattle.std.specs.Option.{is_some}
 use Rattle.std.proofs.lemmas.Bool.{cases_eq, cases_lt, both_ways}
 use Rattle.std.proofs.lemmas.Bool.Decides.{nat_tests}
+use Rattle.rfb_pixel.specs.Format.{PixelFormat}
+use Rattle.rfb_pixel.specs.declared.colour.Colour.{Colour}
 use Rattle.rfb_picture.specs.declared.rect.Rect.{Rect}
 use Rattle.rfb_picture.specs.Rect.{contains, rect}
 use Rattle.rfb_picture.specs.Grid.{Grid}
@@ -16,8 +18,10 @@ use Rattle.rfb_picture.specs.Places.{AllMarked}
 use Rattle.rfb_picture.proofs.GridLaws.{contains_true}
 use Rattle.rfb_server.specs.declared.session.Session.{Session}
 use Rattle.rfb_server.specs.Cells.{cell_of, IsCell}
+use Rattle.rfb_server.specs.KnownScreen.{Follows}
+use Rattle.rfb_server.specs.Request.{wanted_at}
 use Rattle.rfb_server.specs.update.Sends.{NoneMayNeed, HasNext}
-use Rattle.rfb_server.specs.session.Twins.{Agree, AgreeIn, AgreeBelow, AsksAll, AreKnownAlike, IsKnownAlike}
+use Rattle.rfb_server.specs.session.Twins.{Agree, AgreeIn, AgreeBelow, AsksAll, AreKnownAlike, IsKnownAlike, IsShown}
 use Rattle.rfb_server.proofs.ComposesLemmas.{all_cells}
 use Rattle.rfb_server.proofs.RecordLemmas.{same_values}
 use Rattle.rfb_server.proofs.AlikeLemmas.{no_either}
@@ -156,3 +160,28 @@ same_asked one other whole wide high all all_too =
     let q' : y < one.known.height = rw (← one.alike.area_high, ← one.alike.area_is.high) q in
     (all x y p' q').1 ∙ sym (all_too x y (rw (← wide) p') (rw (← high) q')).1) in
     same_places one.area.asked other.area.asked one.area.whole other.area.whole asked wholes
+
+-- ---- nothing is marked
+
+pub shown_by : (s : Session) (found : Option ℕ) (none : Bool) →
+    HasNextCell (is_in s.marks) s.marks.width s.marks.height 0 found → is_some found ≡ not none →
+    none ≡ true → IsShown s
+shown_by s None none next e f = λ x y p q.
+    let wide : x < s.marks.width = rw (s.alike.marks_wide) p in
+    let high : y < s.marks.height = rw (s.alike.marks_high) q in
+    next x y wide high (omega arith) (all_cells s.marks.width s.marks.height x y wide high)
+shown_by s (Some cell) none next e f = absurd (both_ways (not none) (rw f refl) (sym e))
+
+-- then both viewers have what the screen shows
+pub shown_alike : (screen : Grid Colour) (one other : Session) → Follows screen one → Follows screen other →
+    one.format ≡ other.format → IsShown one → IsShown other → other.known ≡ one.known
+shown_alike screen one other about about_too form shown shown_too =
+    let wide : one.known.width ≡ other.known.width = sym about.alike.columns ∙ about_too.alike.columns in
+    let high : one.known.height ≡ other.known.height = sym about.alike.rows ∙ about_too.alike.rows in
+    sym (same_values None one.known other.known one.alike.known_whole other.alike.known_whole wide high (λ x y p q.
+    let p' : x < other.known.width = rw (← wide) p in
+    let q' : y < other.known.height = rw (← high) q in
+    about.caught_up.right x y (rw (one.alike.marks_wide) p) (rw (one.alike.marks_high) q) (shown x y p q)
+    ∙ (ap (λ (f : PixelFormat). Some (wanted_at screen f x y)) form
+    ∙ sym (about_too.caught_up.right x y (rw (other.alike.marks_wide) p') (rw (other.alike.marks_high) q')
+    (shown_too x y p' q')))))

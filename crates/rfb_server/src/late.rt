@@ -139,6 +139,18 @@ impl LateSession {
         }
     }
 
+    /// Whether both viewers are known to have the same, as `Session::knows_as` tells: never before
+    /// both handshakes are done.
+    pub fn knows_as(&self, other: &LateSession) -> bool
+        ensures { OnTrue result ((screen : Grid Colour) → Follows screen self.now
+            → Follows screen other.now → (notes_in other.now).known ≡ (notes_in self.now).known) }
+    {
+        match (&self.stage, &other.stage) {
+            (Stage::Within(session), Stage::Within(other)) => session.knows_as(other),
+            _ => false,
+        }
+    }
+
     /// Whether so little may need sending that no twin is worth finding, as `Session::is_slight`
     /// tells: so it is before its handshake is done.
     pub fn is_slight(&self) -> bool {

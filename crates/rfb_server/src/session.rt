@@ -11,6 +11,7 @@ mod claiming;
 mod entering;
 mod input;
 pub(crate) mod places;
+mod shown;
 mod twins;
 mod update;
 

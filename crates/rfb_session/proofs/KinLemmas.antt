@@ -4,21 +4,23 @@ use Rattle.std.proofs.Common.{true, false, nat_eq, List, length, set}
 use Rattle.std.proofs.Common.{Option, Some, None, refl, sym, ap, subst, arith, inl, inr, ◌⊎◌}
 use Rattle.std.proofs.Common.{if◌then◌else◌, slice_index_or}
 use Rattle.std.specs.Bool.{OnTrue}
-use Rattle.std.proofs.lemmas.Bool.{cases_eq, cases_lt, OnTrue_at}
+use Rattle.std.specs.Option.{ForSome}
+use Rattle.std.proofs.lemmas.Bool.{cases_eq, cases_lt, eqb-true, OnTrue_at}
 use Rattle.std.proofs.lemmas.List.{get_or_past}
 use Rattle.std.proofs.lemmas.Bool.Decides.{nat_tests}
 use Rattle.rfb_pixel.specs.declared.colour.Colour.{Colour}
 use Rattle.rfb_picture.specs.Grid.{Grid}
 use Rattle.rfb_picture.specs.Places.{has_bit}
+use Rattle.rfb_server.specs.KnownScreen.{Follows}
 use Rattle.rfb_server.specs.Model.{Notes}
 use Rattle.rfb_server.specs.Record.{KeepsOrForgets}
 use Rattle.rfb_session.specs.declared.share.event.Composing.{Composing}
 use Rattle.rfb_session.specs.declared.share.event.Composing.TheVariants.{Composed, NotDue, Waiting, NoSuchSeat}
 use Rattle.rfb_session.specs.declared.share.kin.Kin.{Kin}
 use Rattle.rfb_session.specs.declared.share.seat.ShareSeat.{ShareSeat}
-use Rattle.rfb_session.specs.ShareKin.{AreKin, KnowAlike, KnowsFirst, Leaves, StaysOrLeaves, StillKnows}
-use Rattle.rfb_session.specs.ShareKin.{is_met, known_at, known_in, number_at}
-use Rattle.rfb_session.specs.ShareSeats.{KeepsShareSeat}
+use Rattle.rfb_session.specs.ShareKin.{AreKin, KnowAlike, KnowAs, KnowsFirst, Leaves}
+use Rattle.rfb_session.specs.ShareKin.{StaysOrLeaves, StillKnows, is_met, known_at, known_in, number_at}
+use Rattle.rfb_session.specs.ShareSeats.{KeepsShareSeat, session_at}
 use Rattle.rfb_session.specs.ShareSlots.{ComposesIn, WantsRoomIn}
 use Rattle.rfb_session.specs.ShareSteps.{IsIdle}
 use Rattle.rfb_session.specs.ShareTwins.{IsGivenTo}
@@ -178,6 +180,40 @@ alike_given screen own given old new before after gives meets was alike =
       | inr bit ↦ (gives.given_to k bit).known
     ])
     (λ k e. let (apart, clear) = or_false (nat_eq k own) (has_bit given k) e in gives.others k apart clear) alike
+  where
+    same_as : (k n : ℕ) → nat_eq k n ≡ true → k ≡ n
+    same_as k n e = grind (arith, nat_tests, e)
+
+-- one seat more is found to know the same
+pub alike_more : (slots : List (Option ShareSeat)) (own n alike more number : ℕ) → number ≡ n →
+    ((k : ℕ) → has_bit more k ≡ (has_bit alike k || nat_eq k number)) → KnowAs slots own n →
+    ((k : ℕ) → has_bit alike k ≡ true → KnowAs slots own k) →
+    (k : ℕ) → has_bit more k ≡ true → KnowAs slots own k
+alike_more slots own n alike more number same bits here before k e =
+    elim (or_true (has_bit alike k) (nat_eq k number) (sym (bits k) ∙ e)) [
+      | inl old ↦ before k old
+      | inr new ↦ subst (λ (j : ℕ). KnowAs slots own j) (sym (eqb-true k number new ∙ same)) here
+    ]
+
+-- so it is of those that are found to know the same
+pub alike_shown : (screen : Grid Colour) (own alike : ℕ) (old new : Kin) (seats : List (Option ShareSeat)) →
+    ((k : ℕ) → has_bit alike k ≡ true → KnowAs seats own k) →
+    ((k : ℕ) → ForSome (seat_at k seats) (λ seat. Follows screen (session_at seat))) →
+    ((j k : ℕ) → AreKin new j k → is_met own alike j ≡ is_met own alike k) →
+    ((j k : ℕ) → AreKin new j k → is_met own alike j ≡ false → AreKin old j k) →
+    KnowAlike old seats → KnowAlike new seats
+alike_shown screen own alike old new seats found follow meets was before =
+    alike_met old new own alike seats seats meets was
+    (λ k e. elim (or_true (nat_eq k own) (has_bit alike k) e) [
+      | inl is ↦ ap (λ (n : ℕ). known_in (seat_at n seats)) (same_as k own is)
+      | inr bit ↦
+          let know = found k bit in
+          ap known_in know.knows.is_other
+          ∙ (ap (λ (g : Grid (Option ℕ)). Some g) (know.knows.knows screen (follow own know.one know.is_one)
+          (follow k know.knows.other know.knows.is_other))
+          ∙ sym (ap known_in know.is_one))
+    ])
+    (λ k e. refl) before
   where
     same_as : (k n : ℕ) → nat_eq k n ≡ true → k ≡ n
     same_as k n e = grind (arith, nat_tests, e)

@@ -4,8 +4,10 @@ use Rattle.std.specs.Prelude.{◌≡◌, ◌≢◌, ◌⊎◌, ℕ, ◌<◌, ◌
 use Rattle.std.specs.Prelude.{List, Option, Some, None}
 use Rattle.std.specs.Prelude.{slice_index_or, option_map}
 use Rattle.std.specs.Option.{ForSome}
+use Rattle.rfb_pixel.specs.declared.colour.Colour.{Colour}
 use Rattle.rfb_picture.specs.Grid.{Grid, at_or}
 use Rattle.rfb_picture.specs.Places.{has_bit}
+use Rattle.rfb_server.specs.KnownScreen.{Follows}
 use Rattle.rfb_server.specs.Model.{notes_in}
 use Rattle.rfb_session.specs.declared.share.kin.Kin.{Kin}
 use Rattle.rfb_session.specs.declared.share.seat.ShareSeat.{ShareSeat}
@@ -45,6 +47,19 @@ KnowsFirst slot = ForSome slot (λ seat. at_or (known_at seat) 0 0 None ≢ None
 abbrev pub KnowAlike : Kin → List (Option ShareSeat) → Type 0
 KnowAlike kin seats = (j k : ℕ) (one other : ShareSeat) → AreKin kin j k →
     seat_at j seats ≡ Some one → seat_at k seats ≡ Some other → known_at other ≡ known_at one
+
+-- whoever sits in the slot knows what one does, wherever both follow one screen
+pub record KnowsAs (one : ShareSeat) (slot : Option ShareSeat) : Type 0 where
+  pub other : ShareSeat
+  pub is_other : slot ≡ Some other
+  pub knows : (screen : Grid Colour) → Follows screen (session_at one) →
+      Follows screen (session_at other) → known_at other ≡ known_at one
+
+-- so it is of seat `k` and seat `own`
+pub record KnowAs (slots : List (Option ShareSeat)) (own k : ℕ) : Type 0 where
+  pub one : ShareSeat
+  pub is_one : seat_at own slots ≡ Some one
+  pub knows : KnowsAs one (seat_at k slots)
 
 -- whoever sits in the slot sat there before, and knows what it knew
 abbrev pub StillKnows : Option ShareSeat → Option ShareSeat → Type 0

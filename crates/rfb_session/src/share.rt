@@ -14,6 +14,7 @@ mod drawing;
 pub(crate) mod event;
 mod joining;
 pub(crate) mod kin;
+mod meeting;
 pub(crate) mod mirror;
 mod mirroring;
 mod receiving;

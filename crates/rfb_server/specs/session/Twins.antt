@@ -1,5 +1,5 @@
 -- What is the same of two sessions, and what the one takes over from the other.
-use Rattle.std.specs.Prelude.{◌≡◌, ℕ, ◌<◌, ◌||◌, ◌⊎◌, Bool, true, Option, Some, None, []}
+use Rattle.std.specs.Prelude.{◌≡◌, ℕ, ◌<◌, ◌||◌, ◌⊎◌, Bool, true, false, Option, Some, None, []}
 use Rattle.std.specs.Int.{div_ceil}
 use Rattle.rfb_pixel.specs.declared.colour.Colour.{Colour}
 use Rattle.rfb_pixel.specs.Format.{PixelFormat}
@@ -50,6 +50,11 @@ Agree one other = (x y : ℕ) → x < one.known.width → y < one.known.height �
 abbrev pub AsksAll : Bool → Session → Type 0
 AsksAll whole session = (x y : ℕ) → x < session.known.width → y < session.known.height →
     (asked_at session.area x y ≡ true) × (whole_at session.area x y ≡ whole)
+
+-- no place is marked
+abbrev pub IsShown : Session → Type 0
+IsShown session = (x y : ℕ) → x < session.known.width → y < session.known.height →
+    is_in session.marks x y ≡ false
 
 -- ---- what is taken over
 

@@ -140,6 +140,15 @@ impl ShareSeat {
         self.session.is_twin_of(&other.session, knows_same)
     }
 
+    /// Whether it knows the same as another seat, where the sessions of both follow one screen. It
+    /// may say no where that is so.
+    pub(crate) fn knows_as(&self, other: &ShareSeat) -> bool
+        ensures { OnTrue result ((screen : Grid Colour) → Follows screen (session_at self.now)
+            → Follows screen (session_at other.now) → known_at other.now ≡ known_at self.now) }
+    {
+        self.session.knows_as(&other.session)
+    }
+
     /// Whether something is known of the first place. It may say no where that is so.
     pub(crate) fn knows_first(&self) -> bool
         ensures { OnTrue result (at_or (known_at self.now) 0 0 None ≢ None) }

@@ -43,7 +43,11 @@ impl Share {
     {
         let twins = twins_in(&self.seats, &self.kin, seat.place(), others);
         match self.compose(seat)? {
-            Composing::Composed => Ok((Composing::Composed, self.give(seat, twins))),
+            Composing::Composed => {
+                let given = self.give(seat, twins);
+                self.meet_alike(seat);
+                Ok((Composing::Composed, given))
+            }
             told => Ok((told, Seats::none())),
         }
     }

@@ -1,5 +1,7 @@
 //! Seats for which one update is composed, and those that differ in one thing.
 
+ghost use Rattle.std.specs.Prelude.{◌≤◌};
+
 use super::*;
 use crate::seats::Seats;
 
@@ -117,5 +119,42 @@ fn told_of_twins(alloc: Global) -> Result<[bool; 6], AllocError> {
 fn an_update_is_given_to_those_to_whom_it_is_the_same(rt: HostRuntime) -> Result<(), AllocError> {
     let told = told_of_twins(rt.alloc())?;
     assert_eq!(rt; told, [true; 6]);
+    Ok(())
+}
+
+// Each of the first viewers has asked for all by itself, and been composed for alone.
+fn each_has_all(share: &mut Share, count: u8) -> bool
+    requires { count ≤ 8 }
+{
+    let mut all = true;
+    for number in 0..count {
+        let seat = at(number);
+        all = all
+            && send(share, seat, ASKS_ALL)
+            && share.compose_shared(seat, Seats::none()).is_ok()
+            && takes(share, seat, BLACK_UPDATE);
+    }
+    all
+}
+
+fn told_of_each(alloc: Global) -> Result<[bool; 4], AllocError> {
+    let mut share = share_of_two_places(alloc)?;
+    let others = Seats::all().without(at(3));
+    let told = [
+        all_greeted(&mut share) && each_has_all(&mut share, 7),
+        share.worth_sharing(at(3), others) == others.without(at(7)),
+        each_has_all(&mut share, 8),
+        share.worth_sharing(at(3), others) == others,
+    ];
+    drop(share);
+    Ok(told)
+}
+
+#[test]
+fn those_who_came_one_by_one_are_looked_for_once_they_have_all(
+    rt: HostRuntime,
+) -> Result<(), AllocError> {
+    let told = told_of_each(rt.alloc())?;
+    assert_eq!(rt; told, [true; 4]);
     Ok(())
 }

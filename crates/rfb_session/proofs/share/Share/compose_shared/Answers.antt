@@ -15,8 +15,8 @@ use Rattle.rfb_session.proofs.share.Share.compose_shared.Goals as goal
 pub twins_in-twins-requires : goal.twins_in-twins-requires
 twins_in-twins-requires c = record { own = c.place.ensures.below; alike = c.args.self.now.alike }
 
-pub give-requires : goal.give-requires
-give-requires c = λ k e.
+pub give-given-requires : goal.give-given-requires
+give-given-requires c = λ k e.
     let s = c.args.self.now in
     let composes = c.in_ok-told.ensures.composes in
     let twin : IsTwinIn s.seats c.args.seat k =
