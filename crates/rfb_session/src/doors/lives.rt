@@ -12,6 +12,7 @@ use crate::doors::host::{Arrival, Arrivals, Host};
 use crate::doors::place::Place;
 use crate::doors::turns::turn;
 use crate::doors::waiting::{how_long, is_over};
+use crate::loops::turns;
 
 /// Lets a device in, does a turn and closes what is over, time after time, until the core says that
 /// all has ended, or the clock does. It waits between as `run` does. `part` is as for `turn`. The
@@ -30,8 +31,7 @@ pub fn live<C: Host, D: Device + Drop, S: Clock + Arrivals<D>>(
         core.old core.new doors.old doors.new }
 {
     let mut until = Pause::Look;
-    // So many turns are never done.
-    for _turn in 0..u64::MAX {
+    for _turn in 0..turns() {
         if core.is_done() || !shell.wait(until) {
             return;
         }

@@ -9,6 +9,7 @@ use crate::doors::device::Device;
 use crate::doors::incoming::hear;
 use crate::doors::outgoing::tell;
 use crate::doors::waiting::{are_over, how_long};
+use crate::loops::turns;
 
 /// Turns, one after the other, until each door may be closed and nothing waits there, or until the
 /// clock says so. It waits between them where no door is both ready and wanted. `part` is as for
@@ -23,8 +24,7 @@ pub fn run<C: Core, D: Device, K: Clock>(
         core.old core.new doors.old doors.new }
 {
     let mut until = Pause::Look;
-    // So many turns are never done.
-    for _turn in 0..u64::MAX {
+    for _turn in 0..turns() {
         if are_over(core, doors.len()) || !clock.wait(until) {
             return;
         }

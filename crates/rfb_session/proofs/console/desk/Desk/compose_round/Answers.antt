@@ -8,7 +8,8 @@ loop-step-init c = round_start c.args.is_busy c.args.self.now c.to_serve-left.re
 
 pub loop-step-preserved : goal.loop-step-preserved
 loop-step-preserved c =
-    round_next c.without_all-left.result c.args.is_busy c.loop-step-test.true c.after-seat.ensures c.to_serve-left.ensures.rests
+    round_next c.without_all-left.result c.args.is_busy c.loop-step-test.true c.after-seat.ensures
+    c.to_serve-left.ensures.rests
     c.loop-step.invariant c.has-tries.ensures c.serve-served.ensures.one c.without-others.ensures
     c.without_all-left.ensures (c.serve-served.ensures.small c.if-served.false)
 
@@ -20,7 +21,8 @@ returns-then-is_empty c =
 
 pub returns-then-served : goal.returns-then-served
 returns-then-served c =
-    round_ends c.without_all-left.result c.args.is_busy c.loop-step-test.true c.after-seat.ensures c.to_serve-left.ensures.rests
+    round_ends c.without_all-left.result c.args.is_busy c.loop-step-test.true c.after-seat.ensures
+    c.to_serve-left.ensures.rests
     c.loop-step.invariant c.has-tries.ensures c.serve-served.ensures.one c.without-others.ensures
     c.without_all-left.ensures (c.serve-served.ensures.large c.if-served.true)
 

@@ -11,7 +11,8 @@ returns-in_ok-tell_of-in-Ok-clause-hears c =
 pub returns-after-is_new-clause-hears : goal.returns-after-is_new-clause-hears
 returns-after-is_new-clause-hears c =
     hears_not c.args.self.now c.stir.new.self _ _ c.args.seat c.args.bytes.now c.stir.ensures (λ j. refl) refl
-    (record { rules = refl; hold = refl; first = refl; large = refl }) c.in-Err.fault c.none.result c.in_ok-is_new-in-Err.is_new
+    (record { rules = refl; hold = refl; first = refl; large = refl })
+    c.in-Err.fault c.none.result c.in_ok-is_new-in-Err.is_new
     c.in-Err.ensures.refused c.none.ensures c.in_ok-is_new-in-Err.ensures
 
 pub returns-in_ok-tell_of-in-Ok-clause-idle : goal.returns-in_ok-tell_of-in-Ok-clause-idle

@@ -9,4 +9,5 @@ returns c =
     c.in_ok-let_all_go.ensures c.still-is_held.ensures c.compose_unless-round.new.self c.go_round.new.self
     c.plan_next.new.self c.is_busy-is_busy.result c.compose_unless-round.result.wants c.compose_unless-round.result.last
     c.is_busy-is_busy.ensures c.compose_unless-round.ensures.held c.compose_unless-round.ensures.none
-    c.compose_unless-round.ensures.composes c.go_round.ensures c.plan_next.ensures.share c.plan_next.ensures.beside c.plan_next.ensures.wakes
+    c.compose_unless-round.ensures.composes c.go_round.ensures c.plan_next.ensures.share
+    c.plan_next.ensures.beside c.plan_next.ensures.wakes
