@@ -33,7 +33,7 @@ EndsAs old bytes fault new =
     (SessionStandsFor serving screen) old bytes
 
 -- after a fault of a server: from each state and prefix that it stood for, the bytes have led
--- through whole items to those of the next one that it ends at, and it has the screen and the notes
+-- through whole items to those of the next one, at which it ends. It has the screen and the notes
 -- of the state that these whole items leave
 abbrev pub KeepsNotes : ServerFault → Server → List ℕ → Server → Type 0
 KeepsNotes fault old bytes new =

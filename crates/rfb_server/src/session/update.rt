@@ -46,15 +46,18 @@ impl Session {
     ghost use Rattle.rfb_server.specs.UpdateCall.{SendsUpdate, OwesUpdate, OwesNone};
 
     /// Appends to `out` one FramebufferUpdate, RFC 6143 section 7.6.1, of what the viewer asked for
-    /// and does not have of the screen, which it is lent, and tells whether it did: exactly where
-    /// the handshake is done, the session has not failed, and such a place is there. First in it is
-    /// a CopyRect for each hint that is of use, the oldest first, where the viewer listed CopyRect:
-    /// a copy over asked places, none of them to be sent whole, which leaves more of them right
-    /// than there were. Then come pixels. After an update nothing is asked any more, and no hint is
-    /// kept. `out` stays the caller's; what was in it stays in front. Room is asked for once,
-    /// before anything changes: at most 260 bytes, and 12 and its pixels' bytes for each cell of 64
-    /// by 64 places that holds an asked place; or twice the room that there was, if that is more.
-    /// Where there is none it gives the error, if an update is due, and nothing changes.
+    /// and does not have of the screen, which it borrows. It reports whether it did: exactly where
+    /// the handshake is done, the session has not failed, and such a place is there.
+    ///
+    /// First in it is a CopyRect for each hint that is of use, the oldest first, where the viewer
+    /// listed CopyRect. Such a hint copies over asked places, none of them to be sent whole, and
+    /// leaves more of them right than there were. Then come pixels. After an update nothing is
+    /// asked any more, and no hint is kept.
+    ///
+    /// `out` stays the caller's; what was in it stays in front. Room is asked for once, before
+    /// anything changes: at most 260 bytes, and 12 and its pixels' bytes for each cell of 64 by 64
+    /// places that holds an asked place; or twice the room that there was, if that is more. Where
+    /// there is none it gives the error, if an update is due, and nothing changes.
     ///
     /// The session has to follow the screen: `drawn` notified it of each drawing.
     pub fn compose(

@@ -14,11 +14,15 @@ ghost use Rattle.rfb_session.specs.relay.Sent.{Sent};
 ghost use Rattle.rfb_session.specs.relay.Server.{IsFreshRelay};
 
 /// What left for a server since it was called, and what waits for it, is each once and in order:
-/// the answers of its handshake, a request for its whole screen, and once its first update is whole
-/// what the viewers do, as it comes, and requests for what has changed, each after the update that
-/// answers the one before. Nothing else is, and nothing that viewers do where they only view. Once
-/// it has gone, also where all ends with that, what waited is forgotten. Nothing leaves before it
-/// is called again; then all this begins anew.
+///
+/// - the answers of its handshake;
+/// - a request for its whole screen;
+/// - once its first update is whole, what the viewers do, as it comes, and requests for what has
+///   changed, each after the update that answers the one before.
+///
+/// There is nothing else, and nothing that viewers do where they only view. Once it has gone, also
+/// where all ends with that, what waited is forgotten. Nothing leaves before it is called again;
+/// then all this begins anew.
 pub fn what_is_sent_leaves_once_and_in_order<S: Drop>()
     ensures begins { (setup : RelaySetup) (relay : ARelay S) → IsFreshRelay setup relay →
         HasSent relay [] × (relay.to_server ≡ []) }
