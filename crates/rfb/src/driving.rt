@@ -9,17 +9,17 @@ ghost use Rattle.rfb.specs.Context.{KeepsStreams};
 ghost use Rattle.rfb.specs.Drive.{Drives, FailsToDrive, IsDriverOf, LeavesDrive};
 
 mod drive_words;
+mod driver_setup;
 mod files;
 mod result;
 mod rig;
 mod sentences;
-mod setup;
 
 use crate::context::Context;
 use crate::disposal::dispose;
+use crate::driving::driver_setup::setup_of;
 use crate::driving::result::drive_result;
 use crate::driving::rig::FileRig;
-use crate::driving::setup::setup_of;
 use crate::explain::{Notes, tell_unreached};
 use crate::fault::Failure;
 use crate::reaching::connect_in_time;

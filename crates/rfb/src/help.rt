@@ -48,8 +48,9 @@ Status:
   1  it failed, and the last line on standard error says why
   2  the words of the command ask for nothing that there is
 
-With --explain, at any command, sentences on standard error say how it goes and why it fails. At a
-terminal, with RFB_EXPLAIN=1 in the environment, and at `share` and `relay`, they do by themselves.
+With --explain, at any command, sentences on standard error say how it goes and why it fails. They
+come without it at a terminal, with RFB_EXPLAIN=1 in the environment, and at `share`, `relay` and
+`drive`.
 
 `rfb help faults` has refusals and faults by number, docs/PROTOCOL.md the language of scripts.";
 
@@ -101,10 +102,11 @@ Examples:
 
 const VIEWERS: &str = "\
 Each connection has a fresh screen, with a test picture or the one of --picture. After each update
-the test picture scrolls up by a row. The other one stays as it is: once a viewer has it, a request
-for what has changed is not answered. As soon as a connection ends, a line on standard output says
-`ok` and how many updates were sent, or `fault` and which fault ended it; then the next one is
-served. With --timeout S a viewer that sends nothing for S seconds is let go by `fault 29 Device`.
+the test picture scrolls up by a row. A picture of --picture never changes, so a viewer that has all
+of it gets no more updates, unless it asks for all again. As soon as a connection ends, a line on
+standard output says `ok` and how many updates were sent, or `fault` and which fault ended it; then
+the next one is served. With --timeout S a viewer that sends nothing for S seconds is let go by
+`fault 29 Device`.
 
 A picture is a PPM (P6) of 1 to 4096 pixels a side, with 255 or 65535 as its largest component; it
 has its own size, so --width and --height do not go with it. What is wrong with a file is said as

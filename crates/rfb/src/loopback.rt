@@ -107,6 +107,7 @@ fn finish<P: AllocGlobal, R, W: Write, E: Write, C: Read + Write>(
     let explains = context.explains;
     let mut refusals = LineWriter::new(context.alloc(), &mut *context.errors)?;
     let played = play_all(ends, link, steps, explains, &mut refusals);
+    // It holds the stream of errors.
     drop(refusals);
     played?;
     write_picture(&ends.viewer, context.output)

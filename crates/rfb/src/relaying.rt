@@ -8,15 +8,15 @@ ghost use Rattle.std.specs.Prelude.{OnOk, OnErr, IfErr};
 ghost use Rattle.rfb.specs.Context.{KeepsStreams};
 ghost use Rattle.rfb.specs.Relay.{FailsToRelay, IsRelayOf, LeavesRelay, Relays};
 
+mod relay_setup;
 mod relay_words;
-mod setup;
 
 use crate::context::Context;
 use crate::disposal::dispose;
 use crate::explain::{Notes, tell_unreached};
 use crate::fault::Failure;
 use crate::reaching::connect_once;
-use crate::relaying::setup::setup_of;
+use crate::relaying::relay_setup::setup_of;
 use crate::serving::listener_at;
 use crate::sharing::READ_AT_ONCE;
 use crate::sharing::ending::result_of;

@@ -5,8 +5,8 @@ ghost use Rattle.rfb.specs.Relay.{IsSetupOf};
 
 use crate::defaults::{HOLD_SECONDS, viewer_setup};
 use crate::relaying::RelayOptions;
+use crate::sharing::console_setup::NAME_MAX;
 use crate::sharing::hosting::rules_of;
-use crate::sharing::setup::NAME_MAX;
 use rfb_session::relay::RelaySetup;
 
 // How many bytes of each text of a viewer's are passed on at most.
