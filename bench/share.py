@@ -29,6 +29,7 @@ SIZE = (64, 48) if ONCE else (1920, 1080)
 CONSOLE = 2 if ONCE else 1500
 FRAMES = 2 if ONCE else 40
 LINES = 3 if ONCE else 300
+SCROLLS = 2 if ONCE else 100
 
 
 def begun(width, height):
@@ -77,6 +78,29 @@ def frames(count, encodings, rows=[]):
     crowd.leaves()
     share.quits()
     return f"{seconds:.2f}"
+
+
+def scrolls(drawn_over):
+    """Processor milliseconds for a scroll by 16 rows, eight viewers; and for one with a place drawn
+    over it."""
+    width, height = SIZE
+    share = begun(width, height)
+    crowd = Crowd(share, 8, COPIES)
+    crowd.looks_for(0, 0, "%02x%02x%02x" % tuple(picture(*SIZE)[0][:3]))
+    share.say(b"pixels 0 0 %d %d\n" % SIZE + b"".join(picture(*SIZE)) + b"\n")
+    crowd.found()
+    before = share.ticks()
+    for step in range(SCROLLS):
+        colour = f"{step + 1:06x}"
+        crowd.looks_for(0, height - 1, colour)
+        share.say(f"scroll 0 0 {width} {height} 0 -16\n"
+                  f"fill 0 {height - 16} {width} 16 {colour}\n"
+                  + f"fill {width // 2} {height // 2} 1 1 {colour}\n" * drawn_over)
+        crowd.found()
+    each = (share.ticks() - before) * 10 / SCROLLS
+    crowd.leaves()
+    share.quits()
+    return f"{each:.1f}"
 
 
 def memory():
@@ -159,6 +183,8 @@ ROWS = [
     ("the same in Hextile", lambda: frames(1, HEXTILE)),
     ("eight viewers, Raw", lambda: frames(8, RAW)),
     ("the same in Hextile", lambda: frames(8, HEXTILE)),
+    ("a scroll by 16 rows, eight viewers, processor ms", lambda: scrolls(False)),
+    ("the same with one place drawn over it", lambda: scrolls(True)),
     ("largest memory, eight viewers; a connection before its handshake", memory),
     ("a line to its pixel, median, in ms: alone", delay),
     ("beside a flood of pointers", lambda: delay(1, "pointers")),
