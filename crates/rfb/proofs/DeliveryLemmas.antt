@@ -1,4 +1,4 @@
--- Bytes that cross a connection in parts, and what each part does to the end that it comes to.
+-- Bytes that cross a connection in parts, and what each part does to the end that it reaches.
 use Rattle.std.proofs.Common.{◌≡◌, ◌≢◌, ◌∙◌, ◌+◌, ◌-◌, sym, ap, refl, subst, inl, inr, ℕ, [], ◌++◌, List, length, take}
 use Rattle.std.proofs.Common.{drop, append_assoc, append-nil, take-append-drop, Option, Some, None, Result, Ok, Err}
 use Rattle.std.proofs.Common.{OnOk, arith}

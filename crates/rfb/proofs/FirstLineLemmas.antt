@@ -16,7 +16,7 @@ none_in text k within none j d l =
     let same : get_or (take k text) j d ≡ get_or text j 0 = grind (arith, common_steps) in
     false_from_ne_true _ (λ yes. none j (omega arith) low (ap (λ b. b == 10) (sym same) ∙ yes))
 
--- a text up to its first newline, and what stands after that
+-- a text up to its first newline, and what follows that
 pub line_first : (text : List ℕ) (k : ℕ) →
     NoneBefore (Passes (is_byte 10) text) 0 (length text) k → Passes (is_byte 10) text k →
     lines_of text ≡ take k text ∷ lines_of (take (length text - (k + 1)) (drop (k + 1) text))

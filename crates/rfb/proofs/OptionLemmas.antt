@@ -1,4 +1,4 @@
--- What was given to options, from what the getters tell.
+-- What was given to options, from what the getters return.
 use Rattle.std.proofs.Common.{◌≡◌, ◌<◌, ◌≤◌, ◌∙◌, arith, ap, ap₂, sym, refl, subst, codes, []}
 use Rattle.std.proofs.Common.{ℕ, Bool, true, false, not, ◌&&◌}
 use Rattle.std.proofs.Common.{List, Option, Some, None, Result, Ok, Err, MatchResult}

@@ -1,4 +1,4 @@
--- What stands in place of standard input and output.
+-- What takes the place of standard input and output.
 use Rattle.std.proofs.Common.{◌≡◌, ◌⊎◌, sym, subst, inl, inr, OnOk, OnErr, Result, Ok}
 use Rattle.std.proofs.Common.{Err, Option, None, Some, List, ℕ}
 use Rattle.std.proofs.Common.{Bor}
@@ -23,7 +23,7 @@ into_file None Acts Others before after gives acts = gives before after acts
 into_file (Some file) Acts Others before after gives (same, blank, full, acts) =
     (same, blank, full, gives blank full acts)
 
--- what is done with what stands in place of the input is done through it
+-- what is done with what takes the place of the input is done through it
 pub through : (input i : Input) (output : Option (Bor Text))
     (Acts : Option (List ℕ) → Option (List ℕ) → Option (List ℕ) → Type 0)
     (read before after : Option (List ℕ)) →

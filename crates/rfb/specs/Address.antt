@@ -23,7 +23,7 @@ port_at number = if nat_le number 99 then 5900 + number else number
 abbrev pub NamesDisplay : Text → ℕ → Type 0
 NamesDisplay digits port = IsNumber digits × (port ≡ port_at (digits_value 10 digits))
 
--- after the first colon stands a display or a port; or one more colon, and a port from 1 to 65535
+-- after the first colon comes a display or a port; or one more colon, and a port from 1 to 65535
 abbrev pub NamesPort : Text → ℕ → Type 0
 NamesPort after port =
     NamesDisplay after port

@@ -126,7 +126,7 @@ FailsIn Stops read (Fault fault) = ⊤
 FailsIn Stops read (Engine fault) = ⊥
 FailsIn Stops read (Picture flaw) = ⊥
 
--- it is the first one of what was read, whose kind its first line tells
+-- it is the first one of what was read, and the first line says of which kind that is
 abbrev pub FailsAtAny : Option (List ℕ) → Failure → Type 0
 FailsAtAny read failure = FailsIn StopsReadingAny read failure
 
@@ -136,8 +136,8 @@ FailsAt read failure = FailsIn StopsReading read failure
 
 -- ---- any command
 
--- what was read and written at a command; of the bytes that come over a connection nothing is
--- known, and of a share, a relay and a drive it is said what happened to its core; P has the files
+-- what was read and written at a command; P has the files. Of the bytes that come over a connection nothing is known.
+-- Of a share, a relay and a drive it is said what happened to its core
 abbrev pub Does : (P : Type 0) → Task → Option (List ℕ) → Option (List ℕ) → Option (List ℕ) → Type 0
 Does P Script read before after = PlaysScript read before after
 Does P Loop read before after = PlaysSomeScript read before after
@@ -149,9 +149,9 @@ Does P (Share options) read before after = Shares options
 Does P (Relay options) read before after = Relays options
 Does P (Drive options) read before after = Drives P options
 
--- what was written at a command that failed: nothing, or a beginning of what it was to write; what
--- a view keeps of a server's bytes is written as they come, and has what its viewer was fed; and so are
--- the pictures after its updates
+-- what was written at a command that failed: nothing, or a beginning of what it was to write. What a view keeps of a
+-- server's bytes is written as they come, and is what its viewer was fed. The pictures after its updates are written as
+-- they come, too
 abbrev pub Leaves : (P : Type 0) → Task → Option (List ℕ) → Option (List ℕ) → Option (List ℕ) → Type 0
 Leaves P Script read before after = LeavesScript read before after
 Leaves P Loop read before after = LeavesSomePicture before after

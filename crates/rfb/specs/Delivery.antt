@@ -1,4 +1,4 @@
--- Bytes that cross a connection, and what they do to the end that they come to.
+-- Bytes that cross a connection, and what they do to the end that they reach.
 use Rattle.std.specs.Prelude.{◌≡◌, ◌≢◌, ◌⊎◌, ℕ, List, ◌++◌, length, Option, Some, None}
 use Rattle.std.specs.Io.KnownBytes.{Appends, Consumes}
 use Rattle.rfb_server.specs.declared.fault.ServerFault.{ServerFault}
@@ -35,9 +35,9 @@ pub record Crosses (bytes : List ℕ) (before after unread left : Option (List �
 
 -- ---- an end
 
--- what is known of an end of one kind: the fault that it has failed with, if it has; what it stands
--- for; that it was fed bytes, all of them, or some until it ended, by what stood before its answers
--- and after them; and which fault is want of memory
+-- what is known of an end of one kind: the fault that it has failed with, if it has; and what it
+-- stands for. Further that it was fed bytes, all of them, or some until it ended: what was sent
+-- before its answers, and what with them. And which fault is want of memory
 pub record Receiver (E F S C : Type 0) : Type 1 where
   pub fault : E → Option F
   pub stands : C → E → S → List ℕ → Type 0
@@ -46,8 +46,8 @@ pub record Receiver (E F S C : Type 0) : Type 1 where
   pub no_memory : F
 
 module _ {E F S C : Type 0} where
-  -- it ended at some of these bytes, and not for want of memory; its answers to those before stand
-  -- after the others, and the bytes after them changed nothing
+  -- it ended at some of these bytes, and not for want of memory; its answers to those before follow
+  -- the others, and the bytes after them changed nothing
   pub record EndsTaking (r : Receiver E F S C) (old : E) (bytes before after : List ℕ) (new : E)
       : Type 0 where
     pub fault : F
@@ -57,8 +57,8 @@ module _ {E F S C : Type 0} where
     pub ended : r.ended old read (Some before) (Some after) fault new
     pub has_memory : fault ≢ r.no_memory
 
-  -- these bytes came to it: it was fed them all, and its answers stand after the others; or it
-  -- ended at some; and one that had failed takes them to no effect
+  -- these bytes reached it: it was fed them all, and its answers follow the others; or it ended at
+  -- some. One that had failed takes them to no effect
   pub record Takes (r : Receiver E F S C) (old : E) (bytes before after : List ℕ) (new : E)
       : Type 0 where
     pub fed : r.fault new ≡ None → r.fed old bytes (Some before) (Some after) new
@@ -66,7 +66,7 @@ module _ {E F S C : Type 0} where
         r.fed old bytes (Some before) (Some after) new ⊎ EndsTaking r old bytes before after new
     pub failed : r.fault old ≢ None → (new ≡ old) × (after ≡ before)
 
-  -- bytes crossed a connection, and what came of them came to it
+  -- bytes crossed a connection, and what came of them reached it
   pub record Reaches (r : Receiver E F S C) (bytes : List ℕ)
       (sent_before sent unread left : Option (List ℕ)) (old : E) (before after : List ℕ) (new : E)
       : Type 0 where

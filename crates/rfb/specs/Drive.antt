@@ -1,5 +1,5 @@
--- What a drive of a server does, as far as its core tells it: all that happens to it is what its doors
--- bring, and what leaves there.
+-- What a drive of a server does, as far as its core shows it: all that happens to the core is what its doors bring, and
+-- what leaves there.
 use Rattle.std.specs.Prelude.{◌≡◌, ⊤, ℕ, ◌*◌, List, Option, Some, None}
 use Rattle.rfb_session.specs.doors.Tenants.{Goes}
 use Rattle.rfb_session.specs.relay.Setup.{viewing_by}

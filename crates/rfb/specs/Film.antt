@@ -21,7 +21,7 @@ use Rattle.rfb.specs.View.{Saw, StopsSeeing}
 
 -- ---- pictures, one after each update
 
--- where a film has come to: what stands on the output, and why a write failed, if one has
+-- how far a film is: what the output has, and why a write failed, if one has
 pub record Reel : Type 0 where
   pub bytes : Option (List ℕ)
   pub cut : Option OwnFault
@@ -127,7 +127,7 @@ StopsFollowing film before after = (failure : Failure) × FailsToFollowSome film
 abbrev pub stopped_so_often : Stopping → ℕ
 stopped_so_often stopping = stopping.failures
 
--- what a film is written to, the name of the reference to it, why a write failed, and who tells of it
+-- what a film is written to, the name of the reference to it, why a write failed, and who reports it
 abbrev pub filmed_on : {W C N : Type 0} → Filming W C N → W
 filmed_on filming = filming.output.now
 
@@ -140,7 +140,7 @@ cut_of filming = filming.fault
 abbrev pub told_of : {W C N : Type 0} → Filming W C N → Telling N
 told_of filming = filming.telling.now
 
--- where it has come to
+-- how far it is
 abbrev pub reel_of : {W C N : Type 0} → (W → Option (List ℕ)) → Filming W C N → Reel
 reel_of contents filming = reel (contents (filmed_on filming)) (cut_of filming)
 

@@ -18,7 +18,7 @@ use Rattle.rfb.specs.Words.{AreWants}
 
 -- ---- words
 
--- words are a slot, and others after it of which this holds
+-- words are a slot, and others after it for which this holds
 abbrev pub IsSlotThen : ℕ → List (List ℕ) → (List (List ℕ) → Type 0) → Type 0
 IsSlotThen slot words Holds =
     (s : List ℕ) × (rest : List (List ℕ)) × (words ≡ s ∷ rest) × IsSlotWord s slot × Holds rest
@@ -65,8 +65,7 @@ SaysAt words (Event (Of slot event)) =
 SaysAt words (Settle slot) = IsSlotThen slot words (λ line. line ≡ codes "settle" ∷ [])
 SaysAt words step = ⊥
 
--- the words of a line ask for a step: drawings and hints stand alone, and what is of one slot after
--- `at`
+-- the words of a line ask for a step: drawings and hints by themselves, and what is of one slot after `at`
 abbrev pub SaysHubStep : List (List ℕ) → HubStep → Type 0
 SaysHubStep words (Event (Fill rect colour)) =
     Begins (codes "fill") words (λ rest. AreFill rest rect colour)
@@ -105,8 +104,8 @@ AsksInHub line = (step : HubStep) × SaysHubStep (words_of line) step
 
 -- ---- what lines are
 
--- lines, the first of which has this number, ask for these steps in their order, each with the
--- number of its line; empty lines ask for nothing
+-- lines, numbered from this on, ask for these steps in their order, each with the number of its line; empty lines ask
+-- for nothing
 abbrev pub AskInHub : ℕ → List (List ℕ) → List HubNumbered → Type 0
 AskInHub n lines steps =
     AskInOrder (λ (s : HubNumbered). s.line) (λ line s. SaysHubStep (words_of line) s.step) n lines
@@ -179,7 +178,7 @@ abbrev pub StopsReadingHub : List (List ℕ) → Failure → Type 0
 StopsReadingHub lines failure =
     StopsAt (λ n. IsFirstBadInHub lines n ⊎ IsWithoutShow lines n) failure
 
--- why they are read to no script of either kind; the first line that is not empty tells the kind
+-- why they are read to no script of either kind; the first line that is not empty decides the kind
 abbrev pub StopsReadingAny : List (List ℕ) → Failure → Type 0
 StopsReadingAny lines failure =
     (BeginHub lines × StopsReadingHub lines failure)

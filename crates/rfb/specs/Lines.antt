@@ -6,8 +6,8 @@ abbrev pub AreEmpty : List (List ℕ) → Type 0
 AreEmpty lines = All (λ line. line ≡ []) lines
 
 module _ {A : Type 0} (number : A → ℕ) (Asks : List ℕ → A → Type 0) where
-  -- lines, the first of which has this number, ask for these things in their order, each with the
-  -- number of its line; empty lines ask for nothing
+  -- lines, numbered from this on, ask for these things in their order, each with the number of its
+  -- line; empty lines ask for nothing
   abbrev pub AskInOrder : ℕ → List (List ℕ) → List A → Type 0
   AskInOrder n [] [] = Unit {0}
   AskInOrder n [] (a ∷ all) = ⊥
@@ -16,7 +16,7 @@ module _ {A : Type 0} (number : A → ℕ) (Asks : List ℕ → A → Type 0) wh
   AskInOrder n ((char ∷ line) ∷ lines) (a ∷ all) =
       (number a ≡ n) × Asks (char ∷ line) a × AskInOrder (n + 1) lines all
 
--- lines, the first of which has this number: empty ones, one of which this holds, and later ones
+-- lines, numbered from this on: empty ones, one for which this holds, and later ones
 pub record AreLed (First : List ℕ → Type 0) (Later : ℕ → List (List ℕ) → Type 0) (n : ℕ)
     (lines : List (List ℕ)) : Type 0 where
   pub blank : List (List ℕ)

@@ -47,8 +47,8 @@ LeavesSomePicture before after = (after ≡ before) ⊎ BeginsSomePicture before
 
 -- ---- what each kind of event does to both ends and what is in flight
 
--- a drawing or a hint is refused where what it needs leaves the screen, and then nothing changes;
--- else the server has this screen and these hints, and nothing else changes
+-- a drawing or a hint is refused where what it needs leaves the screen, and then nothing changes.
+-- Else the server has this screen and these hints, and nothing else changes
 pub record DrawsOn (Inside : Type 0) (screen : Grid Colour) (hints : List Hint) (old : Ends)
     (refused : Option Refused) (new : Ends) : Type 0 where
   pub refusal : RefusesUnless Inside refused
@@ -57,8 +57,8 @@ pub record DrawsOn (Inside : Type 0) (screen : Grid Colour) (hints : List Hint) 
   pub hinted : refused ≡ None → hints_of new.server ≡ hints
   pub others : new ≡ record old { server = new.server }
 
--- a call is refused as what the viewer stands for says, and then nothing changes; else its message
--- is in flight to the server after the others, and of all else only the viewer may change
+-- a call is refused as the viewer's state says, and then nothing changes. Else its message is in
+-- flight to the server after the others, and of all else only the viewer may change
 pub record Sends (refusal_in : ViewerState → List ℕ → Option CallFault) (message : List ℕ)
     (old : Ends) (refused : Option Refused) (new : Ends) : Type 0 where
   pub refusal : (viewing : Viewing) (s : ViewerState) (prefix : List ℕ) →
@@ -68,7 +68,7 @@ pub record Sends (refusal_in : ViewerState → List ℕ → Option CallFault) (m
   pub sent : refused ≡ None → new.to_server.items ≡ old.to_server.items ++ message
   pub others : new ≡ record old { viewer = new.viewer; to_server = new.to_server }
 
--- a viewer that did not refuse a call stands for what the call makes of its state
+-- a viewer that did not refuse a call has the state that the call makes of its own
 pub record Becomes (called : ViewerState → ViewerState) (old : Viewer) (refused : Option Refused)
     (new : Viewer) : Type 0 where
   pub stands : refused ≡ None → (viewing : Viewing) (s : ViewerState) (prefix : List ℕ) →
@@ -130,7 +130,7 @@ TakesEvent old (ToViewer count) refused new = (refused ≡ None) × (new ≡ old
 
 -- ---- where an event may end for want of memory
 
--- whatever the viewer stands for, it does not refuse such a call, and it has not failed
+-- whatever state the viewer has, it does not refuse such a call, and it has not failed
 pub record Accepts (refusal_in : ViewerState → List ℕ → Option CallFault) (viewer : Viewer)
     : Type 0 where
   pub taken : (viewing : Viewing) (s : ViewerState) (prefix : List ℕ) →

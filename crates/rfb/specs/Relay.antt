@@ -1,5 +1,5 @@
--- What a relay does, as far as its core tells it: all that happens to it is what its doors bring, and
--- what leaves there.
+-- What a relay does, as far as its core shows it: all that happens to the core is what its doors bring, and what leaves
+-- there.
 use Rattle.std.specs.Prelude.{◌≡◌, ℕ, ◌*◌, List, Option, option_map, take}
 use Rattle.rfb_session.specs.declared.console.Outcome.{Outcome}
 use Rattle.rfb_session.specs.declared.relay.Relay.{Relay}

@@ -60,7 +60,7 @@ Says words (Screen size) = Begins (codes "screen") words (λ rest. AreSize rest 
 Says words (Viewer wants) = Begins (codes "viewer") words (λ rest. AreWants rest wants)
 Says words (Step step) = SaysStep words step
 
--- the words of a line that is bad wherever it stands say nothing
+-- the words of a line that is bad at any place say nothing
 abbrev pub SaysNothing : List (List ℕ) → Type 0
 SaysNothing words = (line : Line) → Says words line → ⊥
 
@@ -78,8 +78,8 @@ AsksForStep line = (step : ScriptStep) × SaysStep (words_of line) step
 
 -- ---- what lines are
 
--- lines, the first of which has this number, ask for these steps in their order, each with the
--- number of its line; empty lines ask for nothing
+-- lines, numbered from this on, ask for these steps in their order, each with the number of its line; empty lines ask
+-- for nothing
 abbrev pub AskFor : ℕ → List (List ℕ) → List Numbered → Type 0
 AskFor n lines steps =
     AskInOrder (λ (s : Numbered). s.line) (λ line s. SaysStep (words_of line) s.step) n lines steps

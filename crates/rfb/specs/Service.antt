@@ -103,7 +103,7 @@ TellsEnds screen (suc n) text =
     (before line : List ℕ) × (end : End) × TellsEnds screen n before
     × IsServedSome screen end × IsLineOf end line × (text ≡ before ++ line)
 
--- the lines of `connections` connections stand after what was written before
+-- the lines of `connections` connections follow what was written before
 abbrev pub ServesSo : ServedScreen → ℕ → Option (List ℕ) → Option (List ℕ) → Type 0
 ServesSo screen connections before after =
     (text : List ℕ) × TellsEnds screen connections text × Appends before after text

@@ -1,5 +1,5 @@
--- What a share does, as far as its console tells it: all that happens to the console is what its doors
--- bring, and what leaves there.
+-- What a share does, as far as its console shows it: all that happens to the console is what its doors bring, and what
+-- leaves there.
 use Rattle.std.specs.Prelude.{◌≡◌, ℕ, ◌*◌, List, Option}
 use Rattle.rfb_session.specs.declared.console.Console.{Console}
 use Rattle.rfb_session.specs.declared.console.Outcome.{Outcome}

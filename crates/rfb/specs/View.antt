@@ -9,16 +9,16 @@ use Rattle.rfb.specs.declared.fault.Failure.TheVariants.{BadLine, Undone, Fault,
 use Rattle.rfb.specs.declared.viewing.view_options.Sight.{Sight}
 use Rattle.rfb.specs.Recording.{BeginsPicture, IsFresh, ShowsEnd, WritesPicture, shows_end}
 
--- a viewer asked and was fed, up to the end of the `updates`-th update; its bytes were there to be
--- read, what it sent stands after what was written before, and what it was fed stands on the
--- output, if it is kept there
+-- a viewer asked and was fed, up to the end of the `updates`-th update. Its bytes were there to be
+-- read, and what it sent follows what was written before. The output has what it was fed, if that
+-- is kept there
 pub record Saw (read before blank copied : Option (List ℕ)) (old : Viewer) (updates : ℕ)
     (new : Viewer) : Type 0 where
   pub left : Option (List ℕ)
   pub after : Option (List ℕ)
   pub viewed : HasViewed read left before after blank copied old updates new
 
--- or why it did not come to that end
+-- or why it did not reach that end
 pub record StopsSeeing (read before blank copied : Option (List ℕ)) (old : Viewer) (updates : ℕ)
     (fault : EngineFault) (new : Viewer) : Type 0 where
   pub left : Option (List ℕ)
@@ -91,7 +91,7 @@ ShowsView sight last before after (Undone n why) = ⊥
 ShowsView sight last before after (Picture flaw) = ⊥
 
 -- what a fresh viewer was fed ended it, or ended too early, or it saw all; a recording has what the
--- engine says of it; or the picture of what came by an early end could not be written
+-- engine says of it. Or the picture of what came by an early end could not be written
 abbrev pub FailsToView : Sight → Option (List ℕ) → Option (List ℕ) → Option (List ℕ) →
     Option (List ℕ) → Failure → Type 0
 FailsToView sight read answered before after failure =

@@ -1,4 +1,4 @@
--- What the words of a script's line stand for, beside those that owners of shares say.
+-- What the words of a script's line mean, beside those that owners of shares say.
 use Rattle.std.specs.Prelude.{◌≡◌, ℕ, Bool, true, false, List, [], ◌∷◌, codes}
 use Rattle.std.specs.Str.Parse.{digits_value}
 use Rattle.rfb_picture.specs.declared.rect.Rect.{Rect}

@@ -72,8 +72,8 @@ const SERVE: &str = "serve [OPTIONS] --port <P>";
 const ENCODINGS: &str = "\
 rfb: encodings are raw, copyrect, rre and hextile: one to four of them, with a comma between two";
 
-/// Does what `words` ask for, the first of which is the program's own name, and answers the exit
-/// status.
+/// Does what `words` ask for, and returns the exit status. The first word is the program's own
+/// name.
 ///
 /// - 0: the work is done. Help and the version count as work, and go to `output`.
 /// - 1: it failed, and a line on `errors` says why. Nothing was written to `output`, unless writing
@@ -84,8 +84,8 @@ rfb: encodings are raw, copyrect, rre and hextile: one to four of them, with a c
 ///
 /// `output` is flushed before the status is chosen. A write to `errors` that fails changes nothing.
 ///
-/// The word `--explain`, wherever it stands, adds sentences to `errors`, each a line that begins
-/// with `rfb: `. The status and what is written to `output` are those of the other words.
+/// The word `--explain`, at any place, adds sentences to `errors`, each a line that begins with
+/// `rfb: `. The status and what is written to `output` are those of the other words.
 pub fn command<P: AllocGlobal + Clock + Files + Net, S: AsStr, R: Read, W: Write, E: Write>(
     rt: &P,
     words: &[S],
@@ -245,8 +245,8 @@ For more information, try '--help'."
     Ok(())
 }
 
-/// Tells on `errors` why there are no words to go by, and answers the exit status: 2 for a word
-/// that is not UTF-8, and else 1. A write that fails changes nothing.
+/// Says on `errors` why there are no words to go by, and returns the exit status: 2 for a word that
+/// is not UTF-8, and else 1. A write that fails changes nothing.
 pub fn without_words<E: Write>(error: io::Error, errors: &mut E) -> u8
     ensures not_text { error_kind error ≡ InvalidData → result ≡ 2 }
     ensures other { error_kind error ≢ InvalidData → result ≡ 1 }
@@ -258,7 +258,7 @@ pub fn without_words<E: Write>(error: io::Error, errors: &mut E) -> u8
     tell(Failure::Fault(Fault::from(error)), errors)
 }
 
-// Whether the words, the first of which is the program's own name, ask for the table of faults.
+// Whether the words ask for the table of faults. The first is the program's own name.
 fn ask_for_faults<S: AsStr>(words: &[S]) -> bool
     ensures { result ≡ ask_for_faults (map S.text words.now) }
 {

@@ -2,8 +2,8 @@
 
 use std::alloc::Global;
 
-/// The machine, and where a command reads and writes: the streams of the process, or files that
-/// stand in their place.
+/// The machine, and where a command reads and writes: the streams of the process, or files in their
+/// place.
 #[derive(Drop)]
 pub struct Context<'p, 'i, 'o, 'e, P, R, W, E> {
     /// Memory, the clock, files and the network.

@@ -1,8 +1,8 @@
 //! A server that lines drive: keys, a pointer and texts go to it, and what its screen shows is
 //! waited for, compared and saved.
 //!
-//! The core of it is a `Driver`, which has no IO. It is behind the doors of a share: at the first
-//! of them the connection to the server, at the second the lines. Its `FileRig` has the files.
+//! The core of it is a `Driver`, which has no IO. Its doors are those of a share: the first has the
+//! connection to the server, the second the lines. Its `FileRig` has the files.
 
 ghost use Rattle.std.specs.Prelude.{OnOk, OnErr, IfErr};
 ghost use Rattle.rfb.specs.Context.{KeepsStreams};
@@ -38,12 +38,12 @@ use std::os::fd::{AsRawFd, RawFd};
 use std::time::Clock;
 
 /// Does what the lines of the input say, one after another, until they end. Sentences are said,
-/// unless the options are against them. It fails where
+/// unless the options are against them. It fails where:
 ///
-/// - standard output is closed, or there is no memory;
-/// - the server cannot be reached, or goes away;
-/// - a line is bad, is not done in its time, or names a file that cannot be had;
-/// - the lines cannot be read, or those that report cannot be written.
+/// - Standard output is closed, or there is no memory.
+/// - The server cannot be reached, or goes away.
+/// - A line is bad, is not done in its time, or names a file that cannot be had.
+/// - The lines cannot be read, or those that report cannot be written.
 pub fn drive_at<P: AllocGlobal + Clock + Files + Net, R: Read, W: Write, E: Write>(
     context: &mut Context<P, R, W, E>,
     options: DriveOptions<'_>,

@@ -1,7 +1,7 @@
 //! Sentences on standard error, for a person who reads there: why a command fails, and how it goes.
 //!
-//! They stand beside the lines that a command ends with, before the one that says why. Nothing else
-//! depends on them: a sentence that cannot be written is lost.
+//! They come beside the lines of the command itself, before the one that says why it fails. Nothing
+//! else depends on them: a sentence that cannot be written is lost.
 
 mod early;
 mod escaped;
@@ -68,7 +68,7 @@ impl<E: Write> Write for Notes<'_, E> {
 }
 
 /// Says why there is no picture, or that memory was refused, if that is why a command fails. All
-/// else is told where it happens.
+/// else is said where it happens.
 pub fn tell_own<N: Write>(failure: &Failure, notes: &mut N) {
     let text = match failure {
         Failure::Fault(Fault::NotReady) => NOT_READY,

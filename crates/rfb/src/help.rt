@@ -3,7 +3,7 @@
 /// The version that `--version` prints after the program's name.
 pub const VERSION: &str = "0.2.0";
 
-/// What stands below the words in help.
+/// What comes below the words in help.
 pub enum Topic {
     /// The statuses, below the commands.
     Statuses,

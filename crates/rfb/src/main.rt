@@ -1,8 +1,8 @@
 //! The program `rfb`: both ends of the Remote Framebuffer protocol (RFC 6143) at work.
 //!
-//! `command_line` has the statuses, `options` the words, `commands` the commands, each with a
-//! module of its own: `script`, `loopback`, `play`, `serving`, `viewing`, `sharing`, `relaying` and
-//! `driving`.
+//! `command_line` has the statuses, `options` the words, and `commands` the commands. Each of these
+//! has a module of its own: `script`, `loopback`, `play`, `serving`, `viewing`, `sharing`,
+//! `relaying` and `driving`.
 #![tactic(auto)]
 
 mod command_line;

@@ -31,11 +31,11 @@ use std::alloc::Global;
 use std::cell::RefCell;
 use std::io::{Read, Write};
 
-/// Plays what the input has, the bytes of a server, to a fresh viewer that takes pixels of
-/// `options.format`, up to the end of the last update that is asked for, or all of it. Then it
-/// writes the picture that the viewer shows. Nothing is written where the viewer or the bytes end
-/// with a fault; then sentences say why. Only where the bytes end too early, or a read fails, the
-/// picture of all that came is written if it is wanted.
+/// Plays the bytes of a server, which the input has, to a fresh viewer that takes pixels of
+/// `options.format`: up to the end of the last update that is asked for, or all. Then it writes the
+/// picture that the viewer shows. Nothing is written where the viewer or the bytes end with a
+/// fault; then sentences say why. Only where the bytes end too early, or a read fails, the picture
+/// of all that came is written if it is wanted.
 pub fn play_recording<P: AllocGlobal, R: Read, W: Write, E: Write>(
     context: &mut Context<P, R, W, E>,
     options: PlayOptions,
@@ -86,7 +86,7 @@ fn play_to<R: Read, W: Write, E: Write>(
     }
 }
 
-// Feeds a viewer as `watch` does, and tells how it goes.
+// Feeds a viewer as `watch` does, and says how it goes.
 fn watch_heard<R: Read, N: Write>(
     options: PlayOptions,
     input: &mut R,
@@ -147,7 +147,7 @@ fn wide(updates: Option<u32>) -> Option<u64>
 }
 
 /// After an engine that ended with this fault, writes the picture of what has come, if that is
-/// wanted and the end is an early one; and answers why the command ends.
+/// wanted and the end is an early one. Returns why the command ends.
 pub fn show_early<W: Write>(
     viewer: &Viewer,
     is_wanted: bool,

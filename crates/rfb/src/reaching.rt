@@ -196,8 +196,8 @@ impl<L: OpenListener, C: Clock> Timed<'_, L, C>
 where
     L::Stream: OpenStream,
 {
-    /// Takes the next connection, and tells who is at its other end. Where none can be had, it
-    /// rests before it says so: the next one may be had then.
+    /// Takes the next connection, and says who is at its other end. Where none can be had, it rests
+    /// before it says so: the next one may be had then.
     pub fn accept(&self) -> io::Result<(Steady<L::Stream>, SocketAddr)> {
         match self.listener.accept() {
             Ok((stream, address)) => {

@@ -1,8 +1,8 @@
 //! A relay over sockets: a server's screen for up to eight viewers at once, whose keys, pointers
 //! and texts go to the server.
 //!
-//! The core of it is a `Relay`, which has no IO. It stands behind the doors of a share; at the
-//! first of them stands the connection to the server in place of standard input.
+//! The core of it is a `Relay`, which has no IO. Its doors are those of a share; the first has the
+//! connection to the server in place of standard input.
 
 ghost use Rattle.std.specs.Prelude.{OnOk, OnErr, IfErr};
 ghost use Rattle.rfb.specs.Context.{KeepsStreams};
@@ -37,11 +37,11 @@ use std::time::Clock;
 /// Relays a server until it goes away, or until the last viewer does if that is wanted. Standard
 /// input is not read. Sentences are said, unless the options are against them. It fails where:
 ///
-/// - standard output is closed, or a line cannot be written,
-/// - the server cannot be reached, or nothing can listen,
-/// - there is no memory,
-/// - the server goes away and the options do not have it called again: with the fault that a view
-///   of it would end with.
+/// - Standard output is closed, or a line cannot be written.
+/// - The server cannot be reached, or nothing can listen.
+/// - There is no memory.
+/// - The server goes away and the options do not have it called again. The fault is the one that a
+///   view of it would end with.
 pub fn relay_at<P: AllocGlobal + Clock + Net, R: Read, W: Write, E: Write>(
     context: &mut Context<P, R, W, E>,
     options: RelayOptions<'_>,
@@ -64,7 +64,7 @@ pub fn relay_at<P: AllocGlobal + Clock + Net, R: Read, W: Write, E: Write>(
     relay_between(context, options, server, listener, streams, says)
 }
 
-// The same of this server, for viewers that come to this listener.
+// The same of this server, for viewers that connect to this listener.
 fn relay_between<P: AllocGlobal + Clock + Net, R: Read, W: Write, E: Write>(
     context: &mut Context<P, R, W, E>,
     options: RelayOptions<'_>,

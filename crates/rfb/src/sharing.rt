@@ -1,8 +1,8 @@
-//! A share over sockets: a screen that a program draws by lines on standard input, for up to eight
-//! viewers at once, whose doings it reads as lines on standard output.
+//! A share over sockets: a screen for up to eight viewers at once. A program draws it by lines on
+//! standard input, and reads as lines on standard output what the viewers do.
 //!
-//! The core of it is a `Console`, which has no IO. `live` moves bytes between the console and its
-//! doors, at which tenants stand. The `Shell` tells which of them are ready.
+//! The core of it is a `Console`, which has no IO. `live` moves bytes between the console and the
+//! tenants at its doors. The `Shell` says which of them are ready.
 
 ghost use Rattle.std.specs.Prelude.{◌≡◌, OnOk, OnErr};
 ghost use Rattle.rfb.specs.Context.{KeepsStreams};
@@ -49,10 +49,10 @@ const FRONT: Front<'static> = Front {
 pub const READ_AT_ONCE: usize = 65536;
 
 /// Shares a screen until a line says `quit`, or with the last viewer if that is wanted. The input
-/// is standard input. A line of its that is bad is reported. Sentences are said, unless the options
-/// are against them. It fails where standard output is closed, where nothing can listen there,
-/// where there is no memory for the screen, where a line cannot be written, or where the input ends
-/// before it gives the size of the screen.
+/// is standard input. Its bad lines are reported. Sentences are said, unless the options are
+/// against them. It fails where standard output is closed, nothing can listen there, there is no
+/// memory for the screen, a line cannot be written, or the input ends before it gives the size of
+/// the screen.
 pub fn share_at<P: AllocGlobal + Clock + Net, R: Read, W: Write, E: Write>(
     context: &mut Context<P, R, W, E>,
     options: ShareOptions<'_>,
@@ -70,7 +70,7 @@ pub fn share_at<P: AllocGlobal + Clock + Net, R: Read, W: Write, E: Write>(
     share_with(context, streams, says, options, listener)
 }
 
-// The same, for viewers that come to this listener.
+// The same, for viewers that connect to this listener.
 fn share_with<P: AllocGlobal + Clock + Net, R: Read, W: Write, E: Write>(
     context: &mut Context<P, R, W, E>,
     streams: Streams,

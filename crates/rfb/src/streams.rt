@@ -69,8 +69,8 @@ impl<'a, W, E> StandardOutput<'a, W, E> {
     }
 }
 
-// Whether bytes begin a picture or a recording, be it by a part of its first word, or are no text.
-// A server may send its first byte alone, or what means something to a terminal.
+// Whether bytes begin a picture or a recording, if only with a part of its first word, or are no
+// text. A server may send its first byte alone, or what means something to a terminal.
 fn is_unshowable(bytes: &[u8]) -> bool {
     let is_part = !bytes.is_empty() && RECORDING.starts_with(bytes);
     bytes.starts_with(PICTURE) || bytes.starts_with(RECORDING) || is_part || !is_text(bytes)

@@ -66,9 +66,9 @@ pub fn view_at<P: AllocGlobal + Net + Clock, R, W: Write, E: Write>(
 }
 
 /// Views the server at the other end of a connection, up to the end of the last update that is
-/// wanted, and writes the picture that it shows then; or its bytes as they come, if these are
-/// wanted. What is sent goes out at once: the server waits for it. `notes` say how it goes, and why
-/// it fails.
+/// wanted. Then writes the picture that it shows; or its bytes as they come, if these are wanted.
+/// What is sent goes out at once: the server waits for it. `notes` say how it goes, and why it
+/// fails.
 pub fn view_on<S: Read + Write + OpenStream + Drop, C: Clock, W: Write, N: Write>(
     alloc: Global,
     connection: Patient<'_, S, C>,

@@ -113,7 +113,7 @@ pub request_ready : (at : ServerAt) (outstanding : Bool) (rect : Rect) →
 request_ready (First point) outstanding rect none = absurd cc
 request_ready (Second p) outstanding rect none = (p, refl)
 
--- a message of a viewer that is ready, and that stands where it stood
+-- a message of a viewer that is ready, and whose point is as it was
 message_flies : (e : Ends) (w : Link) (n : Network) (stands : LinkStandsFor e n.screen w n.link) (v : ViewerState)
     (message : ClientMessage) (bytes : List ℕ) (p : UpdatePoint) → IsReached e n →
     n.link.viewer.point ≡ Second p → v.point ≡ n.link.viewer.point →

@@ -1,4 +1,4 @@
--- An update after other bytes stands after those of them that are still in flight.
+-- An update that joined other bytes comes after those of them that are still in flight.
 use Rattle.std.proofs.Common.{◌≡◌, ℕ, ◌≤◌, List, ◌++◌, length, drop, ap, ◌∙◌}
 use Rattle.std.proofs.lemmas.List.{drop-append-le}
 use Rattle.rfb_pixel.specs.declared.colour.Colour.{Colour}
@@ -6,7 +6,7 @@ use Rattle.rfb_picture.specs.Grid.{Grid}
 use Rattle.rfb_server.specs.declared.session.Session.{Session}
 use Rattle.rfb_server.specs.UpdateCall.{SendsUpdate}
 
--- bytes that joined others stand after those that are left of these
+-- bytes that joined others come after those that are left of these
 pub rest_of : (all more bytes : List ℕ) (k : ℕ) → k ≤ length all → more ≡ all ++ bytes →
     drop k more ≡ drop k all ++ bytes
 rest_of all more bytes k within is =

@@ -12,7 +12,7 @@ use Rattle.rfb_session.specs.declared.drive.near.RowDifference.{RowDifference}
 use Rattle.rfb_session.specs.drive.Near.{AreNear, IsFirstFar, far_places, is_near}
 use Rattle.rfb_session.specs.drive.Compare.{Differs, joined, rows_of}
 
--- ---- rows one after another, of which each has as many places as was expected
+-- ---- rows one after another, each with as many places as was expected
 
 near_append : (n : ℕ) (a b r s : List Colour) → length a ≡ length b → length r ≡ length s → AreNear n a b →
     AreNear n r s →

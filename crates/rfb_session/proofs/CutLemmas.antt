@@ -9,7 +9,7 @@ use Rattle.std.proofs.lemmas.List.{at_drop_all, at_drop_more, drop_more, take_mo
 use Rattle.rfb_session.specs.drive.DriveLines.{after_word, are_typed, first_word}
 use Rattle.rfb_session.specs.drive.Characters.{key_of_char}
 
--- what stands from a place on, by the byte there
+-- what there is from a place on, by the byte there
 word_from : (line : List ℕ) (i : ℕ) (b : Bool) → i < length line → (get_or line i 0 == 32) ≡ b →
     first_word (drop i line) ≡ cond b [] (get_or line i 0 ∷ first_word (drop (i + 1) line))
 word_from line i b low is = ap (λ (l : List ℕ). first_word l) (drop_more line i 0 low)

@@ -1,4 +1,4 @@
--- What the calls of a desk come to, one after the other.
+-- What the calls of a desk lead to, one after the other.
 use Rattle.std.proofs.Common.{◌≡◌, ◌+◌, ◌-◌, ◌++◌, ◌∙◌, ℕ, Bool, true, false}
 use Rattle.std.proofs.Common.{not, ◌&&◌, ◌||◌, List, []}
 use Rattle.std.proofs.Common.{zero, suc}
@@ -127,7 +127,7 @@ and_false : (x : Bool) → (x && false) ≡ false
 and_false true = refl
 and_false false = refl
 
--- whoever wishes to be alone is not let go for it
+-- whoever wishes to be alone is not disconnected for it
 pub not_itself : (heeds : Bool) (old new : Share) (k : ℕ) (bytes : List ℕ) (heard : Heard) →
     HearsBy heeds old k bytes heard new → has_bit heard.ended k ≡ false
 not_itself heeds old new k bytes heard hears = elim (eqb_tells k k) [

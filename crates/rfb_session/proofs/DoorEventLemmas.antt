@@ -61,7 +61,7 @@ module _ {C : Type 0} (steps : Stepping C) where
 
 -- ---- events of one door
 
--- all that they tell is of that door: these bytes came, these left, and so many ends and failures
+-- all that they report is of that door: these bytes came, these left, and so many ends and failures
 pub record Tells (door : ℕ) (events : List Event) (bytes gone : List ℕ) (ended failed : ℕ)
     : Type 0 where
   pub came_is : came door events ≡ bytes

@@ -13,7 +13,7 @@ use Rattle.rfb_session.specs.doors.Turns.{Moves, MovesIn, MovesOut}
 use Rattle.rfb_session.proofs.DoorEventLemmas.{Tells, nothing_told, end_told, fault_told, bytes_left, brought}
 use Rattle.rfb_session.proofs.DoorEventLemmas.{brings_more}
 
--- ---- known bytes of which none went
+-- ---- known bytes, and none went
 
 pub none_read : (a b : Option (List ℕ)) → Keeps a b → Consumes a b []
 none_read None b kept = tt

@@ -15,7 +15,7 @@ use Rattle.rfb_session.specs.doors.Turns.{TurnsOut}
 use Rattle.rfb_session.proofs.DoorEventLemmas.{came-append, left-append, ends-append, faults-append}
 use Rattle.rfb_session.proofs.DoorEventLemmas.{quiet_none, quiet_both, runs_then}
 
--- ---- what stands at a number after a write
+-- ---- what is at a number after a write
 
 pub slice_get-set_same : {X : Type 0} (xs : List X) (i : ℕ) (y : X) → i < length xs →
     slice_get (set xs i y) i ≡ Some y

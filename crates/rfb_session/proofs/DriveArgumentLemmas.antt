@@ -147,7 +147,7 @@ pub after_at : (at x y : List ℕ) (r : Option Place) → at ≡ codes "at" →
 after_at at x y None is read = λ place said. read place said.1
 after_at at x y (Some place) is read = (is, read)
 
--- words are no likeness where the first three tell no place, be they three or five
+-- words are no likeness where the first three give no place, be they three or five
 pub no_likeness : (words : List (Bor (List ℕ))) (d : Bor (List ℕ)) → ((length words ≡ 3) ⊎ (length words ≡ 5)) →
     ((place : Place) → ¬ (IsAfterAt (word words 0 d) (word words 1 d) (word words 2 d) place)) → (likeness : Likeness) →
     ¬ (IsLikeness (texts words) likeness)

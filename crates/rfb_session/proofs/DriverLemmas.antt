@@ -29,7 +29,7 @@ abbrev some_or : {A : Type 0} → A → Option A → A
 some_or a None = a
 some_or a (Some b) = b
 
--- values of which each is there are the same
+-- values that are both there are the same
 pub same_some : {A : Type 0} (a b : A) → Some a ≡ Some b → a ≡ b
 same_some {A} a b is = ap (λ (o : Option A). some_or a o) is
 

@@ -72,7 +72,7 @@ p_server e c = past_all (to_server_stream e) c.session.point c.to_server
 abbrev pub p_viewer : Ends → Core → ServerAt
 p_viewer e c = past_all (to_viewer_stream e) c.viewer.point c.to_viewer
 
--- the answers of all that is done, of which the last alone can have some
+-- the answers of all that is done; only the last can have some
 all_answers : (e : Ends) (screen : Grid Colour) (c : Core) (done left : List FromServer)
     (event : Option ViewerTold) → AreMade e → Holds e screen c → c.to_viewer ≡ done ++ left →
     EndsWith (viewer e.viewing) c.viewer done event →

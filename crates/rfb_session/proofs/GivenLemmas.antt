@@ -208,7 +208,7 @@ seat_between slots front back k is size =
 pub own_before : (k own : ℕ) → nat_eq k own ≡ false → own ≤ k → own < k
 own_before k own apart le = grind (arith, nat_tests, apart, le)
 
--- what is lent of two slots is to be given, and was
+-- what waits at one of two borrowed slots is to be given to the other; and was
 pub heir_between : (screen : Grid Colour) (slots : List (Option ShareSeat)) (own k : ℕ)
     (one slot : Option ShareSeat) → seat_at own slots ≡ one → seat_at k slots ≡ slot →
     IsHeirIn screen (seat_at own slots) (seat_at k slots) → IsHeirIn screen one slot

@@ -1,4 +1,4 @@
--- A viewer and its server before a share shows the picture: what comes to the viewer, its requests, and the end of an
+-- A viewer and its server before a share shows the picture: what the viewer is fed, its requests, and the end of an
 -- update.
 use Rattle.std.proofs.Common.{◌≡◌, ◌+◌, ◌≤◌, ℕ, Bool, false, List, [], ◌++◌, length}
 use Rattle.std.proofs.Common.{Option, Some, None, inl, inr, refl, sym, ap, subst, ◌∙◌, length-append}
@@ -39,7 +39,7 @@ use Rattle.rfb_session.proofs.SentLemmas.{called_flies}
 use Rattle.rfb_session.proofs.WorldLemmas.{reached_step}
 use Rattle.rfb_session.proofs.HopEarlyLemmas.{AreSteps, IsEarly, reached_early, last_done}
 
--- ---- what comes to the viewer
+-- ---- what the viewer is fed
 
 same_session : (e : Ends) (old new : LinkState) (n : ℕ) → MovesToViewer e old n new → new.session ≡ old.session
 same_session e old new n moves = ap (λ (l : LinkState). l.session) moves.result

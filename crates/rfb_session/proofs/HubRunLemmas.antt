@@ -154,7 +154,7 @@ reached_slot e n m (Of j event) k r step = by (cases_eq k j)
 abbrev Found : Ends → Grid Colour → HubSeat → Type 0
 Found e screen b = (n : Network) × IsReached e n × SeatStandsFor e screen b n × Unit {0}
 
--- a seat that came from one that stood, or that is fresh, stands
+-- a seat stands for a network if it is fresh, or the one that it came from stood for one
 stands_came : (old new : Hub) (k : ℕ) (b : HubSeat) → serving_in new ≡ serving_in old → HubStands old →
     ((a : HubSeat) → seat_in old k ≡ Some a → (n : Network) → AreMade (ends_of (serving_in old) b.setup) →
     IsReached (ends_of (serving_in old) b.setup) n →

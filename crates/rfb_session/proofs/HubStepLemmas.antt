@@ -45,7 +45,7 @@ stays_mere told k a b mere same =
     let clear : has_bit told.ended k ≡ false = ap (λ (n : ℕ). has_bit n k) mere.ended ∙ no_bit k in
     (λ set. absurd (not_clear _ set clear), λ not_set. same)
 
--- a seat that is as it was stands for what it did
+-- a seat that is as it was has the network that it had
 pub stands_still : (e : Ends) (old new : Hub) (a b : HubSeat) (n : Network) → new.screen ≡ old.screen →
     b ≡ a → SeatStandsFor e old.screen a n → SeatStandsFor e new.screen b n
 stands_still e old new a b n screens same stands =
@@ -192,7 +192,7 @@ none_there old new j event told fault mere is none refused = record {
   kept = λ some. is;
 }
 
--- the network that the seat of the event's own slot stands for afterwards
+-- the network that the seat of the event's own slot has afterwards
 pub own_does : (e : Ends) (old new : Hub) (event : SlotEvent) (d : Delivery) (a b : HubSeat) (n : Network) →
     new.screen ≡ old.screen → SeatDoes old.screen a event d b → AreMade e → IsReached e n →
     b.foreign ≡ false → SeatStandsFor e old.screen a n →

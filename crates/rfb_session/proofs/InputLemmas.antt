@@ -31,7 +31,7 @@ drop_min all count bytes is = elim (cases_lt count (length bytes)) [
   | inr high ↦ drop_all all bytes (omega (arith, is, high)) ∙ sym (drop_all count bytes high)
 ]
 
--- all that came, as it is lent
+-- all that came, as it is shown
 lent : (bytes shown : List ℕ) (n : ℕ) → shown ≡ take n bytes → n ≡ length bytes → shown ≡ bytes
 lent bytes shown n is all = is ∙ take_all n bytes (omega (arith, all))
 

@@ -165,7 +165,7 @@ module _ {D : Type 0} (writing : Writing D) (joins : Joins writing) where
   looking_stops old bytes rest left mid before w after blank k copied last fb fm failed EngineNoMemory new was some
       same stops = absurd stops
 
--- a fault of a read is told of all alike
+-- a fault of a read is reported of all alike
 pub still_looked : (left before n m : ℕ) (later : List ℕ) (last : Viewer) (fault : EngineFault) (new : Viewer) →
     EndsLooking left (Err fault) new n later last → EndsLooking before (Err fault) new m later last
 still_looked left before n m later last (ViewerEnded fault) new ends = ends

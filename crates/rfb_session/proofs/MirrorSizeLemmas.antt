@@ -57,7 +57,7 @@ module _ (w h : ℕ) where
   same_sized : (g stored : Option (Grid Colour)) → stored ≡ g → IsSized w h g → IsSized w h stored
   same_sized g stored same sized = subst (λ (k : Option (Grid Colour)). IsSized w h k) (sym same) sized
 
-  -- a picture of which a part of a rectangle is stored has the size of what is stored
+  -- a picture with a part of a rectangle stored in it has the size that it had
   part_sized : (f : PixelFormat) (rect : Rect) (encoding : Encoding) (before : Grid Colour) (body pending : List ℕ)
       (now : Grid Colour) (g stored : Option (Grid Colour)) → g ≡ Some before → stored ≡ Some now →
       ShowsFront f rect encoding before body pending now → IsSized w h g → IsSized w h stored

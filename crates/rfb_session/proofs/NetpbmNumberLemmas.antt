@@ -1,4 +1,4 @@
--- Numbers after gaps: what is read from the left is what stands there, and nothing else does.
+-- Numbers after gaps: what is read from the left is what is there, and nothing else is.
 use Rattle.std.proofs.Common.{◌≡◌, ◌∙◌, ◌==◌, ◌<◌, ◌≤◌, ◌+◌, ◌-◌, ◌*◌, ◌++◌, if◌then◌else◌, ℕ, zero, suc, Bool, true}
 use Rattle.std.proofs.Common.{false, not, List, [], ◌∷◌, length, get_or, ap, ap₂, sym, refl, subst, inl, inr, arith}
 use Rattle.std.proofs.Common.{length-append, eq-eqb, ne_eqb, eqb-true, true≢false}

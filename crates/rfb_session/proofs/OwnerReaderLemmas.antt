@@ -74,7 +74,7 @@ newline_at [] i within newline = absurd (omega arith)
 newline_at (x ∷ bytes) zero within newline = (bytes, ap (λ (y : ℕ). y ∷ bytes) newline)
 newline_at (x ∷ bytes) (suc i) within newline = newline_at bytes i (omega arith) newline
 
--- the screen's size stands where none is known
+-- the screen's size is in place where none is known
 pub in_place : (known : Option Size) (line : OwnerLine) (size : Size) → is_some known ≡ false →
     line ≡ OwnerLine.Screen size → IsInPlace known line
 in_place None line size none is = (size, is)

@@ -55,7 +55,7 @@ pub empty_line : (line : List ℕ) → length line ≡ 0 → line ≡ []
 empty_line [] none = refl
 empty_line (x ∷ line) none = absurd (omega arith)
 
--- a line with no pixels is done or stands in the wrong place
+-- a line with no pixels is done or is in the wrong place
 pub placed_orders : (old : OwnerReader) (line : List ℕ) (said : OwnerLine) (order : Order) (new : OwnerReader) →
     Places old said order new → length line ≤ 96 → SaysOwner (words_of line) said →
     ((rect : Rect) → said ≢ OwnerLine.Pixels rect) → IsOneLine line → Orders old.screen line order

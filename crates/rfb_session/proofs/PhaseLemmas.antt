@@ -1,5 +1,5 @@
--- Where a link stands at all times: in a step of the handshake, or after it by who has the one
--- request that can be outstanding.
+-- How far a link is at all times: in a step of the handshake, or after it by who has the one request that can be
+-- outstanding.
 use Rattle.std.proofs.Common.{◌≡◌, ℕ, true, false, List, [], ◌∷◌, map, Option, Some, None, ◌∙◌}
 use Rattle.rfb_pixel.specs.declared.colour.Colour.{Colour}
 use Rattle.rfb_picture.specs.Grid.{Grid, IsGrid}
@@ -38,7 +38,7 @@ core l = record {
   latest = l.latest;
 }
 
--- the viewer's picture has the size that the server tells
+-- the viewer's picture has the size that the server gives
 pub record HasPicture (e : Ends) (c : Core) : Type 0 where
   pub picture : Grid Colour
   pub picture_is : c.viewer.picture ≡ Some picture

@@ -223,7 +223,7 @@ module _ {X : Type 0} where
   any_of (suc n) zero c = refl
   any_of (suc n) (suc i) c = any_of n i c
 
-  -- it stands everywhere
+  -- it is everywhere
   pub uniform_at : (w h : ℕ) (c : X) (x y : ℕ) → at_or (uniform w h c) x y c ≡ c
   unfolding uniform
   uniform_at w h c x y = any_of (h * w) (y * w + x) c

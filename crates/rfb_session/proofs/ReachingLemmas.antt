@@ -100,7 +100,7 @@ module _ {V : Type 0} {end : Link → V} {comes goes : Link → List ℕ}
     {feeds : V → List ℕ → List ℕ → ℕ → V → Type 0} {has_failed : V → Type 0}
     {keeps : Link → Link → Type 0} {ends_at or_so : V → List ℕ → V → Type 0} {old : Link} {count : ℕ}
     {new : Link} where
-  -- the same, of which less is said
+  -- the same, with less said of how it ends
   reach_as : ReachesBy end comes goes feeds has_failed keeps ends_at old count new →
       ((last : V) (later : List ℕ) → ends_at last later (end new) → or_so last later (end new)) →
       ReachesBy end comes goes feeds has_failed keeps or_so old count new
@@ -176,7 +176,7 @@ heard_once old new bytes count used sole event going few is some fed same gets s
   asked,
 )
 
--- some, and then some more, of which its client asked for the screen alone in either or in none
+-- some, and then some more: its client asked for the screen alone in one of the two, or in none
 heard_then : (ends_at : Session → List ℕ → Session → Type 0) (a b c : Link) (k j : ℕ) (p q : Bool) →
     HasHeard a k p b → (r : ReachesSessionBy ends_at b j c) × IsSole q r.told →
     (r : ReachesSessionBy ends_at a (k + j) c) × IsSole (p || q) r.told

@@ -76,7 +76,7 @@ module _ {S : Type 0} where
             })) steps.stays steps.given
         heard is (Leaves gone) = GoesAway (server_gone mid new steps.does.keeps.server gone)
 
-        -- at a door of which nothing is known
+        -- at a door that is not known
         unheard : 8 < door → Moves old sent (Told (Received door part)) new
         unheard far =
             let keeps : KeepsAllButRooms old new =

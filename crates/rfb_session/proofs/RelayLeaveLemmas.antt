@@ -21,7 +21,7 @@ use Rattle.rfb_session.proofs.RelayBesideLemmas.{of_door, server_gone}
 use Rattle.rfb_session.proofs.RelayOrderLemmas.{loses_gone}
 use Rattle.rfb_session.proofs.RelayStepLemmas.{planned_gone}
 
--- it stands as it stood, so it has not gone
+-- its presence is as it was, so it has not gone
 still_there : {X : Type 0} (old new : Presence) → new ≡ old → is_gone old ≡ false → is_gone new ≡ true → X
 still_there old new same there gone =
     absurd (no (is_gone old) there (sym (ap (λ (p : Presence). is_gone p) same) ∙ gone))

@@ -148,7 +148,7 @@ pub shown_told : (b : Bool) (o : Option Outcome) (how : Gone) (was now : Option 
 shown_told true o how was now ends is told = told
 shown_told false o how was now ends is told = false_not is
 
--- a line tells it at the desk that there is
+-- a line says so at the desk that there is
 pub gone_told : (how : Gone) (a : Option Desk) (d e : Desk) (ends : Option Outcome) → a ≡ Some d →
     e.share ≡ d.share → LosesDesk d how e ⊎ (ends ≡ Some NoMemory) → IsToldGone true None how a (Some e) ends
 gone_told how a d e ends there share told =

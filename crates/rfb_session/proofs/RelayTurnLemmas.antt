@@ -33,7 +33,7 @@ use Rattle.rfb_session.proofs.RelayPassLemmas.{Waits}
 use Rattle.rfb_session.proofs.RelayCallLemmas.{AskedSo, Unasked, Once, asked_so, asks_none}
 use Rattle.rfb_session.proofs.RelaySendLemmas.{screen_sized}
 
--- ---- how it stands with its server after a turn
+-- ---- its server's presence after a turn
 
 planned_coming : (retry : Option ℕ) (ended : Option Outcome) (now : ℕ) → planned_for retry ended now Coming ≡ Coming
 planned_coming None ended now = refl

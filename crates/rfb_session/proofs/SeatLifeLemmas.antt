@@ -143,7 +143,7 @@ module _ (serving : Serving) (k : ℕ) where
     gone = λ none. served_none (screen_of a) wants (seat_in a k) (seat_in b k) serves none;
   }
 
-  -- one that stays until go_on is served, or kept back
+  -- one that is left is served, or kept back
   unless_none : (held wants : Bool) (screen : Grid Colour) (b : Option ShareSeat) →
       ServesUnless held screen wants None b → b ≡ None
   unless_none true wants screen b (inl same) = same

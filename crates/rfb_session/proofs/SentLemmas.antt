@@ -178,7 +178,7 @@ called_flies e l f p v message bytes phase ready flies reads spelled =
           (p_server e (core l)) bytes l.to_server (Second message ∷ []) [] flies.server_within read;
     }
 
--- where nothing is in flight to the viewer, it may stand at any point
+-- where nothing is in flight to the viewer, it may be at any point
 pub none_flies : (e : Ends) (l : LinkState) (f : Flight) (at : ServerAt) → l.to_viewer ≡ [] →
     Flies e l f → ReadsAll (to_viewer_stream e) at (f.viewer_has ++ f.viewer_gets) l.to_viewer []
 none_flies e l f at none flies =

@@ -48,7 +48,7 @@ serving_none unread before old = record {
   some = omega arith;
 }
 
--- runs of a server after one of which no update was due
+-- runs of a server one after another; after the first no update was due
 idle_then : (old last new : Server) (fed sent more_fed more_sent : List ℕ) (n m : ℕ) → KeepsIdle old fed sent n last →
     ServerRuns last more_fed more_sent m new → RunsFromIdle old (fed ++ more_fed) (sent ++ more_sent) (n + m) new
 idle_then old last new fed sent more_fed more_sent n m one two = λ serving s prefix stands idle.

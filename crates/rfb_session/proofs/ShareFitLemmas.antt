@@ -253,7 +253,7 @@ fits_sent screen old new waiting later before after sends none roomy = ∥∥₁
               (sent.update.composes.same_point ∙ sent.update.due.ready));
         }
 
--- ---- an update of which some bytes are kept no more
+-- ---- an update, and some of its bytes are kept no more
 
 pub cut_few : (old new : Waiting) → IsCut old new → answers_in old ≤ 297 → answers_in new ≤ 297
 cut_few (Answers a) new is few = subst (λ (w : Waiting). answers_in w ≤ 297) (sym is) few

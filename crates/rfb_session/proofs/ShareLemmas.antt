@@ -134,7 +134,7 @@ alone_is (Some (Pointer buttons x y)) false sole = refl
 alone_is (Some (CutText kept text_length)) true sole = absurd (omega (arith, sole.some refl))
 alone_is (Some (CutText kept text_length)) false sole = refl
 
--- a session tells nothing only of no event
+-- a session reports nothing only of no event
 pub seen_none : (event : Option ServerEvent) → seen event ≡ None → event ≡ None
 seen_none None none = refl
 seen_none (Some event) none = absurd (apart none)

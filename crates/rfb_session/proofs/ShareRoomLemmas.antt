@@ -89,7 +89,7 @@ fewer_at serving (Second between) (Second message) short =
     let none = ap (λ (bytes : List ℕ). length bytes) (no_answer serving.text_limit message) in
     omega (arith, none)
 
--- items of which the last alone may be answered
+-- items; only the last may be answered
 pub fewer_left : (serving : Serving) (s : ServerState) (items : List FromClient)
     (event : Option ServerTold) → length serving.hello.name ≤ 255 →
     EndsWith (server serving) s items event →

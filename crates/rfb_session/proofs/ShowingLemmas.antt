@@ -1,4 +1,4 @@
--- Where a link stands once an item has reached the viewer.
+-- How far a link is once an item has reached the viewer.
 use Rattle.std.proofs.Common.{◌≡◌, ℕ, suc, Bool, true, false, List, [], ◌∷◌, ◌++◌, map, length, Option, Some}
 use Rattle.std.proofs.Common.{if◌then◌else◌, refl, sym, ap, ◌∙◌, subst, append-nil}
 use Rattle.rfb_pixel.specs.declared.colour.Colour.{Colour}
@@ -102,7 +102,7 @@ shown_meets e c vp step rest s none past answered picture =
       formed = ap (λ (q : List FromClient). form_after c.session.form q) queue;
     })
 
--- ServerInit makes a picture of the size that it tells
+-- ServerInit makes a picture of the size that it gives
 made : (e : Ends) (c : Core) (v : Version) (n : ℕ) (rest : List FromServer) → c.viewer.point
     ≡ First (AwaitsInit v) →
     HasPicture e

@@ -1,4 +1,4 @@
--- What stands at a door of a run whose doors open and close.
+-- What is at a door of a run whose doors open and close.
 use Rattle.std.proofs.Common.{◌≡◌, ℕ, ◌<◌, Bool, true, List, [], ◌∷◌, ◌++◌, Option, Some, None}
 use Rattle.std.proofs.Common.{refl, sym, ap, ◌∙◌, subst, append_assoc, arith, inl, inr, ◌⊎◌, length, set}
 use Rattle.std.specs.Prelude.{slice_get}
@@ -112,7 +112,7 @@ module _ {C D : Type 0} (t : Telling C D) (d : ℕ) where
 -- ---- a door through the steps of a life
 
 module _ {D : Type 0} where
-  -- a device stands where the flag says so
+  -- a device is where the flag says so
   held_of : (o : Option (Place D)) → flag_of is_held o ≡ true → (x : D) × (o ≡ Some (Held x))
   held_of None flag = absurd (false≢true flag)
   held_of (Some Empty) flag = absurd (false≢true flag)
@@ -127,7 +127,7 @@ module _ {D : Type 0} where
 module _ {C D : Type 0} (closed : C → ℕ → Bool) (waiting : C → ℕ → List ℕ) (core : C)
     (doors doors' : List (Place D)) (closes : Closes closed waiting core doors doors') (d : ℕ) (x : D)
     (is : slice_get doors' d ≡ Some (Held x)) where
-  -- a door is not over where something stands after closing
+  -- a door is not over where something is left after closing
   not_over : IsOver closed waiting core d → ⊥
   not_over over =
       empty_not x (sym (closes.shut d within over) ∙ is)
@@ -175,7 +175,7 @@ module _ {C D : Type 0} (t : Telling C D) (d : ℕ) where
 module _ {C D : Type 0} (t : Telling C D) (old mid opened new : C)
     (doors before opening after shut : List (Place D)) (life : HasTenants t old mid doors before)
     (turns : PlaceTurns t opened new opening after) (closes : Closes t.closed t.waiting new after shut) where
-  -- what stands there in the end has stood there through the turns
+  -- what is there in the end was there through the turns
   stands_before : (d : ℕ) (z : D) → slice_get shut d ≡ Some (Held z) →
       (y : D) × (slice_get opening d ≡ Some (Held y))
       × Says t d y z (events_in (all_told turns.events))
@@ -188,7 +188,7 @@ module _ {C D : Type 0} (t : Telling C D) (old mid opened new : C)
   goes_turned : Goes t.steps t.opens t.declines opened (all_told turns.events) new
   goes_turned = goes_runs t.steps t.opens t.declines opened new turns.events turns.runs
 
-  -- no door has opened: what stood there stands there still
+  -- no door has opened: what was there is there still
   tenants_kept : (more : List Happening) → Goes t.steps t.opens t.declines mid more new →
       ((d : ℕ) → IsKept d more) → events_in more ≡ events_in (all_told turns.events) → opening ≡ before →
       HasTenants t old new doors shut

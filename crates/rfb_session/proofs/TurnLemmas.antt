@@ -55,7 +55,7 @@ module _ {X : Type 0} where
         turns = (last, last_scene, w, was.updates, more, was.turns, one.turn, refl);
       }
 
-  -- a turn of which the source has no bytes any more
+  -- a turn whose source has no more bytes
   pub turns_end : (shows : Showing X) (unread mid left before w after : Option (List ℕ)) (old : Server) (scene : X)
       (told : ℕ) (last : Server) (last_scene : X) (new : Server) (new_scene : X) →
       TakesTurns shows unread mid before w old scene told last last_scene →

@@ -1,5 +1,5 @@
--- What each end answers to the other's items, as items of its own: in the handshake what RFC 6143
--- sections 7.1 and 7.3 and Appendix A ask next, and after it nothing.
+-- What each end answers to the other's items, as items of its own. In the handshake that is what RFC 6143 sections 7.1
+-- and 7.3 and Appendix A ask next, and after it nothing.
 use Rattle.std.specs.Prelude.{zero, suc, List, [], ◌∷◌, ◌++◌, map}
 use Rattle.rfb_wire.specs.Encoding.{number_of}
 use Rattle.rfb_wire.specs.ClientMessage.{SetPixelFormat, SetEncodings}
@@ -57,7 +57,7 @@ answers_to_step viewing (AwaitsName version width height name_length) (Name text
     ready_messages viewing
 answers_to_step viewing point step = []
 
--- to an item where the server's bytes stand at a point
+-- to an item where the server's bytes are at a point
 abbrev pub viewer_answers : Viewing → ServerAt → FromServer → List FromClient
 viewer_answers viewing at item = answers_of_first (λ point step. answers_to_step viewing point step) at item
 
@@ -77,7 +77,7 @@ answers_to_client serving (AwaitsClientInit version) (ClientInit shared) =
     map (λ step. First step) (init_asked serving.hello)
 answers_to_client serving point step = []
 
--- to an item where the client's bytes stand at a point
+-- to an item where the client's bytes are at a point
 abbrev pub server_answers : Serving → ClientAt → FromClient → List FromServer
 server_answers serving at item = answers_of_first (λ point step. answers_to_client serving point step) at item
 

@@ -22,7 +22,7 @@ counted tally = tally.failures
 abbrev pub within : {T : Type 0} → Tally T → T
 within tally = tally.inner
 
--- how many failures were counted of a writer that was lent, that one itself, and the name of the
+-- of a borrowed writer: how many failures were counted, the writer itself, and the name of the
 -- reference to it
 abbrev pub lent_failures : {W : Type 0} → Lent W → ℕ
 lent_failures lent = lent.failures

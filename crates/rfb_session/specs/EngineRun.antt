@@ -1,5 +1,5 @@
--- What an engine did with its end: bytes that the end was fed, in turn with acts of the engine's
--- own, as a list of steps that each further step makes longer.
+-- What an engine did with its end, as a list of steps: bytes that the end was fed, in turn with acts of the engine's
+-- own. Each further step makes the list longer.
 use Rattle.std.specs.Prelude.{◌≡◌, ℕ, ◌+◌, List, [], ◌∷◌, ◌++◌, Option, ⊤}
 use Rattle.rfb_wire.specs.stream.End.{Machine, Takes}
 
@@ -8,8 +8,8 @@ pub data Step (E A : Type 0) : Type 0 where
   Fed : (bytes : List ℕ) → (event : Option E) → Step E A
   Did : (act : A) → Step E A
 
--- an end as engines run it: what it was made with, and by that its machine; what it stands for;
--- what an act makes of a state; what is sent at a step; and how many updates a step is the end of
+-- an end as engines run it: what it was made with, and by that its machine; and what it stands for. Further what an act
+-- makes of a state, what is sent at a step, and how many updates a step ends
 pub record Driven (V C S P I F E A : Type 0) : Type 1 where
   pub machine : C → Machine S P I F E
   pub stands : C → V → S → List ℕ → Type 0
@@ -18,7 +18,7 @@ pub record Driven (V C S P I F E A : Type 0) : Type 1 where
   pub updates : Step E A → ℕ
 
 module _ {E A : Type 0} where
-  -- the bytes that an end was fed in a step, and in steps the latest of which stands first
+  -- the bytes that an end was fed in a step, and in steps, the latest first
   abbrev pub fed_at : Step E A → List ℕ
   fed_at (Fed bytes event) = bytes
   fed_at (Did act) = []
@@ -27,7 +27,7 @@ module _ {E A : Type 0} where
   fed_in [] = []
   fed_in (step ∷ before) = fed_in before ++ fed_at step
 
-  -- steps of which each feeds
+  -- each of these steps feeds
   abbrev pub AreFed : List (Step E A) → Type 0
   AreFed [] = ⊤
   AreFed (Fed bytes event ∷ before) = AreFed before
@@ -51,7 +51,7 @@ module _ {V C S P I F E A : Type 0} where
       Takes (d.machine made) s prefix bytes event t rest
   StepsTo d made s prefix (Did act) t rest = d.does s act t × (rest ≡ prefix)
 
-  -- steps one after another, the latest of which stands first in the list
+  -- steps one after another, the latest first in the list
   abbrev pub Runs : Driven V C S P I F E A → C → S → List ℕ → List (Step E A) → S → List ℕ → Type 0
   Runs d made s prefix [] t rest = (t ≡ s) × (rest ≡ prefix)
   Runs d made s prefix (step ∷ before) t rest =
@@ -93,8 +93,8 @@ module _ {V C S P I F E A : Type 0} where
       (r : Ran d made s prefix new fed sent updates) × AreFed r.steps
 
 module _ {V : Type 0} where
-  -- an end was fed the first of some bytes, of which that is known, and went on so to `last`; and it ended at
-  -- the bytes after them
+  -- of some bytes, for which `known` holds, an end was fed the first and went on so to `last`; and it ended at the
+  -- bytes after them
   pub record EndsAmong (known : List ℕ → Type 0) (goes : List ℕ → V → Type 0)
       (ends_at : V → List ℕ → Type 0) : Type 0 where
     pub fed : List ℕ

@@ -16,7 +16,7 @@ pub record WasCounted (old : Viewer) (bytes : List ℕ) (before told : ℕ) (new
   pub fed : WasFed old bytes event new
   pub told_is : told ≡ min (before + ends_told event) (2 ^ 64 - 1)
 
--- of some bytes, of which that is known, the first were fed. The last of these end an update, and it is known
+-- of some bytes, for which `known` holds, the first were fed. The last of these end an update, and `counts` holds for
 -- how many had ended before
 pub record EndsAnUpdate (known : List ℕ → Type 0) (counts : ℕ → Type 0) (old new : Viewer) : Type 0 where
   pub fed : List ℕ

@@ -1,4 +1,5 @@
--- What a viewer comes to show, RFC 6143 section 7.6.1: what its server knows it to show.
+-- What a viewer shows once all has arrived, RFC 6143 section 7.6.1: what its server knows it to
+-- show.
 use Rattle.std.specs.Prelude.{◌≡◌, ℕ, ◌<◌, [], true, Option, Some, None}
 use Rattle.rfb_pixel.specs.declared.colour.Colour.{Colour}
 use Rattle.rfb_pixel.specs.Format.{PixelFormat, seen_through}

@@ -38,8 +38,8 @@ GoesForAll e old new =
     (new ≡ old) ⊎ ((event : Event) × AsksAll e event × Steps e old event new)
     ⊎ ((s : Stroke) × Strokes s old new)
 
--- so it is of what a relay does on its first hop: as its viewer is fed, as its share opens, as the picture of another
--- server's viewer is shown there, and from one moment to the next
+-- so it is of what a relay does on its first hop: as its viewer is fed, as its share opens, as another server's viewer
+-- is shown there, and from one moment to the next
 pub record FedForAll (e : Ends) (old : Network) (viewer : Viewer) (has to_server to_viewer : List ℕ)
     : Type 0 where
   pub goes : GoesFed e old viewer has to_server to_viewer

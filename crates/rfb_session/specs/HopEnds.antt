@@ -1,5 +1,5 @@
--- The ends of two hops: a server, whatever it is, a share of the picture that its viewer has, and a
--- viewer of a seat of that share stand for a moment.
+-- The ends of two hops, which stand for a moment: a server, whatever it is; a share of the picture
+-- that its viewer has; and a viewer of a seat of that share.
 use Rattle.std.specs.Prelude.{◌≡◌, ℕ, List, Option, Some, None}
 use Rattle.rfb_viewer.specs.declared.viewer.Viewer.{Viewer}
 use Rattle.rfb_viewer.specs.Model.{StandsFor as ViewerStandsFor}
@@ -13,8 +13,8 @@ use Rattle.rfb_session.specs.ShareViewers.{IsWatchedBy}
 
 -- ---- the first hop
 
--- a viewer stands for that of a network. A server that stands for its session with those bytes of a
--- message under way is to get these, and the viewer those
+-- a viewer stands for that of a network. To a server that stands for the network's session, with
+-- `server_has` of a message under way, these bytes are on their way, and those to the viewer
 pub record IsFed (e : Ends) (viewer : Viewer) (server_has to_server to_viewer : List ℕ)
     (n : Network) : Type 0 where
   pub reached : IsReached e n
@@ -27,7 +27,7 @@ pub record IsFed (e : Ends) (viewer : Viewer) (server_has to_server to_viewer : 
     server_gets = to_server;
   })
 
--- a network after it, at which the server has done nothing, that a viewer stands for so
+-- a network after it that a viewer stands for so; the server has done nothing
 pub record GoesFed (e : Ends) (old : Network) (viewer : Viewer)
     (has to_server to_viewer : List ℕ) : Type 0 where
   pub next : Network
@@ -63,7 +63,7 @@ pub record OpensAs (e : Ends) (old : Network) (share : Share) (has to_server to_
 
 -- ---- the second hop
 
--- a viewer that has come stands with its seat for a link over the share's screen
+-- a viewer that has come has with its seat this link over the share's screen
 abbrev pub IsLinked : Ends → Share → ℕ → Viewer → List ℕ → List ℕ → Option LinkState → Type 0
 IsLinked f share k viewer to_server on_way None = Unit {0}
 IsLinked f share k viewer to_server on_way (Some l) =
@@ -81,8 +81,8 @@ pub record ShowsSame (old new : Share) : Type 0 where
 
 -- ---- from one moment to the next
 
--- a moment after it at which the server has done nothing, and for which the share stands with these
--- bytes on the first hop, and the viewer of the seat with those on the second
+-- a moment after it; the server has done nothing. The share stands for it with these bytes on the
+-- first hop, and the viewer of the seat with those on the second
 pub record Becomes (e f : Ends) (m : Moment) (share : Share) (has to_server to_viewer : List ℕ)
     (k : ℕ) (viewer : Viewer) (sends gets : List ℕ) : Type 0 where
   pub next : Moment

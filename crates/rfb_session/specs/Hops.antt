@@ -1,5 +1,5 @@
 -- Two hops: a relay has a viewer of a server, and shows the picture of that to a viewer of its own.
--- What both come to is said moment by moment.
+-- What becomes of both is said moment by moment.
 use Rattle.std.specs.Prelude.{◌≡◌, ◌⊎◌, ℕ, ◌<◌, true, false, List, [], ◌∷◌, ◌++◌, length}
 use Rattle.std.specs.Prelude.{Option, Some, None}
 use Rattle.rfb_pixel.specs.declared.colour.Colour.{Colour}
@@ -14,8 +14,8 @@ use Rattle.rfb_session.specs.Headline.{AnswersSome, ShowsComposing}
 use Rattle.rfb_session.specs.Link.{Ends, Composing, LinkState}
 use Rattle.rfb_session.specs.Network.{Network, Goes, IsFirst, IsReached}
 
--- the server's screen and its link with the relay's viewer; the relay's screen; and, once a viewer
--- has come to the relay, its link over that screen
+-- the server's screen and its link with the relay's viewer; the relay's screen; and, once the relay
+-- has a viewer, that viewer's link over this screen
 pub record Moment : Type 0 where
   pub above : Network
   pub screen : Grid Colour
@@ -85,7 +85,7 @@ pub record Once (moments : List Moment) (P : Moment → List Moment → Type 0) 
   pub is_of : moments ≡ later ++ moment ∷ earlier
   pub so : P moment earlier
 
--- the relay's viewer stands between two messages
+-- the relay's viewer is between two messages
 pub record IsBetween (m : Moment) : Type 0 where
   pub point : UpdatePoint
   pub at : m.above.link.viewer.point ≡ Second point
@@ -106,8 +106,8 @@ ShowsServers now m earlier =
 abbrev pub IsAnswered : Composing → ℕ → ℕ → Type 0
 IsAnswered c x y = (x < c.screen.width) × (y < c.screen.height) × (asked_at c.area x y ≡ true)
 
--- at each place that both answered, the picture is the server's screen as it was composed of, seen
--- through the format of the first hop, and then through that of the second
+-- at each place that both answered, the picture is the server's screen at its composing, seen
+-- through the format of the first hop and then through that of the second
 abbrev pub ShowsTwice : Composing → Composing → Option (Grid Colour) → Type 0
 ShowsTwice first second None = ⊥
 ShowsTwice first second (Some picture) =
@@ -123,8 +123,9 @@ ShowsBy twice second due now m earlier =
     (first : Composing) × (m.above.link.latest ≡ Some first) × twice first second due
     × IsFresh now first
 
--- an update was composed of the relay's screen at that moment; and where the relay's viewer stood
--- between two messages then, the server had composed one before of which that screen was
+-- an update was composed of the relay's screen at that moment. Where the relay's viewer was between
+-- two messages then, the server had composed one before; and `twice` holds of both, and of the
+-- picture that is due
 pub record PassesOnBy (twice : Composing → Composing → Option (Grid Colour) → Type 0)
     (second : Composing) (due : Option (Grid Colour)) (m : Moment) (earlier : List Moment)
     : Type 0 where

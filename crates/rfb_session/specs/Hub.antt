@@ -1,4 +1,4 @@
--- What a hub is, and what its slots stand for.
+-- What a hub is, and the networks of its slots.
 use Rattle.std.specs.Prelude.{◌≡◌, ℕ, ◌≤◌, Bool, false, [], length, Option, Some, None}
 use Rattle.rfb_pixel.specs.declared.colour.Colour.{Colour}
 use Rattle.rfb_picture.specs.Grid.{Grid}
@@ -71,10 +71,10 @@ pub record IsFreshSeat (hub : Hub) (setup : Setup) (seat : HubSeat) : Type 0 whe
   pub fresh : LinkStandsFor (ends_of (serving_in hub) setup) hub.screen seat.link
       (first_link (ends_of (serving_in hub) setup))
 
--- ---- what its slots stand for
+-- ---- the networks of its slots
 
--- each seat to which no foreign bytes came, and whose viewer admits the screen, stands over the
--- screen for a network that was reached from a fresh one, and of which that holds
+-- each seat that got no foreign bytes, and whose viewer admits the screen, stands over the screen
+-- for a network. That was reached from a fresh one, and `Holds` is so for it
 abbrev pub Each : Hub → (Ends → HubSeat → Network → Type 0) → Type 0
 Each hub Holds =
     (k : ℕ) (seat : HubSeat) → seat_in hub k ≡ Some seat → seat.foreign ≡ false →

@@ -25,7 +25,7 @@ hub_refusal (Some NotReady) = Some HubNotReady
 hub_refusal (Some Busy) = Some HubBusy
 hub_refusal (Some AreaOutside) = Some HubAreaOutside
 
--- what became of an event in its slot, as a hub tells it
+-- what became of an event in its slot, as a hub reports it
 pub record TellsFor (told : Told) (all : HubTold) : Type 0 where
   pub moved : all.moved ≡ told.moved
   pub refused : all.refused ≡ hub_refusal told.refused

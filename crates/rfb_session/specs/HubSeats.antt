@@ -55,7 +55,7 @@ pub record IsSeated (setup : Setup) (link : Link) (seat : HubSeat) : Type 0 wher
   pub link_is : seat.link ≡ link
   pub ours : seat.foreign ≡ false
 
--- a seat that its own viewer's bytes alone reached stands over a screen for a network
+-- a seat that only its own viewer's bytes reached stands over a screen for a network
 pub record SeatStandsFor (e : Ends) (screen : Grid Colour) (seat : HubSeat) (n : Network)
     : Type 0 where
   pub ours : seat.foreign ≡ false
@@ -129,10 +129,10 @@ pub record SeatDoes (screen : Grid Colour) (old : HubSeat) (event : SlotEvent) (
     (new : HubSeat) : Type 0 where
   pub setup_is : new.setup ≡ old.setup
   pub foreign_is : new.foreign ≡ old.foreign
-  -- what becomes of its ends and of the bytes between them, whatever they are and stand for
+  -- what becomes of its ends and of the bytes between them, whatever they are
   pub acts : LinkActs screen old.link (event_of event) d.told new.link
   pub tells : TellsAlone (event_of event) d.told
-  -- whatever network it stood for, the event is a step of it, and the answer tells so
+  -- whatever network it stood for, the event is a step of it, and the answer says so
   pub does : LinkDoesOver screen old.link (event_of event) d.told new.link
   pub lost : LosesOn old.link (event_of event) d.told new.link
   pub hints : LinkHints old.link (event_of event) d.told new.link
@@ -147,8 +147,8 @@ IsIdleOn screen link OfComposing =
     ⊎ ((OwesUpdate screen link.session → ⊥) ⊎ (server_fault_of link ≢ None))
 IsIdleOn screen link event = ⊥
 
--- what takes no memory there: a call that is refused, by what the link stands for or by its viewer
--- alone; bytes for an end that has failed, or none; and a composing of nothing
+-- what takes no memory there: a call that is refused, by the link's state or by its viewer alone;
+-- bytes for an end that has failed, or none; and a composing of nothing
 pub record SeatSpares (screen : Grid Colour) (seat : HubSeat) (event : SlotEvent) : Type 0 where
   pub case : (IsRefusedOn seat.link (event_of event)
       ⊎ (refusal_on seat.link (event_of event) ≢ None))

@@ -18,7 +18,7 @@ abbrev pub SparesIn : Grid Colour → Option HubSeat → SlotEvent → Type 0
 SparesIn screen None event = Unit {0}
 SparesIn screen (Some seat) event = SeatSpares screen seat event
 
--- foreign bytes are in flight to the session of a slot, where there is one, and it tells whether
+-- foreign bytes are in flight to the session of a slot, if there is one; and whether there is
 abbrev pub TakesOrNot : Bool → List ℕ → Option HubSeat → Option HubSeat → Type 0
 TakesOrNot false bytes None None = Unit {0}
 TakesOrNot true bytes (Some old) (Some new) = TakesForeign bytes old new

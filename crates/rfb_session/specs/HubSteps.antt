@@ -108,9 +108,9 @@ IsOther (Of j event) k = nat_eq k j ≡ false
 IsOther (Foreign j bytes) k = nat_eq k j ≡ false
 IsOther event k = Unit {0}
 
--- what an event makes of a slot that it is not of: a drawing marks its session, a hint reaches it;
--- else, where it is not reported as emptied, its session, its viewer, the bytes in flight and the
--- latest composing are what they were
+-- what an event makes of a slot that it is not of: a drawing marks its session, and a hint reaches it. Any other event
+-- leaves its session, its viewer, the bytes in flight and the latest composing as they were, unless the slot is
+-- reported as emptied
 abbrev pub StaysAs : HubEvent → HubTold → ℕ → Option HubSeat → Option HubSeat → Type 0
 StaysAs (Fill rect colour) told k old new =
     told.refused ≡ None → OnSlot (λ a b. IsNotifiedOn (notice_of (OneFill rect colour)) a b) old new
@@ -126,10 +126,10 @@ abbrev pub OthersStay : Hub → HubEvent → HubTold → Hub → Type 0
 OthersStay old event told new =
     (k : ℕ) → IsOther event k → StaysAs event told k (seat_in old k) (seat_in new k)
 
--- ---- the networks that slots stand for
+-- ---- the networks of slots
 
--- of a network that a slot stands for an event is the step of a world: a drawing of each slot's, an
--- event of a slot of its own alone
+-- what an event is to the network of a slot: the step of a world. A drawing is one for each slot, and an event of a
+-- slot for its own alone
 abbrev pub SlotSteps : Ends → Network → HubEvent → ℕ → Network → Type 0
 SlotSteps e old (Fill rect colour) k new = Steps e old (OfFill rect colour) new
 SlotSteps e old (Put x y row) k new = Steps e old (OfPut x y row) new
@@ -139,7 +139,7 @@ SlotSteps e old (Of j event) k new =
     (j ≡ k → Steps e old (event_of event) new) × (nat_eq k j ≡ false → new ≡ old)
 SlotSteps e old event k new = new ≡ old
 
--- and the answer tells of it
+-- and the answer reports it
 abbrev pub SlotTells : Ends → Network → HubEvent → ℕ → HubTold → Type 0
 SlotTells e old (Of j event) k told =
     j ≡ k → (one : Told) × Tells e old (event_of event) one × TellsFor one told
@@ -162,12 +162,11 @@ pub record HubSteps (old : Hub) (event : HubEvent) (told : HubTold) (new : Hub) 
   pub acts : HubActs old event told new
   -- the others
   pub others : OthersStay old event told new
-  -- the networks that its slots stand for
+  -- the networks of its slots
   pub does : SlotsDo old event told new
   pub kept : told.refused ≢ None → new ≡ old
 
--- a drawing gives the screen what it says, and each session is told; of each network that a slot
--- stands for it is one too
+-- a drawing gives the screen what it says, and each session is told. It is a drawing of each slot's network, too
 pub record DrawsHub (old : Hub) (s : Stroke) (told : HubTold) (new : Hub) : Type 0 where
   pub made : serving_in new ≡ serving_in old
   pub closed : new.closed ≡ old.closed
@@ -185,8 +184,8 @@ RunsHub old [] new = new ≡ old
 RunsHub old (event ∷ events) new =
     (mid : Hub) × (told : HubTold) × HubSteps old event told mid × RunsHub mid events new
 
--- from a hub that was made with these, and whose slots are empty, the events led there; and of its
--- slots holds all that is promised
+-- from a hub that was made with these, and whose slots are empty, the events led there; and all that is promised holds
+-- of its slots
 abbrev pub HubPlayed : ℕ → ℕ → List HubEvent → Hub → Type 0
 HubPlayed width height events hub =
     (first : Hub) × IsEmptyHub first × (first.screen ≡ uniform width height black)

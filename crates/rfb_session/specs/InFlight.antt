@@ -48,7 +48,7 @@ first_flight e = record {
   server_gets = [];
 }
 
--- the bytes that are sent for what an end tells, if it tells something
+-- the bytes that are sent for what an end reports, if it reports something
 abbrev pub viewer_reply : Option ViewerTold → List ℕ
 viewer_reply None = []
 viewer_reply (Some event) = bytes_of_viewer event
@@ -57,8 +57,8 @@ abbrev pub server_reply : Option ServerTold → List ℕ
 server_reply None = []
 server_reply (Some event) = bytes_of_server event
 
--- bytes reached the viewer: the link moves by as many, the viewer is in the state that they lead
--- to, what is left is still in flight, and what it answers is in flight to the server
+-- bytes reached the viewer: the link moves by as many, and the viewer is in the state that they
+-- lead to. What is left is still in flight, and what it answers is in flight to the server
 pub record ReachesViewer (e : Ends) (l : LinkState) (f : Flight) (bytes later : List ℕ)
     (event : Option ViewerTold) (t : ViewerState) (rest : List ℕ) : Type 0 where
   pub new : LinkState
@@ -70,7 +70,7 @@ pub record ReachesViewer (e : Ends) (l : LinkState) (f : Flight) (bytes later : 
     server_gets = f.server_gets ++ viewer_reply event;
   })
 
--- bytes reached the server, over the screen that its session is lent
+-- bytes reached the server, over the screen that its session borrows
 pub record ReachesServer (e : Ends) (screen : Grid Colour) (l : LinkState) (f : Flight)
     (bytes later : List ℕ) (event : Option ServerTold) (t : ServerState) (rest : List ℕ)
     : Type 0 where

@@ -1,5 +1,5 @@
 -- A link: a server's session and its viewer, and the items in flight between them. The screen is
--- not the link's own: the session is lent it at each step.
+-- not the link's own: the session borrows it at each step.
 use Rattle.std.specs.Prelude.{ℕ, List, [], ◌∷◌, Option, None}
 use Rattle.rfb_pixel.specs.declared.colour.Colour.{Colour}
 use Rattle.rfb_pixel.specs.Format.{PixelFormat}
@@ -31,7 +31,7 @@ viewer_stream e = server_bytes e.viewing.form e.viewing.hello
 
 -- ---- a server without its screen
 
--- where the client's bytes stand; what the viewer has or will have; the places that are asked; the
+-- the point of the client's bytes; what the viewer has or will have; the places that are asked; the
 -- format, and the encodings that the viewer listed
 pub record SessionState : Type 0 where
   pub point : ClientAt
@@ -40,7 +40,7 @@ pub record SessionState : Type 0 where
   pub form : PixelFormat
   pub encodings : List Encoding
 
--- with the screen that it is lent it is a server
+-- with the screen that it borrows it is a server
 abbrev pub server_of : Grid Colour → SessionState → ServerState
 server_of screen s = record {
   point = s.point;

@@ -1,4 +1,4 @@
--- What the calls of a `Link` do to its bytes and its ends, whatever these are and stand for.
+-- What the calls of a `Link` do to its bytes and its ends, whatever these are.
 use Rattle.std.specs.Prelude.{◌≡◌, ◌≢◌, ◌⊎◌, ℕ, ◌<◌, min, Bool, true, false, List, [], ◌++◌, map, length, take, drop}
 use Rattle.std.specs.Prelude.{Option, None, Some}
 use Rattle.rfb_pixel.specs.declared.colour.Colour.{Colour}
@@ -94,8 +94,8 @@ MovesNone link event = ⊥
 
 -- ---- what an end hears
 
--- how often a client of which this is reported asks for the screen alone: once, by a ClientInit
--- with shared-flag 0, RFC 6143 section 7.3.1
+-- how often a client asks for the screen alone, if its session reports this: once, by a ClientInit with shared-flag 0,
+-- RFC 6143 section 7.3.1
 abbrev pub sole_told : Option ServerTold → ℕ
 sole_told None = 0
 sole_told (Some (Reply bytes)) = 0

@@ -25,7 +25,7 @@ StepsByCall old call new =
     (new.screen ≡ old.screen) × (new.link ≡ calls (refusal_at old.link call) old.link
     (called call old.link.viewer) (message_of call))
 
--- that is its step, whatever the link stood for over whatever screen, and the answer tells of it
+-- that is its step, whatever the link stood for over whatever screen, and the answer reports it
 abbrev pub DoesCall : Link → Call → Told → Link → Type 0
 DoesCall old call told new =
     (e : Ends) (n : Network) → AreMade e → IsReached e n → LinkStandsFor e n.screen old n.link →
@@ -38,7 +38,7 @@ pub record CallsOnBytes (old : Link) (call : Call) (told : Told) (new : Link) : 
       (refused_by old.viewer call) old told new
   pub same : is_noted call ≡ false → new.viewer ≡ old.viewer
 
--- it is refused, of a state that the link stands for over a screen, reached from a fresh one
+-- it is refused in a state of the link over a screen, reached from a fresh one
 pub record IsRefusedCall (link : Link) (call : Call) : Type 0 where
   pub e : Ends
   pub n : Network

@@ -1,4 +1,4 @@
--- What a `Link` stands for over the screen that its session is lent: a state of the link.
+-- What a `Link` stands for over the screen that its session borrows: a state of the link.
 use Rattle.std.specs.Prelude.{◌≡◌, ◌≢◌, ℕ, min, List, [], length, drop, Option, Some, None}
 use Rattle.rfb_pixel.specs.declared.colour.Colour.{Colour}
 use Rattle.rfb_picture.specs.Grid.{Grid}
@@ -34,8 +34,8 @@ use Rattle.rfb_session.specs.Told.{RefusesAs, Tells, TellsAlone}
 abbrev pub ServesOver : Grid Colour → Serving → Session → ServerState → List ℕ → Type 0
 ServesOver screen serving session s prefix = SessionStandsFor serving screen session s prefix
 
--- over a screen a link stands for a state: its ends and the bytes in flight between them for the
--- state's, and what it notes is the state's latest composing
+-- over a screen a link stands for a state: its ends and the bytes in flight between them for those
+-- of the state; and what it notes is the state's latest composing
 pub record LinkStandsFor (e : Ends) (screen : Grid Colour) (link : Link) (l : LinkState)
     : Type 0 where
   pub carries : Carries (ServesOver screen) ViewerStandsFor e screen link.session link.viewer
@@ -78,7 +78,7 @@ pub record AreNew (e : Ends) (session : Session) (viewer : Viewer) (screen : Gri
 
 -- ---- what becomes of it
 
--- an event is a step, whatever the link stood for over whatever screen, and the answer tells of it
+-- an event is a step, whatever the link stood for over whatever screen, and the answer reports it
 abbrev pub LinkDoes : Link → Event → Told → Link → Type 0
 LinkDoes old event told new =
     (e : Ends) (n : Network) → AreMade e → IsReached e n → LinkStandsFor e n.screen old n.link →
@@ -144,7 +144,7 @@ pub record Arrives (old : Link) (event : Event) (told : Told) (new : Link) : Typ
 
 -- ---- where memory is not wanting
 
--- the event is refused, of a state that the link stands for over a screen, reached from a fresh one
+-- the event is refused in a state of the link over a screen, reached from a fresh one
 abbrev pub IsRefusedOn : Link → Event → Type 0
 IsRefusedOn link event =
     (e : Ends) × (n : Network) × (refused : Refused)
@@ -158,7 +158,7 @@ IsLostOn link (ToViewer count) =
     (fault : ViewerFault) × (viewer_fault_of link ≡ Some fault) × (fault ≢ ViewerWants)
 IsLostOn link event = ⊥
 
--- no update is due, in a state that the link stands for over that screen
+-- no update is due in a state of the link over that screen
 abbrev pub ComposesNothingOver : Grid Colour → Link → Type 0
 ComposesNothingOver screen link =
     (e : Ends) × (l : LinkState) × LinkStandsFor e screen link l

@@ -1,5 +1,5 @@
--- The steps of a link, over the screen that its session is lent: calls of the viewer, composings,
--- and deliveries of any number of bytes either way.
+-- The steps of a link, over the screen that its session borrows: calls of the viewer, composings, and deliveries of any
+-- number of bytes either way.
 use Rattle.std.specs.Prelude.{◌≡◌, ℕ, zero, suc, ◌+◌, min, Bool, List, [], ◌∷◌, ◌++◌, map, Option}
 use Rattle.std.specs.Prelude.{Some, None, ◌⊎◌, ◌-◌}
 use Rattle.rfb_pixel.specs.declared.colour.Colour.{Colour}
@@ -96,9 +96,8 @@ abbrev pub flight_to_server : Ends → LinkState → ℕ
 flight_to_server e l = sizes (server_stream e) l.to_server - l.at_server
 
 module _ {P I F : Type 0} where
-  -- `n` bytes of a queue reach their end, of whose first item `moved` bytes had before. The items that
-  -- are whole with them are done, and of the first that is left `at` bytes have reached it. The link
-  -- becomes what is made of these
+  -- `n` bytes of a queue reach their end; `moved` bytes of its first item had before. The items that are whole with
+  -- them are done, and `at` bytes of the next one have reached the end. The link becomes what is made of these
   pub record MovesBy (stream : Grammar P I F) (waiting : List I) (moved n : ℕ)
       (becomes : List I → List I → ℕ → LinkState) (new : LinkState) : Type 0 where
     pub done : List I
@@ -109,8 +108,8 @@ module _ {P I F : Type 0} where
     pub within : IsWithinFirst stream at left
     pub result : new ≡ becomes done left at
 
--- `n` bytes reach the viewer: the items that are whole act, one after another, and their answers
--- join those in flight to the server; the rest is a part of the next item
+-- `n` bytes reach the viewer. The items that are whole act, one after another, and their answers join those in flight
+-- to the server; the rest is a part of the next item
 abbrev pub MovesToViewer : Ends → LinkState → ℕ → LinkState → Type 0
 MovesToViewer e old n new =
     MovesBy (viewer_stream e) old.to_viewer old.at_viewer n (λ done left at. record old {

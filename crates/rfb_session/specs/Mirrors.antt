@@ -1,4 +1,4 @@
--- A viewer whose picture is shown to others: what it shows, and what it stands for.
+-- A viewer whose picture is shown to others: what it shows, and its state.
 use Rattle.std.specs.Prelude.{◌≡◌, ◌≢◌, ◌≤◌, ◌<◌, List, [], ◌++◌, ℕ, length, take}
 use Rattle.std.specs.Prelude.{Option, Some, None, false}
 use Rattle.std.specs.Prelude.{Result, Err, IfOk, IfErr}
@@ -48,8 +48,8 @@ StandsOrFailed viewer = fault_of viewer ≡ None → IsViewing viewer
 
 -- ---- bytes of its server's
 
--- they were taken, up to the last byte of the first item that gives an event, or all: what it stands
--- for after them, its damage and its copies
+-- they were taken, up to the last byte of the first item that gives an event, or all: its state after them, its damage
+-- and its copies
 pub record TakesBytes (old : Viewer) (bytes : List ℕ) (fed : Fed ViewerEvent) (new : Viewer) : Type 0 where
   pub used : fed.used ≤ length bytes
   pub all : fed.event ≡ None → fed.used ≡ length bytes
@@ -72,9 +72,9 @@ pub record FailsAt (old : Viewer) (bytes : List ℕ) (fault : ViewerFault) (new 
   pub counted : fault_of old ≡ None → CountsTo fault old bytes new
   pub made : making_of new ≡ making_of old
 
--- ---- what it tells
+-- ---- what it reports
 
--- what it shows and what it stands for is as it was, and all else but its damage and its copies
+-- what it shows and its state are as they were, and so is all else but its damage and its copies
 pub record KeepsViewing (old new : Viewer) : Type 0 where
   pub stands : (viewing : Viewing) (s : ViewerState) (prefix : List ℕ) →
       StandsFor viewing old s prefix → StandsFor viewing new s prefix

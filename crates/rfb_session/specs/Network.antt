@@ -63,7 +63,7 @@ StepsAll e old [] new = new ≡ old
 StepsAll e old (event ∷ events) new =
     (mid : Network) × Steps e old event mid × StepsAll e mid events new
 
--- a fresh world: a screen of the size that the server tells, whatever was drawn on it, and a fresh
+-- a fresh world: a screen of the size that the server gives, whatever was drawn on it, and a fresh
 -- link
 pub record IsFirst (e : Ends) (n : Network) : Type 0 where
   pub width : n.screen.width ≡ e.serving.hello.width

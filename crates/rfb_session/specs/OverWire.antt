@@ -1,5 +1,5 @@
--- What an engine did over a wire, by what is known of the wire before and after: the same of its bytes
--- and its failures as of those of a source and a sink.
+-- What an engine did over a wire, by what is known of the wire before and after. The same is said of its bytes and its
+-- failures as of those of a source and a sink.
 use Rattle.std.specs.Prelude.{◌≡◌, ℕ, ◌+◌, List, Option, Result}
 use Rattle.rfb_server.specs.declared.server.Server.{Server}
 use Rattle.rfb_viewer.specs.declared.viewer.Viewer.{Viewer}

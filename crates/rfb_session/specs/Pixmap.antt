@@ -13,7 +13,7 @@ components [] = []
 components (c ∷ cs) =
     big_bytes 2 c.r ++ (big_bytes 2 c.g ++ (big_bytes 2 c.b ++ components cs))
 
--- What stands before the places of a picture of that size: `P6`, the width and the height in
+-- What comes before the places of a picture of that size: `P6`, the width and the height in
 -- decimal, and the largest component.
 abbrev pub header_of : ℕ → ℕ → List ℕ
 header_of width height =

@@ -66,7 +66,7 @@ RunsToIdle old fed sent updates new =
     (serving : Serving) (s : ServerState) (prefix : List ℕ) → StandsFor serving old s prefix →
     (r : Ran server_driven serving s prefix new fed sent updates) × IsIdle r.state
 
--- the same of a server of which none was due at the beginning, as of a fresh one
+-- the same of a server at which none was due at the beginning, as at a fresh one
 abbrev pub KeepsIdle : Server → List ℕ → List ℕ → ℕ → Server → Type 0
 KeepsIdle old fed sent updates new =
     (serving : Serving) (s : ServerState) (prefix : List ℕ) → StandsFor serving old s prefix →
@@ -88,7 +88,7 @@ pub record ServerEndsBy (fault : ServerFault) (old : Server) (slice : List ℕ)
       RunsOutBy (server serving) AsksMemory (StandsFor serving) old slice
   pub kept : KeepsNotes fault old slice new
 
--- whether the client's bytes have ended between two messages, as the server stands
+-- whether the client's bytes have ended between two messages, by the server
 abbrev pub ServerBetween : Server → Bool → Type 0
 ServerBetween now between =
     (serving : Serving) (s : ServerState) (prefix : List ℕ) →
@@ -168,8 +168,8 @@ StopsUpdating writing old before after failed_before failed Truncated new = ⊥
 
 -- ---- all reads
 
--- it was fed all that there was, if that is known and has fewer than 2 ^ 64 - 1 bytes; all answers
--- and updates were written after the front; and no update is due then
+-- it was fed all that there was, if that is known and has fewer than 2 ^ 64 - 1 bytes. All answers and updates were
+-- written after the front, and no update is due then
 pub record AllServed (unread left before after : Option (List ℕ)) (front : List ℕ)
     (old : Server) (told : ℕ) (new : Server) : Type 0 where
   pub fed : List ℕ
@@ -201,7 +201,7 @@ ServedUntil unread left before after front old fault new =
     × RunsFromIdle old fed sent updates last × Appends before after (front ++ sent))
     (λ last slice. ServerEndsBy fault last slice new)
 
--- a server's greeting, whatever it stands for
+-- a server's greeting, whatever its state
 abbrev pub IsGreeting : Server → List ℕ → Type 0
 IsGreeting old greeting =
     (serving : Serving) (s : ServerState) (prefix : List ℕ) → StandsFor serving old s prefix →

@@ -47,8 +47,8 @@ module _ {W X : Type 0} where
     pub turns : TurnsOver steps shows before old scene count updates mid new last
     pub ended : steps mid Ended after ⊎ ((2 ^ 64 - 1 ≤ count) × (after ≡ mid))
 
--- why a turn stops: its read failed; or while its bytes were heard; or all of them were, and then
--- there was no memory for an update that was due, or one was not written whole
+-- why a turn stops: its read failed; or it stopped while its bytes were heard. Or all of them were, and then there was
+-- no memory for an update that was due, or one was not written whole
 pub data StopsTurnOver {W : Type 0} (steps : Stepping W) (known : W → Known) (before : W)
     (old : Server) (fault : EngineFault) (after : W) (new : Server) : Type 0 where
   MissesRead : fault ≡ Device → steps before Missed after → new ≡ old →

@@ -23,11 +23,11 @@ seat_in share k = seat_at k share.seats
 abbrev pub screen_of : Share → Grid Colour
 screen_of share = shown_on share.screen
 
--- what its owner draws on, where it is that
+-- what its owner draws on, if its owner draws it
 abbrev pub canvas_of : Share → Option (Grid Colour)
 canvas_of share = canvas_on share.screen
 
--- the viewer whose picture it is, where it is one's
+-- the viewer whose picture it is, if it is one's
 abbrev pub viewer_of : Share → Option Viewer
 viewer_of share = viewer_on share.screen
 

@@ -1,5 +1,5 @@
--- The life of a seat: what its session stands for by all that was received there, over the screen
--- that the drawings lead to; and that what was written and what waits are what it sent, in order.
+-- The life of a seat. Its session stands for what all that was received there leads to, over the
+-- screen that the drawings lead to. What was written and what waits are what it sent, in order.
 use Rattle.std.specs.Prelude.{◌≡◌, ℕ, List, [], ◌++◌, Some}
 use Rattle.rfb_pixel.specs.declared.colour.Colour.{Colour}
 use Rattle.rfb_picture.specs.Grid.{Grid}
@@ -47,8 +47,8 @@ pub record HasEnded (serving : Serving) (session : Session) (heard sent : List �
   pub ends : EndsAs last slice fault session
   pub heard_is : heard ≡ fed ++ (slice ++ later)
 
--- so it stands; and what of its bytes was written, and after it what waits, are its greeting, RFC
--- 6143 section 7.1.1, and then what it sent: none is lost, and none comes twice
+-- so it is; and what was written of its bytes, and then what waits, are its greeting, RFC 6143
+-- section 7.1.1, and then what it sent: none is lost, and none comes twice
 pub data Lives (serving : Serving) (screen : Grid Colour) (seat : ShareSeat)
     (heard taken : List ℕ) : Type 0 where
   GoesOn : (sent : List ℕ) → HasLived serving screen (session_at seat) heard sent →

@@ -40,8 +40,8 @@ IsCut (Update old) (Update new) = Unit {0}
 IsCut (Update old) (Shared new) = Unit {0}
 IsCut (Shared old) new = new ≡ Shared old
 
--- how many bytes of answers a client may still be sent: at most 6 for its security type and the
--- result, and ServerInit with a name of at most 255 bytes; none after the handshake
+-- how many bytes of answers a client may still be sent: at most 6 for its security type and the result, and ServerInit
+-- with a name of at most 255 bytes. After the handshake there are none
 abbrev pub answers_left : ClientAt → ℕ
 answers_left (First AwaitsVersion) = 285
 answers_left (First (AwaitsChoice version)) = 283

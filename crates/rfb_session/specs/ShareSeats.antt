@@ -1,4 +1,4 @@
--- A seat at a share: what it has, and what its calls make of it, whatever its session stands for.
+-- A seat at a share: what it has, and what its calls make of it, whatever its session's state.
 use Rattle.std.specs.Prelude.{◌≡◌, ℕ, ◌≤◌, Bool, true, false, List, [], ◌++◌, drop, length, Option}
 use Rattle.std.specs.Prelude.{None, Some}
 use Rattle.rfb_pixel.specs.declared.colour.Colour.{Colour}
@@ -64,8 +64,8 @@ pub record IsSeatOf (session : Session) (seat : ShareSeat) : Type 0 where
 
 -- ---- bytes of its viewer's
 
--- its session, which has not failed, was fed them, whatever it stands for over whatever screen, and
--- told that of them; its answer, if that is one, waits after what waited, and no memory is taken
+-- its session, which has not failed, was fed them, whatever its state over whatever screen, and
+-- told that of them. Its answer, if that is one, waits after what waited, and no memory is taken
 -- for it. Where an update waits there is none
 pub record Hears (bytes : List ℕ) (told : Option ServerTold) (old new : ShareSeat) : Type 0 where
   pub going : session_fault (session_at old) ≡ None
@@ -90,8 +90,8 @@ pub record Ends (bytes : List ℕ) (fault : ServerFault) (old new : ShareSeat) :
 
 -- ---- bytes that are written
 
--- the first `count` bytes that wait are written, or all, and where none waits any more the memory
--- that was taken for them is given back; its session is as it was
+-- the first `count` bytes that wait are written, or all. Where none waits any more, the memory that
+-- was taken for them is given back. Its session is as it was
 pub record WritesAt (count : ℕ) (old new : ShareSeat) : Type 0 where
   pub waits : waiting_in new ≡ drop count (waiting_in old)
   pub memory : memory_at new ≤ memory_at old

@@ -96,8 +96,8 @@ seat_told (Some (Key down key)) = Some (OfKey down key)
 seat_told (Some (Pointer buttons x y)) = Some (OfPointer buttons x y)
 seat_told (Some (CutText kept text_length)) = Some (OfText kept text_length)
 
--- a client of which this is reported asks for the screen alone: its ClientInit has shared-flag 0,
--- RFC 6143 section 7.3.1
+-- what its session reports says that a client asks for the screen alone: its ClientInit has shared-flag 0, RFC 6143
+-- section 7.3.1
 abbrev pub asks_alone : Option ServerTold → Bool
 asks_alone None = false
 asks_alone (Some (Reply bytes)) = false

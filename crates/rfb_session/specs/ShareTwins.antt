@@ -85,7 +85,7 @@ pub record IsGivenFrom (screen : Grid Colour) (own k : ℕ) (old new : List (Opt
   pub given : IsGiven screen (seat_at own old) (seat_at k old) (seat_at k new)
   pub follows : ForSome (seat_at k new) (λ seat. Follows screen (session_at seat))
 
--- seats of the set, of which seat `own` is none, were given what waits there; all others are as they were
+-- seats of the set, which seat `own` is not in, were given what waits there; all others are as they were
 pub record IsGivenTo (screen : Grid Colour) (own : ℕ) (old new : List (Option ShareSeat)) (given : ℕ)
     : Type 0 where
   pub own_shared : IsSharedIn (seat_at own old) (seat_at own new)

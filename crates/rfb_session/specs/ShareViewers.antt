@@ -24,9 +24,9 @@ use Rattle.rfb_session.specs.Network.{Network, Goes, IsReached}
 use Rattle.rfb_session.specs.Share.{seat_in, screen_of}
 use Rattle.rfb_session.specs.ShareSeats.{session_at, waiting_in}
 
--- the viewer sent bytes of which those have not been received at the seat; and of the bytes that
--- were written for it, those have not reached it. After these come the ones that wait. So both
--- stand for a network over the share's screen, to which events of a world led
+-- of the bytes that the viewer sent, those have not been received at the seat; and of the bytes
+-- that were written for it, those have not reached it. After these come the ones that wait. So both
+-- stand for a network over the share's screen, which events of a world led to
 pub record IsWatchedBy (e : Ends) (share : Share) (k : ℕ) (viewer : Viewer)
     (to_server on_way : List ℕ) (n : Network) : Type 0 where
   pub seat : ShareSeat
@@ -45,8 +45,8 @@ abbrev pub GoesOn : Ends → Network → Share → ℕ → Viewer → List ℕ �
 GoesOn e old share k viewer to_server on_way =
     (new : Network) × Goes e old new × IsWatchedBy e share k viewer to_server on_way new
 
--- whoever is the viewer of the seat, and whatever is between the two: they stand for the same
--- network after a call as before it
+-- whoever is the viewer of the seat, and whatever is between the two: their network after a call is
+-- the one before it
 abbrev pub StaysWatched : Share → ℕ → Share → Type 0
 StaysWatched old k new =
     (e : Ends) (viewer : Viewer) (to_server on_way : List ℕ) (n : Network) →

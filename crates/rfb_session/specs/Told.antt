@@ -78,8 +78,8 @@ pub record Tells (e : Ends) (old : Network) (event : Event) (told : Told) : Type
   pub refused : RefusesAs old event told.refused
   pub composed : ComposesAs old event told.composed
 
--- the same of an event, whatever the ends are and stand for: only a delivery moves bytes, only a
--- composing composes, and neither is refused
+-- the same of an event, whatever the ends are: only a delivery moves bytes, only a composing
+-- composes, and neither is refused
 abbrev pub TellsAlone : Event → Told → Type 0
 TellsAlone Compose told = (told.moved ≡ 0) × (told.refused ≡ None)
 TellsAlone (ToServer count) told = (told.refused ≡ None) × (told.composed ≡ false)

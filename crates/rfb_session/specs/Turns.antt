@@ -16,7 +16,8 @@ use Rattle.rfb_session.specs.Wire.{Writing, by_bytes}
 
 -- ---- one turn
 
--- what a scene may do: as it stands, of a screen, which it makes that one, and how it stands then
+-- what a scene may do: how it is, a screen, the screen that it makes of it, and how the scene is
+-- then
 abbrev pub Showing : Type 0 → Type 1
 Showing X = X → Grid Colour → Grid Colour → X → Type 0
 
@@ -85,9 +86,9 @@ module _ {X : Type 0} where
     pub unheard : new ≡ old
     pub undrawn : last ≡ scene
 
--- why a turn stops, in which the scene does not draw: its read failed; or while its bytes were
--- heard; or all of them were, and then there was no memory for an update that was due, or one was
--- not written whole
+-- why a turn stops; the scene does not draw in it. Its read failed; or it stopped while its bytes
+-- were heard. Or all of them were, and then there was no memory for an update that was due, or one
+-- was not written whole
 pub data StopsTurn (unread left : Option (List ℕ)) (failing failed : ℕ)
     (before after : Option (List ℕ)) (stuck stopped : ℕ) (old : Server) (fault : EngineFault)
     (new : Server) : Type 0 where
@@ -105,7 +106,7 @@ pub data StopsTurn (unread left : Option (List ℕ)) (failing failed : ℕ)
 
 -- ---- all turns
 
--- what was read, by reads of which the latest stands first
+-- what was read, by reads, the latest first
 abbrev pub read_in : List (List ℕ) → List ℕ
 read_in [] = []
 read_in (bytes ∷ reads) = read_in reads ++ bytes

@@ -1,5 +1,4 @@
--- The verdict of a recording: what all of a server's bytes are, item by item, and what a viewer
--- that is fed them comes to.
+-- The verdict of a recording: what all of a server's bytes are, item by item, and how a viewer that is fed them ends.
 use Rattle.std.specs.Prelude.{◌≡◌, ◌≢◌, ℕ, ◌<◌, ◌+◌, ◌-◌, ◌^◌, Bool, true, false, List, [], ◌∷◌, length, Option, Some}
 use Rattle.std.specs.Prelude.{None, Result, Ok, Err}
 use Rattle.rfb_wire.specs.stream.Grammar.{HasVerdict, past_all}
@@ -28,8 +27,8 @@ answer_to (Some fault) between updates = Err (ViewerEnded fault)
 answer_to None true updates = Ok (most updates)
 answer_to None false updates = Err Truncated
 
--- the viewer stands where these items lead from a state, shows their effect, and holds those bytes
--- of the next one
+-- the viewer is at the point that these items lead to from a state, shows their effect, and holds those bytes of the
+-- next one
 pub record StandsAfter (viewing : Viewing) (s : ViewerState) (items : List FromServer)
     (rest : List ℕ) (new : Viewer) : Type 0 where
   pub state : ViewerState
@@ -56,8 +55,7 @@ IsJudged old bytes answer new =
     (v : HasVerdict (server_bytes viewing.form viewing.hello) s.point bytes items fault) →
     IsAnsweredAs viewing s items fault v.rest answer new
 
--- the same of a source that tells its bytes, fewer than 2 ^ 64 - 1, where no read failed and no
--- memory was wanting
+-- the same of a source whose bytes are known, fewer than 2 ^ 64 - 1, where no read failed and no memory was wanting
 abbrev pub JudgesAll : Option (List ℕ) → ℕ → ℕ → Viewer → Result ℕ EngineFault → Viewer → Type 0
 JudgesAll unread failing failed old answer new =
     (bytes : List ℕ) → unread ≡ Some bytes → length bytes < 2 ^ 64 - 1 → failed ≡ failing →

@@ -29,7 +29,7 @@ due_after (Some Bell) = None
 due_after (Some (CutText kept text_length)) = None
 due_after (Some ColourMapSkipped) = None
 
--- the same after steps the latest of which stands first
+-- the same after steps, the latest first
 abbrev pub due : List (Step ViewerTold ViewerAct) → Option Bool
 due [] = None
 due (Fed bytes event ∷ before) = due_after event
@@ -133,8 +133,8 @@ KeepsUntil blank copied fed slice failing failed =
     (mid : Option (List ℕ)) × Appends blank mid fed × KeepsLast mid copied slice failing failed
 
 module _ {D : Type 0} where
-  -- it was fed the first of some bytes, of which that is known, all that is sent was written, and it ended at
-  -- the others
+  -- of some bytes, for which `known` holds, it was fed the first, all that is sent was written, and it ended at the
+  -- others
   pub record ViewsUntil (known : List ℕ → Type 0) (writing : Writing D) (old : Viewer) (before after : D)
       (blank copied : Option (List ℕ)) (failing failed : ℕ) (fault : ViewerFault) (new : Viewer) : Type 0 where
     pub fed : List ℕ

@@ -8,8 +8,8 @@ use Rattle.rfb_session.specs.EngineRead.{HasLooked, StopsLooking}
 use Rattle.rfb_session.specs.Wire.{Came, Ended, Missed, Known, Stepping, by_steps}
 
 module _ {W : Type 0} where
-  -- one read of some bytes, of which the viewer was fed and all that it answered was written, with
-  -- the requests that were due; `left` updates were looked for, and `fewer` are then
+  -- one read of some bytes, which the viewer was fed. All that it answered was written, with the requests that were
+  -- due. `left` updates were looked for, and `fewer` are then
   pub record LookOver (steps : Stepping W) (before : W) (blank : Option (List ℕ)) (old : Viewer)
       (left fewer : ℕ) (after : W) (copied : Option (List ℕ)) (new : Viewer) : Type 0 where
     pub bytes : List ℕ
@@ -35,9 +35,9 @@ module _ {W : Type 0} where
   ViewsInOrder steps before blank old updates after copied new =
       (count : ℕ) × LooksOver steps before blank old updates count 0 after copied new
 
--- why it stops there, after `count` reads: a read found the end, or there were as many as there can
--- be; a read failed; or what a read gave could not be fed, kept or answered to the end. `failing` and
--- `failed` count failures of what keeps the bytes
+-- why it stops there, after `count` reads: a read found the end or failed, or there were as many as there can be. Or
+-- what a read gave could not be fed, kept or answered to the end. `failing` and `failed` count failures of what keeps
+-- the bytes
 pub data StopsLookOver {W : Type 0} (steps : Stepping W) (known : W → Known) (count : ℕ) (before : W)
     (blank : Option (List ℕ)) (failing : ℕ) (old : Viewer) (fault : EngineFault) (after : W)
     (copied : Option (List ℕ)) (failed : ℕ) (new : Viewer) : Type 0 where

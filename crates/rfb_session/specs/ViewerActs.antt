@@ -90,7 +90,7 @@ pub record EndsBy (fault : ViewerFault) (old : Viewer) (slice : List ℕ)
 abbrev pub ViewerGoes : Viewer → List ℕ → Viewer → Type 0
 ViewerGoes old fed new = (sent : List ℕ) × (updates : ℕ) × ViewerRuns old fed sent updates new
 
--- a run over the first of bytes of which that is known, and then the viewer ended at those after them
+-- a run over the first of bytes for which `known` holds, and then the viewer ended at those after them
 abbrev pub EndsAfter : (List ℕ → Type 0) → Viewer → ViewerFault → Viewer → Type 0
 EndsAfter known old fault new =
     EndsAmong known (ViewerGoes old) (λ last slice. EndsBy fault last slice new)
@@ -99,7 +99,7 @@ EndsAfter known old fault new =
 abbrev pub EndsWithin : Viewer → List ℕ → ViewerFault → Viewer → Type 0
 EndsWithin old bytes fault new = EndsAfter (λ all. bytes ≡ all) old fault new
 
--- whether the server's bytes have ended between two messages, as the viewer stands
+-- whether the server's bytes have ended between two messages, by the viewer
 abbrev pub StandsBetween : Viewer → Bool → Type 0
 StandsBetween now between =
     (viewing : Viewing) (s : ViewerState) (prefix : List ℕ) →

@@ -14,8 +14,8 @@ use Rattle.rfb_session.specs.Playback.{most}
 use Rattle.rfb_session.specs.FirstUpdates.{AreFewer}
 use Rattle.rfb_session.specs.EngineRead.{AsksForScreen}
 
--- what a watcher hears: the handshake is done, of a screen of that size, with as much of its name as
--- is kept; or an update has ended, and the viewer stands like that
+-- what a watcher hears: the handshake is done, of a screen of that size, with as much of its name as is kept; or an
+-- update has ended, and this is the viewer
 pub data Notice : Type 0 where
   Greeted : (width height : ℕ) → (name : List ℕ) → Notice
   Updated : (now : Viewer) → Notice
@@ -25,7 +25,7 @@ abbrev pub Listening : Type 0 → Type 1
 Listening A = A → Notice → A → Type 0
 
 module _ {A : Type 0} where
-  -- what it hears of an event, after which its viewer stands like that: of others nothing
+  -- what it hears of an event, with its viewer after that: of others nothing
   abbrev pub Hears : Listening A → Option ViewerTold → Viewer → A → A → Type 0
   Hears steps None now old new = new ≡ old
   Hears steps (Some (Reply bytes)) now old new = new ≡ old
@@ -36,8 +36,8 @@ module _ {A : Type 0} where
   Hears steps (Some (CutText kept text_length)) now old new = new ≡ old
   Hears steps (Some ColourMapSkipped) now old new = new ≡ old
 
-  -- calls that feed a viewer, of each of which its watcher hears before the next, and requests: the
-  -- bytes that it was fed, how many updates ended, and how both stand then
+  -- calls that feed a viewer, and requests: the bytes that it was fed, how many updates ended, and how both are then.
+  -- Its watcher hears of each call before the next
   pub data HearsAll (steps : Listening A) (first : Viewer) (old : A) :
       List ℕ → ℕ → Viewer → A → Type 0 where
     NoCall : HearsAll steps first old [] 0 first old
@@ -49,8 +49,8 @@ module _ {A : Type 0} where
         (mid last : Viewer) (new : A) → HearsAll steps first old fed updates mid new →
         AsksForScreen incremental mid sent last → HearsAll steps first old fed updates last new
 
-  -- of some bytes the first were fed, and then it ended so: by how many updates ended, the bytes
-  -- after them, and the viewer as it stood last
+  -- of some bytes the first were fed, and then it ended so: by how many updates ended, the bytes after them, and the
+  -- viewer as it was last
   pub record HearsOf (steps : Listening A) (Ends : ℕ → List ℕ → Viewer → Type 0) (first : Viewer)
       (old : A) (bytes : List ℕ) (new : A) : Type 0 where
     pub fed : List ℕ

@@ -1,5 +1,4 @@
--- A reader and a writer in one, and what it does step by step, so that the order of its reads and
--- its writes can be told.
+-- A reader and a writer in one, and what it does step by step. So the order of its reads and its writes is known.
 use Rattle.std.specs.Prelude.{◌≡◌, ℕ, ◌+◌, ◌<◌, List, [], ◌++◌, take, Option, Some, Result, MatchResult, ◌⊎◌}
 use Rattle.std.specs.Borrow.{GName}
 use Rattle.std.specs.Io.KnownBytes.{Appends, Consumes, Keeps, IsAtEnd}
@@ -13,9 +12,9 @@ pub data WireStep : Type 0 where
   Went : (bytes : List ℕ) → WireStep
   Refused : WireStep
 
--- what is known of a wire: the bytes that reads will give from here on, and those that were written,
--- where these are known; how many reads and how many writes have failed; and the names of the
--- references to what it reads from and to what it writes to, if it was lent these
+-- what is known of a wire: the bytes that reads will give from here on, and those that were written, where these are
+-- known; and how many reads and how many writes have failed. If it borrows what it reads from and what it writes to,
+-- there are the names of the two references, too
 pub record Known : Type 0 where
   pub unread : Option (List ℕ)
   pub written : Option (List ℕ)
@@ -23,7 +22,7 @@ pub record Known : Type 0 where
   pub failed_writes : ℕ
   pub lent : Option (GName × GName)
 
--- the same of a reader and a writer that were lent
+-- the same of a borrowed reader and a borrowed writer
 abbrev pub known_of_both : Option (List ℕ) → ℕ → Option (List ℕ) → ℕ → GName → GName → Known
 known_of_both unread failing written stuck source sink = record {
   unread = unread;
@@ -59,7 +58,7 @@ Tells Refused old new =
     KeepsReads old new × Appends old.written new.written []
     × (new.failed_writes ≡ old.failed_writes + 1)
 
--- what a wire may do: from how it stands a step, and how it stands then
+-- what a wire may do: how it is, a step, and how it is then
 abbrev pub Stepping : Type 0 → Type 1
 Stepping W = W → WireStep → W → Type 0
 

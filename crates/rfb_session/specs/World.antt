@@ -67,7 +67,7 @@ first_network e screen = record { screen = screen; link = first_link e }
 
 -- ---- what becomes of it
 
--- an event is a step, whatever the world stood for, and the answer tells of it
+-- an event is a step, whatever the world stood for, and the answer reports it
 abbrev pub Does : World → Event → Told → World → Type 0
 Does old event told new =
     (e : Ends) (n : Network) → AreMade e → IsReached e n → StandsFor e old n →
@@ -94,7 +94,7 @@ HintsAs old Compose told new =
     × (told.composed ≡ false → hints_in new ≡ hints_in old)
 HintsAs old event told new = hints_in new ≡ hints_in old
 
--- ---- the same of its bytes, whatever its ends are and stand for
+-- ---- the same of its bytes, whatever its ends are
 
 -- a drawing that is not refused gave it this screen, and changed nothing of its link but what is
 -- marked there
@@ -108,7 +108,7 @@ abbrev pub DrawsOnBytes : Type 0 → Grid Colour → World → Told → World �
 DrawsOnBytes Inside screen old told new =
     RefusesUnless Inside told.refused × (told.refused ≡ None → GivesScreen screen old new)
 
--- a drawing is one of each network that the world stood for; the answer tells whether it is refused
+-- a drawing is one of each network that the world stood for; the answer says whether it is refused
 pub record DrawsWorld (old : World) (s : Stroke) (told : Told) (new : World) : Type 0 where
   pub acts : DrawsOnBytes (IsInside old.screen s) (drawn_by s old.screen) old told new
   pub does : (e : Ends) (n : Network) → StandsFor e old n →
@@ -147,7 +147,7 @@ IsDrawing (Copy rect sx sy) = Unit {0}
 IsDrawing (Hint rect sx sy) = Unit {0}
 IsDrawing event = ⊥
 
--- the event is refused, of a network that the world stands for, reached from a fresh one
+-- the event is refused in a network of the world, reached from a fresh one
 abbrev pub IsRefused : World → Event → Type 0
 IsRefused world event =
     (e : Ends) × (n : Network) × (refused : Refused)
@@ -157,7 +157,7 @@ IsRefused world event =
 abbrev pub IsLost : World → Event → Type 0
 IsLost world event = IsLostOn world.link event
 
--- a composing where no update is due, in a network that the world stands for
+-- a composing where no update is due, in a network of the world
 abbrev pub ComposesNothing : World → Event → Type 0
 ComposesNothing world Compose =
     (e : Ends) × (n : Network) × StandsFor e world n
@@ -170,8 +170,8 @@ ComposesNothing world event = ⊥
 abbrev pub NeitherFailed : World → Type 0
 NeitherFailed world = (server_fault world ≡ None) × (viewer_fault world ≡ None)
 
--- whatever network the world stood for, if it was reached from a fresh one: by the steps of these
--- events it comes to one of which that holds
+-- whatever network the world stood for, if it was reached from a fresh one: the steps of these events lead to one for
+-- which that holds
 abbrev pub Reaches : World → List Event → World → (Ends → Network → Type 0) → Type 0
 Reaches old events new Holds =
     (e : Ends) (n : Network) → AreMade e → IsReached e n → StandsFor e old n →

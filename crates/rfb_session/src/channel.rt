@@ -12,8 +12,8 @@ use rfb_viewer::{AppendFault, Call, Viewer};
 use std::alloc::{AllocError, Global};
 use std::marker::Model;
 
-/// Bytes that were sent and have not arrived, in order. They arrive where they lie. Of the bytes
-/// that it keeps at most half have arrived; once the last of them has, their memory is given back.
+/// Bytes that were sent and have not arrived, in order. They are read where they lie. At most half
+/// of the bytes that it keeps have arrived. Once the last one has, their memory is given back.
 #[derive(Debug, Drop)]
 pub(crate) struct Channel {
     alloc: Global,
@@ -147,9 +147,9 @@ impl Channel {
     }
 }
 
-// Lets go of the first bytes, which have arrived, as many as `arrived` says: their room is taken
-// for others, once they are as many as those in flight, and where none is in flight the memory is
-// given back. It tells how many of them are kept.
+// The first `arrived` bytes have arrived. Once they are as many as those in flight, their room is
+// taken for others. Where none is in flight, the memory is given back. Returns how many that have
+// arrived are kept.
 fn let_go(alloc: Global, bytes: &mut Vec<u8>, arrived: usize) -> usize
     requires within { arrived ≤ length bytes.old.items }
     ensures same { drop result bytes.new.items ≡ drop arrived bytes.old.items }

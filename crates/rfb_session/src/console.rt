@@ -6,17 +6,17 @@
 //! |---|---|---|
 //! | `OWNER` | the owner's lines | |
 //! | 1 to 8 | what the viewer of seat 0 to 7 sends | what its session sends |
-//! | `LINES` | | lines that tell what viewers do |
+//! | `LINES` | | lines that say what viewers do |
 //! | `NOTES` | | which of the owner's lines are bad, and sentences |
 //!
 //! - A viewer that takes a seat and does not finish its handshake gives way to the next one that
-//!   comes, or is let go by time. So nobody is locked out by those who say nothing.
-//! - Lines that wait for an owner that does not read them are bounded: a viewer of which 4,096
-//!   bytes of lines wait is not read until they are gone. The others go on.
+//!   comes, or is disconnected after a time. So nobody is locked out by those who say nothing.
+//! - Lines that wait for an owner that does not read them are bounded. Once 4,096 bytes of them are
+//!   about one viewer, it is not read until they are gone. The others go on.
 //! - All that was ready is heard before anything is composed.
-//! - After an update of more than a mebibyte no other is composed before what is ready was written
+//! - After an update of more than a mebibyte, no other is composed before what is ready was written
 //!   and heard. So small ones do not wait behind those of eight whole screens. Until it has left,
-//!   for 100 milliseconds at most, only slight ones are composed: few of its size wait at once.
+//!   for 100 milliseconds at most, only slight ones are composed. So few of its size wait at once.
 
 pub(crate) mod desk;
 pub(crate) mod entrances;
@@ -46,7 +46,7 @@ use std::alloc::Global;
 /// The door of the owner's lines.
 pub const OWNER: usize = 0;
 
-/// The door at which lines tell what viewers do.
+/// The door of lines that say what viewers do.
 pub const LINES: usize = 9;
 
 /// The door of notes.
@@ -71,9 +71,9 @@ pub enum Outcome {
     /// The input ended before it gave the size of the screen: in the line of this number, counted
     /// from 1, or before it.
     BadLine(u64),
-    /// There was no memory for the screen, for a line that tells, or for one that a bad line has.
+    /// There was no memory for the screen, for a line of `LINES`, or for the note on a bad line.
     NoMemory,
-    /// What tells the owner has failed.
+    /// The device that `LINES` go to has failed.
     Device,
     /// The server of a relay has gone away.
     ServerGone(Gone),
@@ -96,13 +96,13 @@ pub struct Console<S: Drop> {
     // How many bytes each door takes before the next turn.
     rooms: [usize; READ],
     notes: Vec<u8>,
-    // The seats of whose viewer a sentence says that it is let go.
+    // The seats whose viewer's end a sentence has reported.
     parted: Seats,
     are_notes_lost: bool,
-    // There was no memory for a line that tells of a bad one.
+    // There was no memory for the note on a bad line.
     are_notes_wanting: bool,
     pub(crate) outcome: Option<Outcome>,
-    // Until when what waits is written after the end, once a turn has told the time.
+    // Until when what waits is written after the end, once a turn has given the time.
     patience: Option<u64>,
     pub(crate) is_over: bool,
     // When it wants the next turn.

@@ -97,18 +97,18 @@ impl Hub {
         })
     }
 
-    /// What an event is, happens, and it tells how many bytes it moved, its refusal, whether an
-    /// update was composed, and which slots it emptied. A refused event changes nothing. Memory can
-    /// be wanting as in a world, for a viewer that joins, and for foreign bytes; the hub is closed
-    /// then, and each later step answers so again.
+    /// Makes an event happen. Returns how many bytes it moved, its refusal, whether an update was
+    /// composed, and which slots it emptied. A refused event changes nothing. Memory can be wanting
+    /// as in a world, for a viewer that joins, and for foreign bytes. The hub is closed then, and
+    /// each later step gives the same error.
     pub fn step(&mut self, event: &HubEvent) -> Result<HubTold, NoMemory>
         requires few { HasFewHubBytes event.now }
-        // What becomes of the screen and of the event's own slot, whatever stands there.
+        // What becomes of the screen and of the event's own slot, whatever is there.
         ensures acts { IfOk result (λ told. HubActs self.old event.now told self.new) }
         // Nothing becomes of the others, but for drawings, hints, and slots that are reported as
         // ended.
         ensures others { IfOk result (λ told. OthersStay self.old event.now told self.new) }
-        // Of the networks that its slots stood for, the event is a step, and the answer tells so.
+        // Of the networks that its slots stood for, the event is a step, and the answer says so.
         ensures does { IfOk result (λ told. SlotsDo self.old event.now told self.new) }
         // All of these.
         ensures steps { IfOk result (λ told. HubSteps self.old event.now told self.new) }
@@ -133,9 +133,9 @@ impl Hub {
         }
     }
 
-    /// All events, in order; it stops where memory is wanting. Where its slots stood for networks,
-    /// as those of a new hub do, then of each slot to which no foreign bytes came, and whose viewer
-    /// admits the screen, holds what is written at each clause.
+    /// All events, in order; it stops where memory is wanting. If its slots stood for networks, as
+    /// those of a new hub do, each clause holds of every slot that got no foreign bytes, and whose
+    /// viewer admits the screen.
     pub fn run(&mut self, events: &[HubEvent]) -> Result<(), NoMemory>
         requires few { All HasFewHubBytes events.now }
         // The events are its steps.
@@ -188,7 +188,7 @@ impl Hub {
         }
     }
 
-    // What an event is, happens.
+    // Makes an event happen.
     fn happen(&mut self, event: &HubEvent) -> Result<HubTold, NoMemory>
         requires few { HasFewHubBytes event.now }
         ensures steps { IfOk result (λ told. HubSteps self.old event.now told self.new) }

@@ -1,4 +1,4 @@
-//! The words of lines, for all that is told by lines of text: scripts, and owners of shares.
+//! The words of lines, for scripts and for owners of shares.
 //!
 //! Lines end in a newline, and one space parts two words. Numbers are decimal, of 1 to 10 digits,
 //! up to 65,535. A colour has two hexadecimal digits for each component, which is 257 times as

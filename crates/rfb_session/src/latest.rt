@@ -12,7 +12,7 @@ use std::mem;
 // The colour of a screen that was not noted yet.
 const BLACK: Colour = Colour { r: 0, g: 0, b: 0 };
 
-/// Of what the latest update was composed: the screen, the places that were asked, and the format.
+/// What the latest update was composed of: the screen, the places that were asked, and the format.
 #[derive(Debug, Drop)]
 pub(crate) struct Latest {
     screen: Picture<Colour>,

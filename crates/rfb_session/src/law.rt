@@ -43,7 +43,7 @@ pub mod viewers;
 /// - over the area that the latest update answered it shows the screen as it was at that composing,
 ///   seen through the format of that update.
 ///
-/// A fresh world is one that this holds of, whatever was drawn on its screen.
+/// This holds of a fresh world, whatever was drawn on its screen.
 pub fn what_is_due_is_the_screen()
     ensures fresh { (e : Ends) (screen : Grid Colour) →
         screen.width ≡ e.serving.hello.width → screen.height ≡ e.serving.hello.height →
@@ -52,7 +52,7 @@ pub fn what_is_due_is_the_screen()
         IsReached e network → IsHeadline e network.link }
 {}
 
-/// An update that is composed is noted with a place that it answers, so what is said of the area of
+/// An update that is composed is noted with a place that it answers. So what is said of the area of
 /// the latest update is said of some place.
 pub fn the_latest_update_answers_a_place()
     ensures { (screen : Grid Colour) (old new : LinkState) →
@@ -76,8 +76,8 @@ pub fn neither_end_refuses()
         f.server_has bytes fault → ⊥ }
 {}
 
-/// Bytes that reach an end move the link by as many, and what is left in flight, with the answers
-/// that the end tells of, is again that of the link's items.
+/// Bytes that reach an end move the link by as many. What is left in flight, with the answers that
+/// the end gives, is again the bytes of the link's items.
 pub fn bytes_that_reach_an_end_move_the_link()
     ensures viewer { (e : Ends) (network : Network) (f : Flight) (bytes later rest : List ℕ)
         (event : Option ViewerTold) (t : ViewerState) →
@@ -93,8 +93,8 @@ pub fn bytes_that_reach_an_end_move_the_link()
 {}
 
 /// What is sent joins the bytes in flight: the server's version at first, an update that is
-/// composed, and the message of a call that is taken. A format is refused by the bytes that came of
-/// an item as by the item.
+/// composed, and the message of a call that is taken. Whether a format is refused is the same by
+/// the bytes that came of an item and by the item.
 pub fn what_is_sent_joins_the_bytes_in_flight()
     ensures first { (e : Ends) → Flies e (first_link e) (first_flight e) }
     ensures update { (e : Ends) (network : Network) (new : LinkState) (f : Flight) →

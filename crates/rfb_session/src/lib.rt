@@ -2,7 +2,7 @@
 //! them.
 //!
 //! A `World` is all of that: events happen to it, one by one or as a run, and its contracts say
-//! what the viewer comes to show. `law` says in contracts alone what holds of the two ends
+//! what the viewer shows in the end. `law` says in contracts alone what holds of the two ends
 //! together, whatever is drawn, asked, composed and delivered.
 //!
 //! # What to begin with
@@ -24,7 +24,7 @@
 //!
 //! | Bytes | Go |
 //! |---|---|
-//! | that an end sends | into flight; `ToServer` and `ToViewer` deliver as many of them as they name |
+//! | that an end sends | into flight; `ToServer` and `ToViewer` deliver as many as they name |
 //! | of an engine's end | to its `Sink` or its `Wire`, in order |
 //! | of a `Foreign` event | into flight to the session of a slot, whoever sent them |
 #![tactic(auto)]

@@ -20,9 +20,9 @@ use rfb_viewer::Viewer;
 use std::alloc::{AllocError, Global};
 
 /// A session and its viewer in one process, with the bytes in flight between them each way. The
-/// screen is someone else's: it is lent to compose, and the link is notified where it is drawn on.
-/// Bytes arrive when a delivery says so, as many as it says. It keeps, beside that, of what its
-/// latest update was composed. Several links go on side by side over one screen.
+/// screen is someone else's: a composing borrows it, and the link is notified where it is drawn on.
+/// Bytes arrive when a delivery says so, as many as it says. It also keeps what its latest update
+/// was composed of. Several links go on side by side over one screen.
 #[derive(Debug, Drop)]
 pub struct Link {
     session: Session,
@@ -65,7 +65,7 @@ impl Link {
         })
     }
 
-    /// Tells the session of a drawing, as `Session::notified` does.
+    /// Notifies the session of a drawing, as `Session::notified` does.
     pub fn notified(&mut self, notice: &Notice)
         requires held { Holds (notes_in (session_of_link self.old)).known (area_told notice.now) }
         ensures follows { (before after : Grid Colour)

@@ -2,9 +2,9 @@
 
 ghost use Rattle.std.specs.Prelude.{◌≡◌, ◌-◌, ◌^◌};
 
-/// How often a loop goes round that ends by what it reads, and never by its count: as often as a
-/// `u64` counts. A loop without an end is no function that returns; at a turn each nanosecond these
-/// last five hundred years.
+/// How often a loop may go round that ends by what it reads: as often as a `u64` counts, which it
+/// never reaches. At a turn each nanosecond that lasts five hundred years. A loop without an end
+/// would be no function that returns.
 pub fn turns() -> u64
     ensures { result ≡ 2 ^ 64 - 1 }
 {

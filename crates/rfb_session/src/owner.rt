@@ -14,7 +14,7 @@
 //! ```
 //!
 //! Nothing here reads or waits: an `OwnerReader` is fed the bytes as they come, and the lines that
-//! tell go to any writer.
+//! report go to any writer.
 
 mod beginning;
 mod drawing;

@@ -9,17 +9,17 @@
 //! |---|---|---|
 //! | `SERVER` | what the server sends | the messages of its viewer |
 //! | 1 to 8 | what the viewer of seat 0 to 7 sends | what its session sends |
-//! | `LINES` | | lines that tell what the server and the viewers do |
+//! | `LINES` | | lines that say what the server and the viewers do |
 //! | `NOTES` | | sentences |
 //!
-//! - The sessions of the seats follow the picture of the server's viewer, so it stands once.
+//! - The sessions of the seats follow the picture of the server's viewer, so it is kept once.
 //! - Nobody is let in before the server's first update is whole.
 //! - The server is asked for an update only where a viewer of the relay waits for one.
-//! - While an update of the server's comes none is composed. One that takes longer than the rules
+//! - While an update of the server's comes, none is composed. One that takes longer than the rules'
 //!   hold is shown as far as it has come.
-//! - A viewer is not read while much waits for the server of what it did. The others go on.
-//! - A server that goes away may be called again. Until its first update is whole viewers keep the
-//!   picture that they had; where its screen has another size then, they are let go.
+//! - A viewer is not read while much of what it did waits for the server. The others go on.
+//! - A server that goes away may be called again. Until its first update is whole, viewers keep the
+//!   picture that they had. If its screen has another size then, they are disconnected.
 
 mod asking;
 mod calling;
@@ -72,7 +72,7 @@ pub struct Relay<S: Drop> {
     coming: Option<Viewer>,
     // What waits for the server.
     to_server: Channel,
-    // How many bytes of it each viewer's doings are, counted until nothing waits.
+    // How many bytes of it each viewer's doings have, counted until nothing waits.
     passed: [usize; SLOTS],
     ghost eight: { length passed ≡ 8 },
     ghost stands: { ForSome coming (λ viewer. ∥ StandsOrFailed viewer ∥₁) },

@@ -43,7 +43,7 @@ use std::alloc::{AllocError, Global};
 /// One screen, and eight seats. A viewer has a session of its own at its seat, and what is to be
 /// written to it waits there, in order. An update is composed only where nothing waits, so a seat
 /// holds at most 297 bytes of answers, or one update. Nothing that one viewer does, or leaves
-/// undone, changes what another has, but asking for the screen alone.
+/// undone, changes what another has, but for asking for the screen alone.
 #[derive(Debug, Drop)]
 pub struct Share {
     alloc: Global,
@@ -52,7 +52,7 @@ pub struct Share {
     offer: Version,
     text_limit: u32,
     seats: [Option<ShareSeat>; SLOTS],
-    // Where something came about since a composing found nothing to do. Elsewhere nothing waits.
+    // Where something happened since a composing found nothing to do. Elsewhere nothing waits.
     stirred: Seats,
     // Which seats know the same.
     kin: Kin,
@@ -106,8 +106,8 @@ impl Share {
         self.screen.picture()
     }
 
-    /// The fault that the session of a seat has failed with, if it has. Its viewer is to be let go:
-    /// what it sends is not taken any more, and no update is composed for it.
+    /// The fault that the session of a seat has failed with, if it has. Its viewer is to be
+    /// disconnected: what it sends is not taken any more, and no update is composed for it.
     pub fn fault(&self, seat: Seat) -> Option<ServerFault>
         ensures { result ≡ fault_in self.now seat }
     {

@@ -108,15 +108,15 @@ pub(crate) fn taken<T>(slots: &[Option<T>; SLOTS], place: usize) -> bool
     slots[place].is_some()
 }
 
-// The slot, which is empty, is taken. It is said of any type: what an assignment lets go is proved
-// field by field where the type is known, and takes long at a seat.
+// The slot, which is empty, is taken. It is generic: the value that an assignment drops is proved
+// field by field where the type is known, and that takes long for a seat.
 pub(crate) fn seat_in<T: Drop>(slot: &mut Option<T>, seat: T)
     ensures { slot.new ≡ Some seat }
 {
     *slot = Some(seat);
 }
 
-// The slot is emptied. It tells whether it was taken.
+// The slot is emptied. Returns whether it was taken.
 pub(crate) fn empty<T: Drop>(slot: &mut Option<T>) -> bool
     ensures empty { slot.new ≡ None }
     ensures taken { result ≡ is_taken slot.old }
@@ -124,7 +124,7 @@ pub(crate) fn empty<T: Drop>(slot: &mut Option<T>) -> bool
     slot.take().is_some()
 }
 
-// Another takes its place. It is said of any type: what an assignment lets go is proved field by
+// Another takes its place. It is generic: the value that an assignment drops is proved field by
 // field where the type is known.
 pub(crate) fn put<T: Drop>(place: &mut T, other: T)
     ensures { place.new ≡ other }

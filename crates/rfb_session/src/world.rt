@@ -19,7 +19,7 @@ use std::alloc::{AllocError, Global};
 
 /// A screen, and a link over it: a server and its viewer in one process, with the bytes in flight
 /// between them each way. What happens to them comes as events; bytes arrive when a delivery says
-/// so, as many as it says. The link keeps, beside that, of what the latest update was composed.
+/// so, as many as it says. The link also keeps what the latest update was composed of.
 #[derive(Debug, Drop)]
 pub struct World {
     screen: Picture<Colour>,
@@ -61,17 +61,17 @@ impl World {
         })
     }
 
-    /// What an event is, happens, and it tells how many bytes it moved, its refusal, and whether an
-    /// update was composed. A text has at most 1,048,576 bytes. A refused event changes nothing.
-    /// Bytes that reach an end that has failed have no effect. Memory can be wanting for an update,
-    /// for messages and answers, for a text that an end keeps, and for the viewer's screen; the
-    /// world is closed then, and each later step answers so again.
+    /// Makes an event happen. Returns how many bytes it moved, its refusal, and whether an update
+    /// was composed. A text has at most 1,048,576 bytes. A refused event changes nothing. Bytes
+    /// that reach an end that has failed have no effect. Memory can be wanting for an update, for
+    /// messages and answers, for a text that an end keeps, and for the viewer's screen. The world
+    /// is closed then, and each later step gives the same error.
     pub fn step(&mut self, event: &Event) -> Result<Told, NoMemory>
         requires few { HasFewBytes event.now }
 
         // Whatever the ends are, what becomes of them and of the bytes between them.
         ensures acts { IfOk result (λ told. Acts self.old event.now told self.new) }
-        // Whatever network the world stood for, the event is a step of it, and the answer tells so.
+        // Whatever network the world stood for, the event is a step of it, and the answer says so.
         ensures does { IfOk result (λ told. Does self.old event.now told self.new) }
         ensures tells { IfOk result (λ told. TellsAlone event.now told) }
         ensures kept { IfOk result (λ told. told.refused ≢ None → self.new ≡ self.old) }
@@ -101,8 +101,8 @@ impl World {
     }
 
     /// All events, in order; it stops where memory is wanting. Whatever network the world stood
-    /// for, reached from a fresh one, it then stands for one that the events lead to, and of that
-    /// one holds what is written at each clause.
+    /// for, reached from a fresh one, it then stands for one that the events lead to, and each
+    /// clause holds of that one.
     pub fn run(&mut self, events: &[Event]) -> Result<(), NoMemory>
         requires few { All HasFewBytes events.now }
 
@@ -139,7 +139,7 @@ impl World {
         self.link.picture()
     }
 
-    // What an event is, happens.
+    // Makes an event happen.
     fn happen(&mut self, event: &Event) -> Result<Told, NoMemory>
         requires few { HasFewBytes event.now }
         ensures happens { IfOk result (λ told. Happens self.old event.now told self.new) }

@@ -67,7 +67,7 @@ shape_named verbs.Drive = drive_shape
 abbrev pub name_of : Verb → Text
 name_of verb = (shape_named verb).name
 
--- the program has a version, and commands, one of which has to be named
+-- the program has a version, and commands; one has to be named
 abbrev pub top : App
 top = record {
   top = record (new_shape (codes "rfb")) { subcommand_required = true; has_version = true };

@@ -19,7 +19,7 @@ word_rule name default = record (text_rule name) { defaults = default ∷ [] }
 abbrev pub format_rule : Rule
 format_rule = word_rule (codes "format") (codes "rgb888")
 
--- a server, by a word that stands alone
+-- a server, by a word with no option
 abbrev pub server_rule : Rule
 server_rule = record (new_rule (codes "server")) { value_names = 1 }
 

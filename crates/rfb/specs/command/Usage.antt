@@ -1,4 +1,4 @@
--- What a table of commands and words stands for, as the parser of words knows it.
+-- What a table of commands and words is to the parser of words.
 use Rattle.std.specs.Prelude.{ℕ, pos, true, [], ◌∷◌, Some, map}
 use Rattle.clap.specs.declared.builder.action.ArgAction.TheVariants.{Append, SetTrue}
 use Rattle.clap.specs.declared.builder.value_parser.ValueParser.TheVariants.{Signed}

@@ -14,13 +14,13 @@ const UNWRITTEN: &str = "rfb: no picture is written: --partial writes that of wh
 /// What had come by an early end.
 #[derive(Clone, Copy)]
 pub struct Early {
-    /// Whether the handshake had come to its end.
+    /// Whether the handshake was done.
     pub is_ready: bool,
     /// How many updates had ended.
     pub updates: u64,
     // Whether the bytes end between two messages.
     is_between: bool,
-    // Whether a read ended it that waited for its limit.
+    // Whether it ended by a read that waited for its limit.
     is_late: bool,
 }
 

@@ -9,7 +9,7 @@ use rfb_viewer::{Viewer, ViewerFault};
 use std::io::Write;
 use std::{fmt, io};
 
-/// Says why what a server sent was no more looked at. `viewer` is the one that was fed it.
+/// Says why no more was looked at of what a server sent. `viewer` is the one that was fed it.
 pub fn tell_server<N: Write>(fault: EngineFault, viewer: &Viewer, heard: &Heard, notes: &mut N) {
     let _ = match fault {
         EngineFault::Viewer(fault) => tell_viewer_fault(fault, viewer, heard, notes),
@@ -122,7 +122,7 @@ fn flaw_of_server(fault: ViewerFault) -> &'static str {
     }
 }
 
-/// Says why what a client sent was no more looked at.
+/// Says why no more was looked at of what a client sent.
 pub fn tell_client<N: Write>(fault: EngineFault, notes: &mut N) {
     let _ = match fault {
         EngineFault::Server(fault) => writeln!(notes, "rfb: {}", Flaw(fault)),

@@ -7,7 +7,7 @@ use arrayvec::ArrayVec;
 use rfb_wire::pieces::append;
 use std::io::{ErrorKind, Write};
 
-// A line says that more bytes come, each time that this number of them came.
+// Each time that this number of bytes came, a line says that more come.
 const STRETCH: u64 = 16_777_216;
 
 /// The first bytes that came of a server, as many as a version has; and how many came in all.

@@ -1,4 +1,4 @@
-//! A reader that tells what it meets, and notes that it shares with a watcher.
+//! A reader that says what it meets, and notes that it shares with a watcher.
 
 ghost use Rattle.std.specs.Prelude.{◌≡◌};
 
@@ -8,7 +8,7 @@ use std::cell::RefCell;
 use std::io;
 use std::io::{Read, Write};
 
-/// Notes of which two make use, each in its turn.
+/// Notes that two share, each using them in its turn.
 #[derive(Drop)]
 pub struct Shared<'v, 'a, N> {
     notes: &'v RefCell<&'a mut N>,

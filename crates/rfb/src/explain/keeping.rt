@@ -1,4 +1,4 @@
-//! A writer that keeps the error of what failed, so that it can be told afterwards.
+//! A writer that keeps the error of what failed, so that it can be reported afterwards.
 
 ghost use Rattle.std.specs.Prelude.{◌≡◌};
 

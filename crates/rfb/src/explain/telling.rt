@@ -1,4 +1,4 @@
-//! A watcher that tells how a viewer goes.
+//! A watcher that says how a viewer goes.
 
 ghost use Rattle.std.specs.Prelude.{◌≡◌};
 ghost use Rattle.rfb.specs.Explain.{Tells};
@@ -20,13 +20,13 @@ pub enum Origin {
     Recording,
 }
 
-/// Says of what server a viewer's bytes are, and at each update how many have ended, if that is to
-/// be said.
+/// Says from what server a viewer's bytes come, and at each update how many have ended, if that is
+/// to be said.
 #[derive(Drop)]
 pub struct Telling<N> {
     origin: Origin,
     notes: N,
-    // Whether each update is told.
+    // Whether each update is reported.
     tells_each: bool,
     is_ready: bool,
     updates: u64,
@@ -35,7 +35,7 @@ pub struct Telling<N> {
 impl<N> Telling<N> {
     ghost use Rattle.rfb.specs.Explain.{updates_told};
 
-    /// Nothing was heard yet. Of a connection each update is told.
+    /// Nothing was heard yet. Of a connection each update is reported.
     pub fn new(origin: Origin, notes: N) -> Telling<N> {
         Telling {
             origin,
@@ -46,7 +46,7 @@ impl<N> Telling<N> {
         }
     }
 
-    /// The same, and no update is told.
+    /// The same, and no update is reported.
     pub fn quiet(origin: Origin, notes: N) -> Telling<N>
         ensures { updates_told result ≡ 0 }
     {
@@ -59,14 +59,14 @@ impl<N> Telling<N> {
         }
     }
 
-    /// How many updates came to their end, as many as a `u64` has.
+    /// How many updates ended, as many as a `u64` has.
     pub fn updates(&self) -> u64
         ensures { result ≡ updates_told self.now }
     {
         self.updates
     }
 
-    /// Whether the handshake came to its end, and how many updates did, as many as a `u64` has.
+    /// Whether the handshake was done, and how many updates ended, as many as a `u64` has.
     pub fn heard(&self) -> (bool, u64) {
         (self.is_ready, self.updates)
     }
@@ -88,7 +88,7 @@ impl<N: Write> Watcher for Telling<N> {
     }
 }
 
-// Says of which screen the bytes are.
+// Says which screen the bytes show.
 fn tell_screen<N: Write>(
     origin: Origin,
     width: u16,

@@ -39,7 +39,7 @@ pub struct Peer<'a> {
     pub timeout: Option<u32>,
 }
 
-/// A server, by a word that stands alone.
+/// A server, by a word with no option.
 pub const SERVER: Word<'static> = Word {
     name: "server",
     mark: Mark::Alone,
@@ -108,7 +108,7 @@ pub fn server_in<'a>(given: &ArgMatches<'a>) -> Result<Address<'a>, BadValue<'a>
     }
 }
 
-// The server of a word, a host and a port, each of which may be left out.
+// The server of a word, a host and a port. Each may be left out.
 fn address_of<'a>(
     word: Option<&'a str>,
     host: Option<&'a str>,
@@ -173,7 +173,7 @@ fn or_loopback(host: &str) -> &str
     if host.is_empty() { LOOPBACK } else { host }
 }
 
-// What stands after the first colon: a display or a port, or a colon and a port.
+// What follows the first colon: a display or a port, or a colon and a port.
 fn port_named(text: &[u8]) -> Option<u16>
     ensures { MatchOption result ((port : ℕ) → ¬ (NamesPort text.now port))
         (λ port. NamesPort text.now port) }

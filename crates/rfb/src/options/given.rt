@@ -126,7 +126,7 @@ pub fn wants_in<'a>(
     Ok(Wants { format, encodings })
 }
 
-/// The number that is given, which is one of these by then.
+/// The number that is given. By then it is one of these.
 pub fn number_in(given: &ArgMatches<'_>, name: &str, least: u16, most: u16) -> u16
     requires { least ≤ most }
     ensures number { GivesNumber name.now least most (rows_of (found_of given.now)) result }
@@ -138,7 +138,7 @@ pub fn number_in(given: &ArgMatches<'_>, name: &str, least: u16, most: u16) -> u
     }
 }
 
-/// The number that is given, which is at most `most` by then, or else another.
+/// The number that is given, or else another. By then it is at most `most`.
 pub fn number_or(given: &ArgMatches<'_>, name: &str, most: u16, otherwise: u16) -> u16
     requires { (1 ≤ otherwise) × (otherwise ≤ most) }
     ensures number { GivesOr name.now most otherwise (rows_of (found_of given.now)) result }

@@ -1,4 +1,4 @@
-//! What stands in place of standard input and output.
+//! What takes the place of standard input and output.
 
 ghost use Rattle.std.specs.Prelude.{◌≡◌, map, IfOk};
 ghost use Rattle.clap.specs.Words.{found_of, rows_of};

@@ -16,7 +16,7 @@ pub struct Usage<'a> {
     pub name: &'a str,
     /// What it does, in a line.
     pub about: &'a str,
-    /// What stands below its words in its help.
+    /// What comes below its words in its help.
     pub topic: Topic,
     /// The words that it takes.
     pub words: &'a [Word<'a>],
@@ -54,7 +54,7 @@ pub enum Mark {
     Long,
     /// With these, or with one hyphen and this letter.
     LongOr(char),
-    /// With nothing: what it takes stands alone.
+    /// With nothing: it is the value itself.
     Alone,
 }
 

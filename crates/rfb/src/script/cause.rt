@@ -17,7 +17,7 @@ use std::io::Write;
 // Room for one word more than a line may have.
 const WORDS: usize = 9;
 
-/// Which word of a line its keyword is, where nothing stands before it.
+/// Which word of a line its keyword is, where nothing is before it.
 pub const FIRST: &str = "first";
 
 // What is wrong with lines, where nothing of the line itself is told.
@@ -67,7 +67,7 @@ fn why_bad(line: &[u8], is_first: bool) -> Reason<'_> {
     }
 }
 
-/// Which byte may not stand in a line, or that its spaces are wrong.
+/// Which byte may not be in a line, or that its spaces are wrong.
 pub fn why_not_words(line: &[u8]) -> Option<Reason<'_>> {
     for byte in line {
         if !is_of_word(*byte) {
@@ -82,7 +82,7 @@ pub fn why_not_words(line: &[u8]) -> Option<Reason<'_>> {
     None
 }
 
-// Whether a byte may stand in a line.
+// Whether a byte may be in a line.
 fn is_of_word(byte: u8) -> bool {
     (b' '..=b'~').contains(&byte)
 }

@@ -56,7 +56,7 @@ pub fn fresh_hub(alloc: Global, screen: Screen) -> Result<Hub, AllocError>
     Hub::of(alloc, setup)
 }
 
-/// Takes a step, and tells what became of it.
+/// Takes a step, and returns what became of it.
 pub fn play_in_hub(hub: &mut Hub, step: &HubStep) -> Result<LineTold, NoMemory>
     requires few { HasFewInHub step.now }
     ensures leads { OnOk result (LeadsHub hub.old (hub_events_of step.now) hub.new) }

@@ -29,9 +29,9 @@ pub enum Step {
 /// A good line that is not empty.
 #[derive(Drop)]
 pub enum Line {
-    /// The line that stands first.
+    /// The line that comes first.
     Screen(Screen),
-    /// The line that may stand second.
+    /// The line that may come second.
     Viewer(Wants),
     /// Any later line.
     Step(Step),

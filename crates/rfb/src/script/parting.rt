@@ -9,7 +9,7 @@ use memchr::memchr;
 /// The lines of a text that have not come yet, without their newlines.
 #[derive(Drop)]
 pub struct Lines<'a> {
-    // What stands after the newline of the latest; `None` after the last line.
+    // What follows the newline of the latest; `None` after the last line.
     rest: Option<&'a [u8]>,
 }
 

@@ -50,9 +50,9 @@ pub fn read_step(line: &[u8]) -> Option<Step>
     }
 }
 
-// Reads a line without its newline. It is `None` where the line is bad wherever it stands, as it is
-// with any character that is not ASCII. It is a call of its own, since its loops over bytes would
-// have too few registers within the loop over lines.
+// Reads a line without its newline. It is `None` where the line is bad at any place, as it is with
+// any character that is not ASCII. This is a call of its own, since its loops over bytes would have
+// too few registers within the loop over lines.
 #[inline(never)]
 fn read_line(line: &[u8]) -> Option<Line>
     ensures { MatchOption result (SaysNothing (words_of line.now)) (Says (words_of line.now)) }

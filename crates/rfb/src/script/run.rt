@@ -34,8 +34,8 @@ pub const SCRIPT: &Usage<'static> = &Usage {
 };
 
 /// Runs the script that the input has, between a server and a viewer in memory, and writes the
-/// viewer's picture; of a hub's script, that of the slot that its last line names. At a bad line
-/// nothing is written. If sentences are wanted, one says why a line is bad.
+/// viewer's picture. Of a hub's script that is the picture of the slot that its last line names. At
+/// a bad line nothing is written. If sentences are wanted, one says why a line is bad.
 pub fn script<P: AllocGlobal, R: Read, W: Write, E: Write>(
     context: &mut Context<P, R, W, E>,
 ) -> Result<(), Failure>

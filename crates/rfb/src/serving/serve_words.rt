@@ -26,8 +26,8 @@ pub struct ServeOptions<'a> {
     pub screen: ScreenChoice<'a>,
     /// How many connections are served, one after another.
     pub connections: u64,
-    /// If there is a number, a client that sends nothing for that many seconds is let go, and so is
-    /// one that takes nothing of what is written to it.
+    /// If there is a number, a client is disconnected that for so many seconds sends nothing, or
+    /// takes nothing of what is written to it.
     pub timeout: Option<u32>,
 }
 

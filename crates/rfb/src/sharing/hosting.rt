@@ -24,8 +24,8 @@ pub struct Hosting<'a> {
     pub until_idle: bool,
     /// Within how many seconds a viewer's handshake has to be done.
     pub handshake: u32,
-    /// If there is a number, a viewer is let go for which bytes waited for so many seconds while it
-    /// took none of them and sent none.
+    /// If there is a number, a viewer is disconnected once bytes have waited for it for so many
+    /// seconds, and it took none and sent none.
     pub timeout: Option<u32>,
     /// Whether a viewer that asks for the screen alone shares it all the same.
     pub is_always_shared: bool,

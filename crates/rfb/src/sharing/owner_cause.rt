@@ -28,7 +28,7 @@ pub fn why_bad<'a>(said: &'a Beginning, screen: Option<(u16, u16)>) -> Reason<'a
     }
 }
 
-// What is wrong with the words of a line, or with where it stands, if anything is.
+// What is wrong with the words of a line, or with its place, if anything is.
 fn why_no_line(line: &[u8], is_later: bool) -> Option<Reason<'_>> {
     let words = first_words(line);
     let (keyword, rest) = words.as_slice().split_first()?;

@@ -29,7 +29,7 @@ impl Ready {
         }
     }
 
-    /// Whether it is, is known anew.
+    /// A door is ready, or is not, from here on.
     pub fn note(&mut self, door: usize, is_ready: bool) {
         if let Some(ready) = self.doors.get_mut(door) {
             *ready = is_ready;

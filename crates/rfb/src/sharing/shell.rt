@@ -35,7 +35,7 @@ enum Ear {
     Barred,
 }
 
-/// What stands at the doors before anybody comes, beside the streams that are written.
+/// What is at the doors before anybody comes, beside the streams that are written.
 #[derive(Clone, Copy)]
 pub struct Front<'a> {
     /// The door of standard input, which blocks, if it is read.
@@ -78,7 +78,7 @@ pub struct Shell<'a, L, C> {
 }
 
 impl<'a, L: AsRawFd + Drop, C: Net + Clock> Shell<'a, L, C> {
-    /// Looks at what stands at the doors, and at a listener that does not wait, if there is one.
+    /// Looks at what is at the doors, and at a listener that does not wait, if there is one.
     pub fn new(
         rt: &'a C,
         alloc: Global,

@@ -29,7 +29,7 @@ impl Speaker for Reporter {
                 said,
                 screen,
             } => say_of_line(*number, why_bad(said, *screen), note),
-            // The line that tells of it says all.
+            // The line that reports it says all.
             Saying::Refused {
                 why: Refusal::NoMemory,
                 ..
@@ -97,7 +97,7 @@ fn say_why_away(why: Gone, note: &mut Note) -> fmt::Result {
     }
 }
 
-/// Says why it goes away, or is let go.
+/// Says why it goes away, or is disconnected.
 pub fn say_why_gone(why: Gone, note: &mut Note) -> fmt::Result {
     match why {
         Gone::Closed => writeln!(note, "rfb: the server leaves: it closed its connection"),

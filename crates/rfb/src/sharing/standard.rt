@@ -116,7 +116,7 @@ impl Blocking {
             .is_err()
     }
 
-    /// The door at which it stands.
+    /// The door that it is at.
     pub fn door(&self) -> usize {
         self.door
     }

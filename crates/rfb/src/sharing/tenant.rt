@@ -1,4 +1,4 @@
-//! What stands at the doors of a core.
+//! What is at the doors of a core.
 
 ghost use Rattle.std.specs.Prelude.{◌≤◌, None, length};
 ghost use Rattle.std.specs.Io.{WritesAtMost};
@@ -54,7 +54,7 @@ impl<'a, R, W, E, S> Tenant<'a, R, W, E, S> {
     }
 }
 
-/// A connection does not tell its bytes, and of the streams no more is needed.
+/// The bytes of a connection are not known, and of the streams no more is needed.
 impl<R: Read, W: Write, E: Write, S: Read + Write> Duplex for Tenant<'_, R, W, E, S> {
     ghost unread = { λ _. None };
 
@@ -82,7 +82,7 @@ impl<R: Read, W: Write, E: Write, S: Read + Write> Duplex for Tenant<'_, R, W, E
     }
 }
 
-// Writes as much to the stream of a descriptor as does not wait, and tells how much.
+// Writes as much to the stream of a descriptor as does not wait, and returns how much.
 fn write_some<W: Write>(fd: RawFd, output: &mut W, buf: &[u8]) -> io::Result<usize>
     ensures { WritesAtMost result buf.now }
 {
@@ -94,8 +94,8 @@ fn write_some<W: Write>(fd: RawFd, output: &mut W, buf: &[u8]) -> io::Result<usi
     Ok(count)
 }
 
-// How many bytes are written at once: lines that are whole, where there are any, so that none is
-// parted by a line of another stream that leads to the same place.
+// How many bytes are written at once: whole lines, where there are any. So none is parted by a line
+// of another stream that leads to the same place.
 fn length_at_once(buf: &[u8]) -> usize
     ensures { result ≤ length buf.now }
 {

@@ -90,8 +90,8 @@ pub fn follow_on<S: Read + Write + OpenStream + Drop, C: Clock, W: Write, N: Wri
     )
 }
 
-// Follows a server whose bytes come from `reader`, and that is answered on `writer`, and tells how
-// it goes, and why it fails.
+// Follows a server whose bytes come from `reader`, and that is answered on `writer`. Says how it
+// goes, and why it fails.
 fn follow_over<R: Read + Drop, V: Write + Drop, C: Clock, W: Write, N: Write>(
     alloc: Global,
     reader: R,

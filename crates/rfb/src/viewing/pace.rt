@@ -27,9 +27,9 @@ impl Pace {
         }
     }
 
-    /// What was asked for has come: what is asked for next is due a period after what was due last,
-    /// or after now where that would have passed. So the time that a server takes to answer is no
-    /// time lost. Without a clock nothing is waited for.
+    /// What was asked for has come. The next request is due a period after the last was due, or a
+    /// period after now where that would have passed. So the time that a server takes to answer is
+    /// no time lost. Without a clock nothing is waited for.
     pub fn mark<C: Clock>(&mut self, clock: &C) {
         self.due = match Instant::now(clock) {
             Ok(now) => self.due_after(now),

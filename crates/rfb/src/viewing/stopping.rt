@@ -7,8 +7,8 @@ use std::cell::Cell;
 use std::io;
 use std::io::ErrorKind;
 
-/// A sink that takes all bytes, and tells none of them, until a flag is set: then each write fails.
-/// So an engine that keeps there what it feeds ends at once where its watcher sets the flag.
+/// A sink that takes all bytes and keeps none of them, until a flag is set: then each write fails.
+/// So an engine that writes there what it feeds ends at once when its watcher sets the flag.
 #[derive(Drop)]
 pub struct Stopping<'a> {
     is_cut: &'a Cell<bool>,

@@ -13,7 +13,7 @@ const QUIET: u64 = 3;
 const ENDLESS: &str = "rfb: it waits as long as it takes: there is no --timeout";
 
 /// A connection to a server. Where there is no deadline, the first read that waits for three
-/// seconds tells `notes` so, and waits on.
+/// seconds says so on `notes`, and waits on.
 #[derive(Drop)]
 pub struct Waiting<'a, S, C, N> {
     connection: Patient<'a, S, C>,

@@ -1,4 +1,4 @@
-//! A viewer at work over a connection, and what is told of it.
+//! A viewer at work over a connection, and what is said of it.
 
 ghost use Rattle.std.specs.Prelude.{◌≡◌, ◌≤◌, ℕ, IfOk, IfErr, List, Option};
 ghost use Rattle.rfb.specs.View.{Saw, StopsSeeing};
@@ -14,8 +14,8 @@ use rfb_viewer::Viewer;
 use std::cell::RefCell;
 use std::io::{Read, Write};
 
-/// Runs a viewer until the last update that is wanted has ended, with what it is fed in a sink that
-/// has not failed before; and tells how it goes, and why it fails.
+/// Runs a viewer until the last update that is wanted has ended. What it is fed goes to a sink that
+/// has not failed before. Says how it goes, and why it fails.
 pub fn watch_heard<R: Read + Drop, V: Write + Drop, K: Sink, N: Write>(
     reader: R,
     writer: V,
@@ -55,8 +55,8 @@ pub fn watch_heard<R: Read + Drop, V: Write + Drop, K: Sink, N: Write>(
     ended
 }
 
-/// Runs a viewer until `updates` updates ended, with what it is fed in a sink that has not failed
-/// before, and with somebody who watches.
+/// Runs a viewer until `updates` updates ended. What it is fed goes to a sink that has not failed
+/// before, and somebody watches.
 pub fn watch<R: Read + Drop, V: Write + Drop, K: Sink, A: Watcher>(
     reader: R,
     writer: V,

@@ -27,7 +27,7 @@ struct Beside {
 }
 
 /// Opens what is written to a path. A new file, or one in place of a regular file, is written
-/// beside it, and comes to its place by `keep`. What a link leads to is written as if it were named
+/// beside it; `keep` brings it to its place. What a link leads to is written as if it were named
 /// itself, and the link stays. A device, a pipe, or a file that a link leads to and that is not
 /// there, is written where it is.
 pub fn open_target<P: AllocGlobal + Files>(rt: &P, path: &str) -> io::Result<Target<P::File>> {
@@ -110,7 +110,7 @@ impl<F: OpenFile> Target<F> {
         }
     }
 
-    /// Brings what was written to its place. Where that fails, what stood there stays.
+    /// Brings what was written to its place. Where that fails, what was there stays.
     pub fn keep<P: Files>(&self, rt: &P) -> io::Result<()> {
         let Some(beside) = &self.beside else {
             return Ok(());

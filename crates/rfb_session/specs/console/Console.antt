@@ -51,12 +51,12 @@ seat_heard (Some desk) k = is_heard desk k
 abbrev pub is_seat : ℕ → Bool
 is_seat d = nat_le 1 d && nat_le d 8
 
--- few lines wait for the owner, so a newcomer can be told of
+-- few lines wait for the owner, so a newcomer can be reported
 abbrev pub has_room : Option Desk → Bool
 has_room None = false
 has_room (Some desk) = nat_lt (length (lines_of desk)) 65536
 
--- what tells the owner has failed
+-- the device that lines go to has failed
 abbrev pub is_lost : Option Outcome → Bool
 is_lost None = false
 is_lost (Some Quit) = false
@@ -66,7 +66,7 @@ is_lost (Some NoMemory) = false
 is_lost (Some Device) = true
 is_lost (Some (ServerGone gone)) = false
 
--- nothing that waits is written any more: memory was wanting, or what tells the owner has failed
+-- nothing that waits is written any more: memory was wanting, or the device that lines go to has failed
 abbrev pub is_abrupt : Option Outcome → Bool
 is_abrupt (Some NoMemory) = true
 is_abrupt (Some Device) = true
@@ -243,7 +243,7 @@ module _ {S : Type 0} where
     pub desk : OnDesk does old.desk None new.desk None
     pub owner : KeepsOwner old new
 
-  -- bytes came at a seat, of which so many were taken
+  -- bytes came at a seat, and so many were taken
   abbrev pub HearsBytes : Console S → ℕ → List ℕ → ℕ → Option SeatEvent → Console S → Type 0
   HearsBytes old k bytes used event new =
       DoesOnDesk (λ a b. (ended : ℕ) × HearsAt a k bytes used ended event b) old new
@@ -377,7 +377,7 @@ module _ {S : Type 0} where
     pub owner : KeepsOwner old new
     pub stays : Stays old new
 
-  -- it has none: there is no screen yet, or none is free, which is told; or memory for that was wanting
+  -- it has none: there is no screen yet, or none is free and a line says so; or memory for that was wanting
   pub data Declines (old : Console S) (from : List ℕ) (new : Console S) : Type 0 where
     NotYet : KeepsDesk old new → Declines old from new
     IsFull : (was now : Desk) → old.desk ≡ Some was → new.desk ≡ Some now → (left : Option ℕ) →

@@ -35,7 +35,7 @@ is_failing progress = false
 abbrev pub is_over : Progress → Bool
 is_over progress = not (is_here progress) || is_failing progress
 
--- more of its viewer is read: there is one, it has not failed, and few bytes of lines wait that tell of it
+-- more of its viewer is read: there is one, it has not failed, and few bytes of lines wait that report it
 abbrev pub is_heard : Desk → ℕ → Bool
 is_heard desk k = not (is_over (guest_at desk k).progress) && nat_lt (guest_at desk k).told 4096
 
@@ -57,7 +57,7 @@ seated desk = seated_in desk 8
 abbrev pub is_idle : Desk → Bool
 is_idle desk = desk.came && nat_eq (seated desk) 0
 
--- of the seats of a set it is told that their viewers go, but of those that were told to have failed
+-- the going of the viewers at a set of seats is reported, but for those that were reported to have failed
 abbrev pub tells_in : Desk → ℕ → ℕ → Bool
 tells_in desk set k = has_bit set k && not (is_over (guest_at desk k).progress)
 

@@ -1,5 +1,5 @@
--- What a console comes to over many events: its owner's bytes are lines, and each is obeyed once; what a seat has
--- had is the life of its session; lines wait and leave in the order in which they were told.
+-- What becomes of a console over many events. Its owner's bytes are lines, and each is obeyed once. What a seat has had
+-- is the life of its session. Lines wait and leave in the order in which they were added.
 use Rattle.std.specs.Prelude.{◌≡◌, ◌==◌, ℕ, Bool, true, false, cond, length, drop}
 use Rattle.std.specs.Prelude.{List, [], ◌∷◌, ◌++◌, Option, Some, None}
 use Rattle.rfb_server.specs.Server.{Serving}
@@ -77,8 +77,8 @@ module _ (S : Type 0) where
       (mid : Option Desk) × DoesDeed name rules old deed mid × DoesAll name rules mid deeds new
 
 module _ {S : Type 0} where
-  -- the owner's bytes, however they came, are orders by the lines that they spell; each is obeyed, in order and
-  -- once, and beside them the desk meets what else happens, and nothing more
+  -- the owner's bytes, however they came, are orders by the lines that they spell. Each is obeyed, in order and once.
+  -- Beside that only what else happens acts on the desk
   pub record IsObeyed (old : Console S) (part : List ℕ) (happenings : List Happening) (new : Console S)
       : Type 0 where
     pub deeds : List Deed

@@ -16,8 +16,8 @@ stamped now waits guest = record guest {
   idle = cond waits (Some (begun now guest.idle)) None;
 }
 
--- since when the handshake of a viewer that gives way lasts, or since when it fails; where no turn has told the
--- time yet, it comes after all whose time is known
+-- since when the handshake of a viewer that gives way lasts, or since when it fails; before a turn has given the time,
+-- it is later than any time
 abbrev pub undone_since : Guest → ℕ
 undone_since guest = begun 18446744073709551615 guest.since
 

@@ -55,8 +55,8 @@ pub record ComposesOne (old : Desk) (k : ℕ) (tries wants : Bool) (among given 
   pub screen : KeepsScreen old.share new.share
   pub beside : KeepsBeside old new
 
--- a seat is served: nothing waits and no update is due there, and it is as it was; or an update was tried; or
--- memory for it was wanting, and that is told
+-- a seat is served: nothing waits and no update is due there, and it is as it was; or an update was tried; or memory
+-- for it was wanting, and that is reported
 pub data Serves (screen : Grid Colour) (wants : Bool) (old new : Option ShareSeat) : Type 0 where
   Rested : RestsIn screen old → new ≡ old → Serves screen wants old new
   Tried : (told : Composing) → ComposesIn screen told old new → Serves screen wants old new
@@ -274,7 +274,7 @@ guest_then desk now k = stamped now (waits_for (waiting_for (seat_kept desk k)))
 abbrev pub is_late : Desk → ℕ → ℕ → Bool
 is_late desk now k = is_slow desk.rules now (guest_then desk now k) || is_stuck desk.rules now (guest_then desk now k)
 
--- it is told, unless its viewer was told to have failed
+-- it is reported, unless its viewer was reported to have failed
 abbrev pub tells_late : Desk → ℕ → ℕ → Bool
 tells_late desk now k = is_late desk now k && not (is_over (guest_then desk now k).progress)
 
@@ -282,10 +282,10 @@ tells_late desk now k = is_late desk now k && not (is_over (guest_then desk now 
 abbrev pub seat_left : Desk → ℕ → ℕ → Option ShareSeat
 seat_left desk now k = cond (is_late desk now k) None (seat_kept desk k)
 
--- a turn: who failed goes once all is written, whoever's time is over is let go, and a line tells each; the
--- others' time goes on, and their seats are served, unless updates are held back. They are served going round, and
--- after one for which a large update is composed the others are left: the next turn, which is wanted at once,
--- begins with them. While a large one leaves, for 100 milliseconds at most, a seat may be put off
+-- a turn. Whoever failed goes once all is written, whoever's time is over is disconnected, and a line reports each. The
+-- others' time goes on, and their seats are served in turn, unless updates are held back. After one for which a large
+-- update is composed the others are left: the next turn, which is wanted at once, begins with them. While a large one
+-- leaves, for 100 milliseconds at most, a seat may be put off
 pub record TurnsAs (old : Desk) (now slow stuck : ℕ) (new : Desk) : Type 0 where
   pub slow_is : (k : ℕ) → k < 8 → has_bit slow k ≡ is_slow old.rules now (guest_then old now k)
   pub stuck_is : (k : ℕ) → k < 8 → has_bit stuck k ≡ is_stuck old.rules now (guest_then old now k)
@@ -309,8 +309,8 @@ pub record TurnsAs (old : Desk) (now slow stuck : ℕ) (new : Desk) : Type 0 whe
   pub rules : new.rules ≡ old.rules
   pub next : Wakes new now busy wants last new.next
 
--- a seat is left out in a turn: in it a large update was composed for another, and it is as it was; in the next
--- turn, which is wanted at once, fewer seats come before it than in this one
+-- a seat is left out in a turn: a large update was composed for another, and the seat is as it was. In the next turn,
+-- which is wanted at once, fewer seats come before it than in this one
 pub record IsLeftOut (old : Desk) (now k : ℕ) (new : Desk) : Type 0 where
   pub other : ℕ
   pub another : (other < 8) × (other ≢ k)
@@ -319,15 +319,15 @@ pub record IsLeftOut (old : Desk) (now k : ℕ) (new : Desk) : Type 0 where
   pub sooner : seats_before new.first k < seats_before old.first k
   pub at_once : IsBy now new.next
 
--- a seat is put off in a turn: it is as it was, since another's large update leaves, and the next turn is wanted no
--- later than 100 milliseconds after the latest of these was composed
+-- a seat is put off in a turn: it is as it was, since another's large update leaves. The next turn is wanted no later
+-- than 100 milliseconds after the latest of these was composed
 pub record IsPutOff (old : Desk) (now k : ℕ) (new : Desk) : Type 0 where
   pub same : seat_in new.share k ≡ seat_left old now k
   pub busy : IsBusy old.large now (seat_left old now)
   pub soon : IsByEnd 100 new.large new.next
 
--- it was left out in so many turns one after the other, of which this desk is what the last one made; between them
--- whatever happened kept the seat that is first
+-- it was left out in so many turns one after the other, and the last one made this desk; whatever happened between them
+-- kept the seat that is first
 pub data IsLeftFor (k : ℕ) : ℕ → Desk → Type 0 where
   NotYet : (desk : Desk) → IsLeftFor k 0 desk
   Again : (times : ℕ) (before old new : Desk) (now slow stuck : ℕ) (turns : TurnsAs old now slow stuck new) →
@@ -371,7 +371,7 @@ pub record ShowsAs (old new : Desk) : Type 0 where
 
 -- ---- bytes that are written
 
--- no line waits that tells of a viewer
+-- no line waits that reports a viewer
 abbrev pub untold : Guest → Guest
 untold guest = record guest { told = 0 }
 

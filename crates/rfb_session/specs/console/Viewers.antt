@@ -1,4 +1,4 @@
--- What becomes of the viewers of a desk: who is let go, what they send, and who comes.
+-- What becomes of the viewers of a desk: who is disconnected, what they send, and who comes.
 use Rattle.std.specs.Prelude.{◌≡◌, ◌<◌, ◌≤◌, ◌-◌, ℕ, suc, Bool, true, false, ◌&&◌, not}
 use Rattle.std.specs.Prelude.{nat_eq, nat_le, nat_lt}
 use Rattle.std.specs.Prelude.{cond, length}
@@ -21,10 +21,10 @@ use Rattle.rfb_session.specs.console.Desk.{nobody, newcomer, guest_at, lines_of,
 use Rattle.rfb_session.specs.console.Desk.{KeepsRules, OtherGuests, seated}
 use Rattle.rfb_session.specs.console.Time.{undone_since}
 
--- ---- viewers that are let go
+-- ---- viewers that are disconnected
 
--- a seat is emptied, and the lines are so then; nothing else has changed. `told` says whether that is to be told:
--- somebody was there, who was not told to have failed
+-- a seat is emptied, and the lines are so then; nothing else has changed. `told` says whether that is to be reported:
+-- somebody was there, and not reported to have failed
 pub record Empties (lines_are : List ℕ → Type 0) (old : Desk) (k : ℕ) (told : Bool) (new : Desk) : Type 0 where
   pub taken : Bool
   pub told_is : told ≡ (taken && not (is_over (guest_at old k).progress))
@@ -34,15 +34,15 @@ pub record Empties (lines_are : List ℕ → Type 0) (old : Desk) (k : ℕ) (tol
   pub lines : lines_are (lines_of new)
   pub rules : KeepsRules old new
 
--- no line tells it
+-- no line reports it
 abbrev pub Vacates : Desk → ℕ → Bool → Desk → Type 0
 Vacates old k told new = Empties (λ lines. lines ≡ lines_of old) old k told new
 
--- the line tells it where that is to be told
+-- the line is added where that is to be reported
 abbrev pub LetsGo : Desk → ℕ → Bool → List ℕ → Desk → Type 0
 LetsGo old k told line new = Empties (λ lines. lines ≡ lines_of old ++ cond told line []) old k told new
 
--- where it is told, one line is added that names a fault of a seat; else none is
+-- where it is reported, one line is added that names a fault of a seat; else none is
 pub record AddsFault (k : ℕ) (told : Bool) (before after : List ℕ) : Type 0 where
   pub line : told ≡ true → (line : List ℕ) × IsFaultLine k line × (after ≡ before ++ line)
   pub none : told ≡ false → after ≡ before
@@ -51,7 +51,7 @@ pub record AddsFault (k : ℕ) (told : Bool) (before after : List ℕ) : Type 0 
 abbrev pub LetsGoFor : Desk → ℕ → Bool → Desk → Type 0
 LetsGoFor old k told new = Empties (λ lines. AddsFault k told (lines_of old) lines) old k told new
 
--- of the viewer of a seat, if it goes, nothing is known any more, and a line tells that where it is to be told
+-- nothing more is known of the viewer of a seat if it goes, and a line says so where that is to be reported
 pub record Forgets (old : Desk) (k : ℕ) (goes : Bool) (new : Desk) : Type 0 where
   pub guest : guest_at new k ≡ cond goes nobody (guest_at old k)
   pub others : OtherGuests old k new
@@ -59,21 +59,21 @@ pub record Forgets (old : Desk) (k : ℕ) (goes : Bool) (new : Desk) : Type 0 wh
       ≡ lines_of old ++ cond (goes && not (is_over (guest_at old k).progress)) (leave_line k) []
   pub rules : KeepsRules old new
 
--- a seat, if it is one of them, is emptied, and a line tells it where that is to be told
+-- a seat, if it is one of them, is emptied, and a line says so where that is to be reported
 pub record LetsGoIf (old : Desk) (k : ℕ) (goes : Bool) (new : Desk) : Type 0 where
   pub seat : seat_in new.share k ≡ cond goes None (seat_in old.share k)
   pub seats : (j : ℕ) → nat_eq j k ≡ false → seat_in new.share j ≡ seat_in old.share j
   pub screen : KeepsScreen old.share new.share
   pub forgets : Forgets old k goes new
 
--- of the viewers of the first `count` seats those in a set are forgotten, in order, and a line tells each
+-- of the viewers of the first `count` seats those in a set are forgotten, in order, and a line reports each
 pub record ForgetsUpTo (count : ℕ) (old : Desk) (set : ℕ) (new : Desk) : Type 0 where
   pub guests : (k : ℕ) → k < count → guest_at new k ≡ cond (has_bit set k) nobody (guest_at old k)
   pub later : (k : ℕ) → count ≤ k → guest_at new k ≡ guest_at old k
   pub lines : lines_of new ≡ lines_of old ++ leave_lines (tells_in old set) count
   pub rules : KeepsRules old new
 
--- of the first `count` seats those in a set are emptied, in order, and a line tells each
+-- of the first `count` seats those in a set are emptied, in order, and a line reports each
 pub record LetsGoUpTo (count : ℕ) (old : Desk) (set : ℕ) (new : Desk) : Type 0 where
   pub seats : (k : ℕ) → k < count → seat_in new.share k ≡ cond (has_bit set k) None (seat_in old.share k)
   pub seats_later : (k : ℕ) → count ≤ k → seat_in new.share k ≡ seat_in old.share k
@@ -83,7 +83,7 @@ pub record LetsGoUpTo (count : ℕ) (old : Desk) (set : ℕ) (new : Desk) : Type
 abbrev pub LetsAllGo : Desk → ℕ → Desk → Type 0
 LetsAllGo old set new = LetsGoUpTo 8 old set new
 
--- of a seat, if it is one of them, nothing is known any more, and a line tells it
+-- nothing more is known of a seat if it is one of them, and a line says so
 pub record PartsAt (old : Desk) (k : ℕ) (parts : Bool) (new : Desk) : Type 0 where
   pub share : new.share ≡ old.share
   pub forgets : Forgets old k parts new
@@ -117,7 +117,7 @@ progress_after (Some (Key down key)) progress = progress
 progress_after (Some (Pointer buttons x y)) progress = progress
 progress_after (Some (CutText kept text_length)) progress = progress
 
--- the owner is told what a viewer did
+-- a line reports to the owner what a viewer did
 pub record TellsEvent (old : Desk) (k : ℕ) (event : Option SeatEvent) (new : Desk) : Type 0 where
   pub share : new.share ≡ old.share
   pub progress : (guest_at new k).progress ≡ progress_after event (guest_at old k).progress
@@ -128,7 +128,7 @@ pub record TellsEvent (old : Desk) (k : ℕ) (event : Option SeatEvent) (new : D
   pub lines : lines_of new ≡ lines_of old ++ told_line old.rules.view_only k event
   pub rules : KeepsRules old new
 
--- the bytes that wait for the owner beyond so many tell of a viewer, and are counted
+-- the bytes that wait for the owner beyond so many report a viewer, and are counted
 pub record CountsTold (old : Desk) (k before : ℕ) (new : Desk) : Type 0 where
   pub share : new.share ≡ old.share
   pub progress : (guest_at new k).progress ≡ (guest_at old k).progress
@@ -139,11 +139,11 @@ pub record CountsTold (old : Desk) (k before : ℕ) (new : Desk) : Type 0 where
   pub lines : lines_of new ≡ lines_of old
   pub rules : KeepsRules old new
 
--- how many bytes of lines wait that tell of a viewer, after it has done something
+-- how many bytes of lines wait that report a viewer, after it has done something
 abbrev pub told_after : Bool → ℕ → Option SeatEvent → ℕ → ℕ
 told_after view_only k event told = counted_on told (length (told_line view_only k event))
 
--- and before that who was let go for it, which it is not itself
+-- and before that who was disconnected for it, which it is not itself
 pub record TellsOf (old : Desk) (k : ℕ) (heard : Heard) (new : Desk) : Type 0 where
   pub share : new.share ≡ old.share
   pub progress : has_bit heard.ended k ≡ false →
@@ -158,7 +158,7 @@ pub record TellsOf (old : Desk) (k : ℕ) (heard : Heard) (new : Desk) : Type 0 
       ≡ lines_of old ++ (leave_lines (tells_in old heard.ended) 8 ++ told_line old.rules.view_only k heard.event)
   pub rules : KeepsRules old new
 
--- its session has failed, which is told once
+-- its session has failed, which is reported once
 pub record Fails (old : Desk) (k : ℕ) (told : Bool) (new : Desk) : Type 0 where
   pub share : new.share ≡ old.share
   pub told_is : told ≡ not (is_over (guest_at old k).progress)
@@ -169,7 +169,7 @@ pub record Fails (old : Desk) (k : ℕ) (told : Bool) (new : Desk) : Type 0 wher
   pub lines : AddsFault k told (lines_of old) (lines_of new)
   pub rules : KeepsRules old new
 
--- a line tells that it failed, unless nobody is there or it has failed before
+-- a line says that it failed, unless nobody is there or it has failed before
 pub record TellsFault (old : Desk) (k : ℕ) (new : Desk) : Type 0 where
   pub line : is_over (guest_at old k).progress ≡ false →
       (line : List ℕ) × IsFaultLine k line × (lines_of new ≡ lines_of old ++ line)
@@ -179,8 +179,8 @@ pub record TellsFault (old : Desk) (k : ℕ) (new : Desk) : Type 0 where
 abbrev pub progress_failed : Progress → Progress
 progress_failed progress = cond (is_over progress) progress Failing
 
--- they were taken at the seat's session, and what its viewer did is told, and is the event; or that session
--- has ended, or there is none, and it is told once that it failed
+-- they were taken at the seat's session, and what its viewer did is reported, and is the event. Or that session has
+-- ended, or there is none, and it is reported once that it failed
 pub data HearsAt (old : Desk) (k : ℕ) (bytes : List ℕ) (used ended : ℕ) (event : Option SeatEvent)
     (new : Desk) : Type 0
   where
@@ -225,7 +225,7 @@ pub record FindsOldest (desk : Desk) (count : ℕ) (found : Option ℕ) : Type 0
   pub some : IfSome found (λ k. IsOldest desk count k)
   pub none : found ≡ None → (k : ℕ) → k < count → gives_way (guest_at desk k).progress ≡ false
 
--- where there are as many viewers as may be, the oldest that gives way is let go for a newcomer; where there are
+-- where there are as many viewers as may be, the oldest that gives way is disconnected for a newcomer; where there are
 -- fewer, or none gives way, nobody is
 pub record MakesRoom (old : Desk) (left : Option ℕ) (new : Desk) : Type 0 where
   pub none : left ≡ None → new ≡ old
@@ -249,7 +249,7 @@ pub record Welcomes (old : Desk) (k : ℕ) (new : Desk) : Type 0 where
   pub lines : lines_of new ≡ lines_of old
   pub rules : KeepsRules old new
 
--- a line tells that there is no seat for a connection from there
+-- a line says that there is no seat for a connection from there
 pub record TurnsAway (old : Desk) (from : List ℕ) (seat : Option ℕ) (new : Desk) : Type 0 where
   pub none : seat ≡ None
   pub share : new.share ≡ old.share
@@ -257,7 +257,7 @@ pub record TurnsAway (old : Desk) (from : List ℕ) (seat : Option ℕ) (new : D
   pub lines : lines_of new ≡ lines_of old ++ busy_line from
   pub rules : KeepsRules old new
 
--- a viewer from there has taken that seat, and a line tells it; there are no more viewers than may be
+-- a viewer from there has taken that seat, and a line says so; there are no more viewers than may be
 pub record SeatsOne (old : Desk) (from : List ℕ) (k : ℕ) (new : Desk) : Type 0 where
   pub joins : JoinsAs old.share (Some k) new.share
   pub guest : guest_at new k ≡ newcomer

@@ -1,4 +1,4 @@
--- Whom a loop asks for, and what it tells of the door that a newcomer gets.
+-- Whom a loop asks for, and what it reports of the door that a newcomer gets.
 use Rattle.std.specs.Prelude.{◌≡◌, ◌⊎◌, ℕ, Bool, true, false, List, Option, Some, None}
 use Rattle.rfb_session.specs.declared.doors.host.Arrival.{Arrival}
 use Rattle.rfb_session.specs.doors.Lives.{Opening, Declining}

@@ -1,5 +1,5 @@
--- What a read and a write at a door do to what is known of it: the bytes that reads will give from
--- here on, those that were written, where these are known, and how many failures there were.
+-- What a read and a write at a door do to what is known of it: the bytes that reads will give from here on and those
+-- that were written, where these are known; and how many failures there were.
 use Rattle.std.specs.Prelude.{◌≡◌, ℕ, ◌+◌, ◌<◌, ◌≤◌, List, Option, None, Some, take, length, ⊤, Bool, false}
 use Rattle.std.specs.Prelude.{slice_get}
 use Rattle.std.specs.Io.KnownBytes.{Appends, Consumes, Keeps, IsAtEnd}
@@ -13,7 +13,7 @@ pub record Stays (unread unread' written written' : Option (List ℕ)) (failed f
   pub none_left : Keeps written written'
   pub count : failed' ≡ failed + more
 
--- a read gave so many bytes, which stand at the front of the buffer
+-- a read gave so many bytes, which are at the front of the buffer
 pub record Gave (count : ℕ) (unread unread' written written' : Option (List ℕ))
     (failed failed' : ℕ) (buf : List ℕ) : Type 0 where
   pub some : 0 < count
@@ -71,7 +71,7 @@ module _ {D : Type 0} where
   abbrev pub number_at : (D → ℕ) → List D → ℕ → ℕ
   number_at number doors d = number_of number (slice_get doors d)
 
-  -- whether anything stands at a door
+  -- whether anything is at a door
   abbrev pub flag_of : (D → Bool) → Option D → Bool
   flag_of flag None = false
   flag_of flag (Some device) = flag device

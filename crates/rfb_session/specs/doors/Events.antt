@@ -1,4 +1,4 @@
--- What a loop tells its core, in order, and what that says of each door.
+-- What a loop reports to its core, in order, and what that says of each door.
 use Rattle.std.specs.Prelude.{◌≡◌, ℕ, ◌+◌, ◌==◌, List, [], ◌∷◌, ◌++◌, if◌then◌else◌}
 
 -- these bytes came at a door; no more come there; it has failed; these bytes left there; all that was

@@ -16,8 +16,7 @@ abbrev pub Declining : Type 0 → Type 1
 Declining C = C → List ℕ → C → Type 0
 
 module _ {C D : Type 0} where
-  -- a device that just came from there stands at the door that the core chose for it, and what stood there
-  -- is gone
+  -- a device that just came from there is at the door that the core chose for it, and what was there is gone
   pub record OpensAt (opens : Opening C) (fresh : D → Type 0) (old new : C)
       (doors doors' : List (Place D)) : Type 0 where
     pub door : ℕ
@@ -49,7 +48,7 @@ module _ {C D : Type 0} where
     pub shut : (d : ℕ) → d < length doors → IsOver closed waiting core d → slice_get doors' d ≡ Some Empty
     pub kept : (d : ℕ) → (IsOver closed waiting core d → ⊥) → slice_get doors' d ≡ slice_get doors d
 
--- what a core and its devices tell of themselves
+-- what a core and its devices say of themselves
 pub record Telling (C D : Type 0) : Type 1 where
   pub steps : Stepping C
   pub opens : Opening C
@@ -77,7 +76,7 @@ module _ {C D : Type 0} where
     fresh = fresh;
   }
 
-  -- turns over doors at which devices may stand
+  -- turns over doors at which devices may be
   abbrev pub PlaceTurns : Telling C D → C → C → List (Place D) → List (Place D) → Type 0
   PlaceTurns t old new doors doors' =
       Turns t.steps (known_in t.unread) (known_in t.written) (number_in t.failed) is_held

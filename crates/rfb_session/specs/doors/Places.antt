@@ -1,4 +1,4 @@
--- A door at which a device may stand, and what is known of it: of an empty one, that it has no bytes.
+-- A door at which a device may be, and what is known of it: of an empty one, that it has no bytes.
 use Rattle.std.specs.Prelude.{ℕ, Bool, true, false, List, [], Option, Some}
 use Rattle.rfb_session.specs.declared.doors.place.Place.{Place}
 use Rattle.rfb_session.specs.declared.doors.place.Place.TheVariants.{Empty, Held}

@@ -1,5 +1,5 @@
--- What happened in a run whose doors open and close, and what stands at each door in the end: the device
--- that came there last, and of it what `Turns` says, from when it came.
+-- What happened in a run whose doors open and close, and what is at each door in the end: the device that came there
+-- last. Of that one holds what `Turns` says, from when it came.
 use Rattle.std.specs.Prelude.{◌≡◌, ◌≢◌, ℕ, ◌+◌, ◌<◌, List, [], ◌∷◌, ◌++◌, Some, slice_get, ⊤, ◌⊎◌}
 use Rattle.std.specs.Io.KnownBytes.{Appends, Consumes}
 use Rattle.rfb_session.specs.declared.doors.place.Place.{Place}
@@ -49,7 +49,7 @@ module _ {C D : Type 0} where
     pub ended : 0 < ends d events → HasEnded (t.unread device) (t.unread device')
     pub fails : t.failed device' ≡ t.failed device + faults d events
 
-  -- a device has stood at a door since the beginning
+  -- a device was at a door from the beginning
   pub record HasStood (t : Telling C D) (d : ℕ) (doors : List (Place D)) (happenings : List Happening)
       (device' : D) : Type 0 where
     pub device : D
@@ -57,7 +57,7 @@ module _ {C D : Type 0} where
     pub kept : IsKept d happenings
     pub says : Says t d device device' (events_in happenings)
 
-  -- it came there, and has stood there since then
+  -- it came there, and was there since then
   pub record HasCome (t : Telling C D) (d : ℕ) (old new : C) (happenings : List Happening) (device' : D)
       : Type 0 where
     pub before : List Happening
@@ -74,7 +74,7 @@ module _ {C D : Type 0} where
     pub kept : IsKept d since
     pub says : Says t d device device' (events_in since)
 
-  -- all that happened, in order, and whatever stands at a door in the end
+  -- all that happened, in order, and whatever is at a door in the end
   pub record HasTenants (t : Telling C D) (old new : C) (doors doors' : List (Place D)) : Type 0 where
     pub happenings : List Happening
     pub goes : Goes t.steps t.opens t.declines old happenings new

@@ -40,7 +40,7 @@ module _ {C D : Type 0} where
     pub stays : stands device' ≡ stands device
     pub others : (d : ℕ) → d ≢ door → IsQuiet d events
 
-  -- all doors, each of which stays at its number
+  -- all doors; each stays at its number
   pub record Turns (steps : Stepping C) (unread written : D → Option (List ℕ)) (failed : D → ℕ)
       (stands : D → Bool) (old new : C) (doors doors' : List D) : Type 0 where
     pub events : List Event
@@ -78,8 +78,8 @@ module _ {C D : Type 0} where
           (turns : Turns steps unread written failed stands old new doors doors')
           × ((d : ℕ) → came d turns.events ≡ [])
 
-  -- one turn: what was ready was heard, while nothing left; then the core was told the time and wanted to be
-  -- called next at that one; and then what waited was written, while nothing came
+  -- one turn. What was ready was heard, while nothing left. Then the core was told the time, and wanted to be called
+  -- next at that one. Then what waited was written, while nothing came
   pub record TurnsOnce (steps : Stepping C) (due : C → Option ℕ) (unread written : D → Option (List ℕ))
       (failed : D → ℕ) (stands : D → Bool) (next : Option ℕ) (old new : C) (doors doors' : List D)
       : Type 0 where

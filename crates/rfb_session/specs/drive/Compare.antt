@@ -6,7 +6,7 @@ use Rattle.rfb_session.specs.declared.drive.comparing.Difference.{Difference}
 use Rattle.rfb_session.specs.declared.drive.near.RowDifference.{RowDifference}
 use Rattle.rfb_session.specs.drive.Near.{IsFirstFar, far_places}
 
--- what stands at w places of each of h rows, from column x of row y on, row after row
+-- what is at w places of each of h rows, from column x of row y on, row after row
 abbrev pub rows_of : Grid Colour → ℕ → ℕ → ℕ → ℕ → List Colour
 rows_of g x y w zero = []
 rows_of g x y w (suc h) = rows_of g x y w h ++ row_of g x (y + h) w

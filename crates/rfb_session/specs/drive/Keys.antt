@@ -37,13 +37,13 @@ abbrev pub key_by : Option ℕ → List ℕ → Option ℕ
 key_by (Some c) name = key_of_char c
 key_by None name = key_of_longer name
 
--- the key that a name stands for
+-- the key that a name names
 abbrev pub key_of : List ℕ → Option ℕ
 key_of name = key_by (only_char name) name
 
 -- ---- keys that go down together
 
--- names stand for these keys, of which there are at most eight
+-- names name these keys, at most eight
 abbrev pub AreKeys : List (List ℕ) → List ℕ → Type 0
 AreKeys names keys = (map key_of names ≡ map (λ key. Some key) keys) × (length keys ≤ 8)
 

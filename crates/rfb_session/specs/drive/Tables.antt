@@ -1,4 +1,4 @@
--- Tables in which something stands under each name, whatever it is.
+-- Tables that have something under each name, whatever it is.
 use Rattle.std.specs.Prelude.{ℕ, Bool, List, [], ◌∷◌, Option, None, Some, map, if◌then◌else◌}
 use Rattle.std.specs.Borrow.{Bor}
 
@@ -7,7 +7,7 @@ module _ {V : Type 0} where
   abbrev pub entries : List (Bor (List ℕ) × V) → List (List ℕ × V)
   entries table = map (λ entry. (entry.0.now, entry.1)) table
 
-  -- what stands in the first entry that has this name. What counts as the same name is given
+  -- what the first entry of this name has. What counts as the same name is given
   abbrev pub found_by : (List ℕ → List ℕ → Bool) → List (List ℕ × V) → List ℕ → Option V
   found_by are_same [] name = None
   found_by are_same (entry ∷ table) name =

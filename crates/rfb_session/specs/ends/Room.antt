@@ -13,7 +13,7 @@ pub record HasRoom (latest : Latest) (width height : ℕ) : Type 0 where
   pub asked_columns : latest.asked.asked.width ≡ width
   pub asked_rows : latest.asked.asked.height ≡ height
 
--- a session tells of places of a screen of the same size
+-- a session notes places of a screen of the same size
 pub record IsSameSize (old new : Session) : Type 0 where
   pub columns : (notes_in new).known.width ≡ (notes_in old).known.width
   pub rows : (notes_in new).known.height ≡ (notes_in old).known.height

@@ -1,4 +1,4 @@
--- What an event makes of a world, of which each fact is a clause of `World::step`.
+-- What an event makes of a world: each fact is a clause of `World::step`.
 use Rattle.std.specs.Prelude.{◌⊎◌}
 use Rattle.rfb_session.specs.declared.event.Event.{Event}
 use Rattle.rfb_session.specs.declared.told.Told.{Told}

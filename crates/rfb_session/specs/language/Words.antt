@@ -1,4 +1,4 @@
--- What the words of a line stand for, in scripts and in what owners of shares say.
+-- What the words of a line mean, in scripts and in what owners of shares say.
 use Rattle.std.specs.Prelude.{◌≡◌, ◌==◌, ◌+◌, ◌*◌, ◌≤◌, ◌⊎◌, ℕ, List, [], ◌∷◌, Ok, codes, length, map}
 use Rattle.std.specs.Borrow.{Bor}
 use Rattle.std.specs.List.{AllPass, slice_split}
@@ -24,7 +24,7 @@ words_of line = slice_split (λ byte. byte == 32) line
 abbrev pub parts_of : List ℕ → List (List ℕ)
 parts_of list = slice_split (λ byte. byte == 44) list
 
--- the words are that one, and others after it of which this holds
+-- the words are that one, and others after it for which this holds
 abbrev pub Begins : List ℕ → List (List ℕ) → (List (List ℕ) → Type 0) → Type 0
 Begins keyword words Holds = (rest : List (List ℕ)) × (words ≡ keyword ∷ rest) × Holds rest
 

@@ -17,7 +17,7 @@ size_of Word = 6
 abbrev pub word_of : ℕ → ℕ → ℕ
 word_of high low = 256 * high + low
 
--- the colours of places with a byte a component, each of which is 257 times its byte
+-- the colours of places with a byte a component; a component is 257 times its byte
 abbrev pub colours_of_bytes : List ℕ → List Colour
 colours_of_bytes (r ∷ g ∷ b ∷ more) = colour_of_bytes r g b ∷ colours_of_bytes more
 colours_of_bytes _ = []

@@ -94,8 +94,8 @@ pub record AreAfterPixels (rect : Rect) (text bytes : List ℕ) : Type 0 where
 
 -- ---- orders
 
--- why the pixels of a rectangle are refused, if their bytes are as many as they are to be: it
--- leaves the screen, or none is known, or memory for them is wanting
+-- why the pixels of a rectangle are refused, if they have as many bytes as are due: it leaves the screen, or no screen
+-- is known, or memory for them is wanting
 abbrev pub RefusesPixels : Option Size → Rect → Refusal → Type 0
 RefusesPixels known rect Bad = ¬ (LiesOnKnown known rect)
 RefusesPixels known rect NoMemory = LiesOnKnown known rect
@@ -109,8 +109,8 @@ IsSpoilt text =
     × AreAfterPixels rect text (bytes ++ rest) × (length bytes ≡ data_length rect)
     × (rest ≢ []) × IsOneLine rest)
 
--- what is read is refused for this, once its newline comes: it is spoilt; a line that says nothing
--- or stands in the wrong place; or pixels that are refused
+-- what is read is refused for this, once its newline comes: it is spoilt; a line that says nothing or is in the wrong
+-- place; or pixels that are refused
 pub data IsRefused (known : Option Size) (text : List ℕ) : Refusal → Type 0 where
   spoilt : IsSpoilt text → IsRefused known text Bad
   senseless : IsShort text → text ≢ [] → SaysNoOwner (words_of text) → IsRefused known text Bad
@@ -119,7 +119,7 @@ pub data IsRefused (known : Option Size) (text : List ℕ) : Refusal → Type 0 
   pixels : (rect : Rect) (bytes : List ℕ) (why : Refusal) → AreAfterPixels rect text bytes →
       length bytes ≡ data_length rect → RefusesPixels known rect why → IsRefused known text why
 
--- what a text gives, of which the newline at its end is left out
+-- what a text gives, without the newline at its end
 abbrev pub Orders : Option Size → List ℕ → Order → Type 0
 Orders known text Order.Nothing = text ≡ []
 Orders known text (Order.Line line) =

@@ -1,4 +1,4 @@
--- A reader of the owner's lines, fed in any slices: what it stands for.
+-- A reader of the owner's lines, fed in any slices: what its state means.
 use Rattle.std.specs.Prelude.{◌≡◌, ◌≢◌, ◌+◌, ◌<◌, ◌⊎◌, ℕ, List, [], ◌∷◌, ◌++◌, Option, None, Some, length}
 use Rattle.rfb_picture.specs.declared.rect.Rect.{Rect}
 use Rattle.rfb_session.specs.declared.language.screen.Screen.{Screen as Size}
@@ -41,7 +41,7 @@ known_after known (Some (Order.Refused why)) = known
 abbrev pub Ends : Option Size → List ℕ → Order → Type 0
 Ends known text order = (line : List ℕ) × (text ≡ line ++ 10 ∷ []) × Orders known line order
 
--- what becomes of a reader, that has come so far by some text, by more of it
+-- what more of a text makes of a reader that some of it brought so far
 abbrev pub ComesFurther : Option Size → List ℕ → Option Order → OwnerReader → Type 0
 ComesFurther known text None new = ComesTo known text new.stage
 ComesFurther known text (Some order) new = Ends known text order × ComesTo new.screen [] new.stage
@@ -75,8 +75,8 @@ IsCut text =
     (rect : Rect) × ((IsShort text × SaysOwner (words_of text) (OwnerLine.Pixels rect))
     ⊎ ((bytes : List ℕ) × AreAfterPixels rect text bytes × (length bytes < data_length rect)))
 
--- what a text gives after which nothing comes: what it would before a newline; where it is cut, it
--- is refused; and where nothing came, nothing
+-- what a text gives if nothing follows it: what it would give before a newline. Where it is cut, it is refused; where
+-- nothing came, it gives nothing
 abbrev pub Closes : Option Size → List ℕ → Option Order → Type 0
 Closes known text None = text ≡ []
 Closes known text (Some order) =
@@ -89,7 +89,7 @@ pub record ClosesFrom (screen : Option Size) (stage : Stage) (order : Option Ord
   pub known : new.screen ≡ known_after screen order
   pub fresh : IsFresh new.stage
 
--- the line stands where it may, or is refused
+-- the line is where it may be, or is refused
 pub record Places (old : OwnerReader) (line : OwnerLine) (order : Order) (new : OwnerReader)
     : Type 0 where
   pub told : ((order ≡ Order.Line line) × IsInPlace old.screen line)

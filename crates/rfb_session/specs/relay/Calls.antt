@@ -34,7 +34,7 @@ pub record TakesRequest (incremental : Bool) (area : Rect) (old new : Viewer) : 
   pub noted : (viewing : Viewing) (s : ViewerState) (prefix : List ℕ) → StandsFor viewing old s prefix →
       StandsFor viewing new (requested s) prefix
 
--- a screen of which sessions can be
+-- a screen that sessions can have
 abbrev pub is_shown_size : ℕ → ℕ → Bool
 is_shown_size width height =
     (nat_lt 0 width && nat_lt 0 height) && (nat_lt width 4097 && nat_lt height 4097)
@@ -47,8 +47,8 @@ ended_by (Err NoRoomFor) before = Some NoMemory
 
 -- ---- what viewers do that is passed on
 
--- the message that becomes of it, RFC 6143 sections 7.5.4 to 7.5.6: a key, a pointer, or as much of a text as is
--- kept, 1,048,576 bytes at most; of the end of a handshake none does, and of nothing where viewers are muted
+-- the message that becomes of it, RFC 6143 sections 7.5.4 to 7.5.6: a key, a pointer, or as much of a text as is kept,
+-- 1,048,576 bytes at most. None becomes of the end of a handshake, and none at all where viewers are muted
 abbrev pub passed : Bool → Option SeatEvent → Option (List ℕ)
 passed muted None = None
 passed muted (Some (Ready shared)) = None

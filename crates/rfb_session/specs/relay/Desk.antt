@@ -40,7 +40,7 @@ pub record IsShareOf (viewer : Viewer) (name : List ℕ) (text_limit : ℕ) (sha
   pub made : serving_in share
       ≡ serving_with V38 (screen_of share).width (screen_of share).height name text_limit
 
--- a desk of a share whose picture is a server's: nobody has come, and a line tells that the server is there
+-- a desk of a share whose picture is a server's: nobody has come, and a line says that the server is there
 pub record IsOver (share : Share) (rules : Rules) (name : List ℕ) (desk : Desk) : Type 0 where
   pub share_is : desk.share ≡ share
   pub guests : (k : ℕ) → guest_at desk k ≡ nobody
@@ -50,7 +50,7 @@ pub record IsOver (share : Share) (rules : Rules) (name : List ℕ) (desk : Desk
   pub first : desk.first ≡ 0
   pub large : desk.large ≡ None
 
--- a line tells that a share's picture is shown, and the server's name
+-- a line says that a share's picture is shown, and the server's name
 abbrev pub up_of : Share → List ℕ → List ℕ
 up_of share name = up_line (screen_of share).width (screen_of share).height name
 
@@ -86,7 +86,7 @@ pub record HoldsWithin (old new : Desk) : Type 0 where
   pub lines : lines_of new ≡ lines_of old
   pub keeps : KeepsGuests old new
 
--- the server's viewer took bytes, and the sessions were told what changed; no line tells it
+-- the server's viewer took bytes, and the sessions were told what changed; no line says so
 pub record FeedsDesk (old : Desk) (bytes : List ℕ) (fed : Fed ViewerEvent) (new : Desk) : Type 0 where
   pub feeds : FeedsOn old.share bytes fed new.share
   pub between : Bool
@@ -135,7 +135,7 @@ pub data AsksFrom (old : Desk) (asked : Result (Unit {0}) AppendFault) (before a
     SomeWait : SomeAsked old.share → CallsDesk old (ask_call old.share) before asked after new →
         AsksFrom old asked before after new
 
--- ---- what is told of the server
+-- ---- what is reported of the server
 
 pub record TellsServer (old : Desk) (line : List ℕ) (new : Desk) : Type 0 where
   pub share : new.share ≡ old.share
@@ -143,7 +143,7 @@ pub record TellsServer (old : Desk) (line : List ℕ) (new : Desk) : Type 0 wher
   pub lines : lines_of new ≡ lines_of old ++ line
   pub keeps : KeepsGuests old new
 
--- a bell and a text are told
+-- a bell and a text are reported
 abbrev pub told_of_server : Option ViewerEvent → Option (List ℕ)
 told_of_server None = None
 told_of_server (Some (Reply reply)) = None
@@ -157,7 +157,7 @@ abbrev pub TellsSome : Desk → Option (List ℕ) → Desk → Type 0
 TellsSome old None new = new ≡ old
 TellsSome old (Some line) new = TellsServer old line new
 
--- it has gone away, which is told; nothing is held back for it, and the share is as it was
+-- it has gone away, and a line says so; nothing is held back for it, and the share is as it was
 pub record LosesDesk (old : Desk) (gone : Gone) (new : Desk) : Type 0 where
   pub share : new.share ≡ old.share
   pub hold : new.hold ≡ Shown
@@ -175,7 +175,7 @@ pub record ShowsAgain (old : Desk) (viewer : Viewer) (new : Desk) : Type 0 where
   pub lines : lines_of new ≡ lines_of old
   pub keeps : KeepsGuests old new
 
--- a share of another size is: all viewers are let go, and a line tells each
+-- a share of another size is: all viewers are disconnected, and a line reports each
 pub record BeginsAnew (old : Desk) (share : Share) (new : Desk) : Type 0 where
   pub set : ℕ
   pub all : (k : ℕ) → k < 8 → has_bit set k ≡ true

@@ -26,11 +26,11 @@ module _ {S : Type 0} where
   abbrev pub room_of_server : Relay S → ℕ
   room_of_server relay = cond (not (is_gone relay.presence) && not (is_some relay.console.outcome)) 65536 0
 
-  -- how many bytes wait for the server of what a viewer did, counted until nothing waits
+  -- how many bytes of what a viewer did wait for the server, counted until nothing waits
   abbrev pub passed_at : Relay S → ℕ → ℕ
   passed_at relay k = slice_index_or relay.passed k 0
 
-  -- how much of a viewer is: nothing while much waits of what it did
+  -- how much of a viewer is: nothing while much of what it did waits
   abbrev pub room_of_viewer : Relay S → ℕ → ℕ
   room_of_viewer relay k = cond (nat_lt (passed_at relay k) 4096) (room_of_seat relay.console k) 0
 
@@ -99,7 +99,7 @@ module _ {S : Type 0} where
     pub server : KeepsServer old new
     pub console : KeepsButRooms old.console new.console
 
-  -- at the door of a seat nothing is taken while much waits for the server of what its viewer did
+  -- at the door of a seat nothing is taken while much of what its viewer did waits for the server
   abbrev pub spared_room : Relay S → ℕ → ℕ
   spared_room relay k = cond (nat_lt (passed_at relay k) 4096) (space_at_door relay (k + 1)) 0
 

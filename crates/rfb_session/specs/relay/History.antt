@@ -98,8 +98,8 @@ module _ {S : Type 0} where
   abbrev pub SomeWait : Relay S → Type 0
   SomeWait relay = (desk : Desk) × (relay.console.desk ≡ Some desk) × SomeAsked desk.share
 
-  -- in a turn the server is asked once at most, and only where its picture is shown, no request is outstanding and
-  -- some viewer waits; and where some viewer waits after the turn a request is outstanding
+  -- in a turn the server is asked once at most, and only where its picture is shown, no request is outstanding and some
+  -- viewer waits. Where some viewer waits after the turn, a request is outstanding
   pub data Asks (old : Relay S) (sent : List Sent) (new : Relay S) : Type 0 where
     NotAsked : sent ≡ [] → ((now : Viewer) → IsShowing new now → SomeWait new → HasOut now true) →
         Asks old sent new

@@ -1,4 +1,4 @@
--- How a relay stands with its server.
+-- Whether the server of a relay is there.
 use Rattle.std.specs.Prelude.{ℕ, Bool, true, false, Option, Some, None, nat_le, cond}
 use Rattle.rfb_wire.specs.stream.FaultPlace.{counted_on}
 use Rattle.rfb_session.specs.declared.relay.presence.Presence.{Presence}

@@ -33,7 +33,7 @@ pub record AtDoor (door : ℕ) (server : Type 0) (seat : ℕ → Type 0) (other 
   pub at_other : 8 < door → other
 
 module _ {S : Type 0} where
-  -- what a viewer did is told, as at a console, and passed on to the server
+  -- what a viewer did is reported, as at a console, and passed on to the server
   pub record HearsViewer (old : Relay S) (k : ℕ) (bytes : List ℕ) (used : ℕ) (new : Relay S) : Type 0 where
     pub event : Option SeatEvent
     pub mid : Console S
@@ -48,7 +48,7 @@ module _ {S : Type 0} where
     pub coming : new.coming ≡ old.coming
     pub presence : new.presence ≡ old.presence
 
-  -- bytes came at a door, of which so many are taken
+  -- bytes came at a door, and so many are taken
   pub record HearsAtDoor (old : Relay S) (door : ℕ) (bytes : List ℕ) (used : ℕ) (new : Relay S) : Type 0 where
     pub server : door ≡ 0 → HearsServer old bytes used new
     pub seat : (k : ℕ) → k < 8 → door ≡ k + 1 → HearsViewer old k bytes used new

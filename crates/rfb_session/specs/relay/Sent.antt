@@ -108,8 +108,8 @@ AreDoings view_only p out (Ask incremental width height ∷ more) =
 AreDoings view_only p out (Pass seat event ∷ more) = (view_only ≡ false) × AreDoings view_only p out more
 AreDoings view_only p out (Updated ∷ more) = AreDoings view_only p false more
 
--- the answers of a handshake; once it is done, on a screen that has a place, a request for the whole of it after
--- them, which is outstanding; and once the picture is shown, doings after that
+-- the answers of a handshake. Once it is done, on a screen that has a place, a request for the whole of it comes after
+-- them, which is outstanding. Once the picture is shown, doings come after that
 abbrev pub IsInOrder : Bool → Bool → ServerAt → Bool → List Sent → Type 0
 IsInOrder view_only true (First point) out sent = ⊥
 IsInOrder view_only false (First point) out sent = AreAnswers sent

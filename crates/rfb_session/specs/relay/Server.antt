@@ -40,7 +40,7 @@ EndsFor retry (Some ended) how ends = ends ≡ Some ended
 EndsFor None None how ends = (ends ≡ Some (ServerGone how)) ⊎ (ends ≡ Some NoMemory)
 EndsFor (Some pause) None how ends = (ends ≡ None) ⊎ (ends ≡ Some NoMemory)
 
--- where its picture was shown and all goes on a line tells it, or memory for that was wanting; the share is as it was
+-- where its picture was shown and all goes on a line says so, or memory for that was wanting; the share is as it was
 abbrev pub IsToldGone : Bool → Option Outcome → Gone → Option Desk → Option Desk → Option Outcome → Type 0
 IsToldGone false ended how a b ends = b ≡ a
 IsToldGone true (Some ended) how a b ends = b ≡ a
@@ -89,14 +89,14 @@ module _ {S : Type 0} where
     pub server : KeepsServer old new
     pub side : KeepsSide old.console new.console
 
-  -- a line tells that it has gone, where its picture was shown; or memory for that was wanting
+  -- a line says that it has gone, where its picture was shown; or memory for that was wanting
   pub record TellsGone (was_shown : Bool) (old : Relay S) (how : Gone) (new : Relay S) : Type 0 where
     pub told : IsToldGone was_shown None how old.console.desk new.console.desk new.console.outcome
     pub goes_on : (new.console.outcome ≡ old.console.outcome) ⊎ (new.console.outcome ≡ Some NoMemory)
     pub server : KeepsServer old new
     pub side : KeepsSide old.console new.console
 
-  -- it goes away now: all ends, unless it is called again. A line tells it if its picture was shown and all goes on
+  -- it goes away now: all ends, unless it is called again. A line says so if its picture was shown and all went on
   -- before, and each session is as it was
   pub record GoesNow (old : Relay S) (how : Gone) (new : Relay S) : Type 0 where
     pub presence : new.presence ≡ Lost how Unplanned
@@ -138,7 +138,7 @@ module _ {S : Type 0} where
     pub presence : new.presence ≡ old.presence
     pub keeps : KeepsDeskBy old new
 
-  -- its handshake is done: what is owed waits, and after it a request for the whole screen, which its viewer does not
+  -- its handshake is done. What is owed waits, and after it a request for the whole screen, which its viewer does not
   -- refuse; or the screen is none that can be shown
   pub data Begins (old : Relay S) (now : Viewer) (reply : List ℕ) (width height : ℕ) (new : Relay S) : Type 0
     where
@@ -149,7 +149,7 @@ module _ {S : Type 0} where
           KeepsDeskBy old mid → LosesServer mid (Size width height) new → Begins old now reply width height new
       NoRoomToAsk : new.console.outcome ≡ Some NoMemory → Begins old now reply width height new
 
-  -- its picture is shown from here on: a line tells it, and a sentence; or memory for a line was wanting
+  -- its picture is shown from here on: a line says so, and a sentence; or memory for a line was wanting
   pub record TellsUp (old new : Relay S) : Type 0 where
     pub presence : new.presence ≡ Shown
     pub told : (a : Desk) → old.console.desk ≡ Some a →
@@ -213,7 +213,7 @@ module _ {S : Type 0} where
         KeepsServer old mid → LosesServer mid (OfFault fault) new → HearsShown old bytes used new
     NoRoomToTell : new.console.outcome ≡ Some NoMemory → HearsShown old bytes used new
 
-  -- bytes of the server's, of which so many are taken: after the end, or once it has gone, nothing is done
+  -- bytes of the server's, and how many are taken: after the end, or once it has gone, nothing is done
   pub data HearsServer (old : Relay S) (bytes : List ℕ) (used : ℕ) (new : Relay S) : Type 0 where
     Ignored : (old.console.outcome ≢ None) ⊎ (is_gone old.presence ≡ true) → used ≡ length bytes →
         new ≡ old →

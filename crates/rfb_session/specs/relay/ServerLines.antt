@@ -1,4 +1,4 @@
--- The lines of a relay that tell of its server.
+-- The lines of a relay that report its server.
 use Rattle.std.specs.Prelude.{◌≡◌, ℕ, List, [], ◌∷◌, ◌++◌, codes, take}
 use Rattle.std.specs.Fmt.{decimal}
 use Rattle.hex.specs.Hex.{encode_lower}

@@ -81,7 +81,7 @@ impl Desk {
         Ok(Desk::of(share, lines, rules))
     }
 
-    // A desk of a share that no viewer has come to, with these lines for its owner.
+    // A desk of a share that never had a viewer, with these lines for its owner.
     fn of(share: Share, lines: Vec<u8>, rules: Rules) -> Desk
         ensures share { result.share ≡ share }
         ensures guests { (k : ℕ) → guest_at result k ≡ nobody }
@@ -113,7 +113,7 @@ impl Desk {
         (screen.width(), screen.height())
     }
 
-    /// Draws, as `Share::draw` does, and tells whether it could.
+    /// Draws, as `Share::draw` does, and returns whether it could.
     pub(crate) fn draw(&mut self, drawing: &Drawing<'_>) -> bool
         ensures { DrawsAs self.old (stroke drawing.now) result self.new }
     {
@@ -130,8 +130,8 @@ impl Desk {
         self.hold = hold;
     }
 
-    /// What was held back is shown: an update is composed for each viewer for which nothing waits,
-    /// before a next scene begins.
+    /// What was held back is shown, before a next scene begins: an update is composed for each
+    /// viewer for which nothing waits.
     pub(crate) fn show(&mut self)
         ensures { ShowsAs self.old self.new }
     {
@@ -160,7 +160,7 @@ impl Desk {
         }
     }
 
-    // No line waits that tells of a viewer.
+    // No line waits that is about a viewer.
     fn forget_told_at(&mut self, place: usize)
         requires { place < 8 }
         ensures { ForgetsTold self.old place self.new }
@@ -193,7 +193,7 @@ impl Desk {
         }
     }
 
-    /// Whether more of a viewer may be told of.
+    /// Whether more of a viewer may be reported.
     pub(crate) fn is_heard(&self, seat: Seat) -> bool
         ensures { result ≡ is_heard self.now seat }
     {
@@ -207,7 +207,7 @@ impl Desk {
         self.came && self.seated() == 0
     }
 
-    /// Whether a newcomer could be told of.
+    /// Whether a newcomer could be reported.
     pub(crate) fn has_room(&self) -> bool
         ensures { result ≡ nat_lt (length (lines_of self.now)) 65536 }
     {

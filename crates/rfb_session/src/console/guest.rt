@@ -18,15 +18,15 @@ pub(crate) enum Progress {
     Failing,
 }
 
-/// A seat, and how its viewer stands with time and with the owner.
+/// How far the viewer of a seat is, since when, and how much of it the owner has yet to read.
 #[derive(Clone, Copy, Debug)]
 pub(crate) struct Guest {
     pub progress: Progress,
-    // Since when its handshake lasts, or since when it fails, once a turn has told the time.
+    // Since when its handshake lasts, or since when it fails, once a turn has given the time.
     pub since: Option<u64>,
-    // Since when bytes wait for it of which it took none while it sent none, once a turn has told.
+    // Since when bytes wait for it, and it took none and sent none, once a turn has given the time.
     pub idle: Option<u64>,
-    // How many bytes of lines that tell of it wait for the owner.
+    // How many bytes of lines about it wait for the owner.
     pub told: usize,
 }
 
@@ -66,8 +66,8 @@ impl Guest {
         matches!(self.progress, Progress::Shaking | Progress::Failing)
     }
 
-    /// Since when its handshake lasts, or since when it fails. Where no turn has told the time yet
-    /// that is later than any.
+    /// Since when its handshake lasts, or since when it fails. Before a turn has given the time, it
+    /// is later than any time.
     pub(crate) fn undone_since(&self) -> u64
         ensures { result ≡ undone_since self.now }
     {
@@ -165,5 +165,5 @@ pub(crate) fn sooner(one: Option<u64>, other: Option<u64>) -> Option<u64>
     }
 }
 
-/// How many bytes of lines may wait of a viewer before no more of it is read.
+/// How many bytes of lines about a viewer may wait before no more of it is read.
 pub(crate) const TOLD_MOST: usize = 4096;

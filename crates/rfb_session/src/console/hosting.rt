@@ -1,4 +1,4 @@
-//! Who comes to a console.
+//! A console as a host: who is let in, and where.
 
 ghost use Rattle.std.specs.Prelude.{◌≡◌, false, Some};
 ghost use Rattle.rfb_session.specs.console.Console.{OpensAs, DeclinesAs, is_welcome, has_ended};
@@ -54,7 +54,7 @@ impl<S: Speaker + Drop> Host for Console<S> {
 }
 
 impl<S: Speaker + Drop> Console<S> {
-    // Whether a newcomer could be told of.
+    // Whether a newcomer could be reported.
     fn has_room(&self) -> bool
         ensures { result ≡ has_room self.now.desk }
     {

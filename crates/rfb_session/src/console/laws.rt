@@ -24,8 +24,8 @@ ghost use Rattle.rfb_session.specs.console.History.{SeatLives, IsEmptySeat};
 ghost use Rattle.rfb_session.specs.console.History.{Happens, is_turn, KeepsFirst};
 
 /// The owner's bytes, however they are cut, are the lines that they spell. Each is obeyed, in order
-/// and once; beside that the desk meets what else happens, and nothing more. A console that was
-/// told nothing has read nothing.
+/// and once. Beside that only what else happens acts on the desk. A console that was told nothing
+/// has read nothing.
 pub fn lines_are_obeyed_however_they_come<S: Drop>()
     ensures begins { (console : AConsole S) → IsFreshConsole console → HasRead console [] }
     ensures obeyed { (old new : AConsole S) (happenings : List Happening) (part : List ℕ) →
@@ -35,7 +35,7 @@ pub fn lines_are_obeyed_however_they_come<S: Drop>()
 
 /// Whoever takes a seat has its session alone. While the seat is not given away, what was received
 /// there is what came at its door, and what was written is what left there, each byte once and in
-/// order; or the viewer was let go.
+/// order. Or the viewer was disconnected.
 pub fn a_seat_lives_by_its_door<S: Drop>()
     ensures comes { (old new : AConsole S) (k : ℕ) (from : List ℕ) → OpensAs old (k + 1) from new →
         (serving : Serving) × SeatLives serving new.desk k [] [] }
@@ -47,21 +47,22 @@ pub fn a_seat_lives_by_its_door<S: Drop>()
         (taken ++ left (k + 1) (events_in happenings)) ⊎ IsEmptySeat new.desk k }
 {}
 
-/// What left at the door of lines, and what waits there, is what waited and what was told of each
-/// thing that happened, in order and once.
+/// What left at the door of lines, and what waits there, is what waited and what was reported of
+/// each thing that happened, in order and once.
 pub fn lines_leave_as_they_were_told<S: Drop>()
     ensures { (old new : AConsole S) (happenings : List Happening) (part : List ℕ) →
         HasRead old part → new.outcome ≡ None → Lasts old happenings new →
         TellsAll old happenings new }
 {}
 
-/// An update that is due where nothing waits is composed in the next turn, of the screen as it is
-/// then, unless updates are held back or memory was wanting, or the seat is left out or put off.
+/// Where nothing waits, an update that is due is composed in the next turn, of the screen as it is
+/// then. It is not composed where updates are held back, memory was wanting, or the seat is left
+/// out or put off.
 ///
-/// - It is left out where in that turn an update of more than a mebibyte was composed for another.
-///   Then the turn after it is wanted at once, and fewer seats come before this one there.
-/// - It is put off while such an update leaves, for 100 milliseconds at most after it was composed:
-///   the next turn is wanted no later.
+/// - It is left out if in that turn an update of more than a mebibyte was composed for another.
+///   Then the next turn is wanted at once, and in it fewer seats come before this one.
+/// - It is put off while such an update leaves, for 100 milliseconds at most after that was
+///   composed. The next turn is wanted no later.
 ///
 /// Each other seat is one for which nothing waits and none is due.
 pub fn an_update_that_is_due_is_composed()
@@ -75,10 +76,10 @@ pub fn an_update_that_is_due_is_composed()
 {}
 
 /// The seats take turns. Whoever is left out in a turn comes in the next one before each that was
-/// served, whatever happens between them; so of eight turns, one after the other, not each leaves
-/// out the same seat. A turn composes one update of more than a mebibyte at most: where such a one
-/// waits at two seats, it is the same to the byte. And 100 milliseconds after the latest of these
-/// none is put off.
+/// served, whatever happens between them. So a seat is not left out in eight turns, one after the
+/// other. A turn composes one update of more than a mebibyte at most: where such a one waits at two
+/// seats, it is the same to the byte. And 100 milliseconds after the latest of these none is put
+/// off.
 pub fn nobody_is_left_out_for_ever<S: Drop>()
     ensures first { (old new : ADesk) (now slow stuck j k : ℕ) →
         (turns : TurnsAs old now slow stuck new) → j < 8 → k < 8 →
@@ -97,8 +98,8 @@ pub fn nobody_is_left_out_for_ever<S: Drop>()
         turns.busy ≡ false }
 {}
 
-/// Before the time at which the next turn is wanted nobody's time is over, and updates that are
-/// held back are not let go.
+/// Before the time at which the next turn is wanted, nobody's time is over, and updates that are
+/// held back stay so.
 pub fn no_end_is_slept_past()
     ensures viewers { (old new : ADesk) (now slow stuck k time : ℕ) →
         TurnsAs old now slow stuck new → k < 8 → IsBefore time new.next →
@@ -109,8 +110,8 @@ pub fn no_end_is_slept_past()
         IsBefore time new.next → holds_at new.rules.hold time new.hold ≡ true }
 {}
 
-/// What waits at a door is bounded: notes by 8 MiB, and at a seat 297 bytes of answers or one
-/// update wait, which has at most the room that composing it reserved.
+/// What waits at a door is bounded. Notes have at most 8 MiB. At a seat 297 bytes of answers wait,
+/// or one update, which has at most the room that composing it reserved.
 pub fn few_bytes_wait<S: Drop>()
     ensures notes { (console : AConsole S) → length (waiting_at console 10) ≤ 8388608 }
     ensures answers { (desk : ADesk) (k : ℕ) → is_update_at desk.share k ≡ false →

@@ -1,4 +1,4 @@
-//! Lines for the owner that tell who comes, and who is let go for a fault.
+//! Lines for the owner that say who comes, and who is disconnected for a fault.
 
 ghost use Rattle.std.specs.Prelude.{◌≡◌, ◌++◌, ◌∷◌, List, ℕ, OnOk, []};
 ghost use Rattle.rfb_session.specs.console.SeatLines.{come_line, busy_line, IsFaultLine};
@@ -24,7 +24,7 @@ pub(crate) fn tell_busy(lines: &mut Vec<u8>, from: &str) -> io::Result<()>
     writeln!(lines, "busy {from}")
 }
 
-/// The viewer of a seat is let go for a fault.
+/// The viewer of a seat is disconnected for a fault.
 pub(crate) fn tell_failed<F: Display>(lines: &mut Vec<u8>, seat: Seat, fault: &F) -> io::Result<()>
     ensures { OnOk result ((line : List ℕ) × IsFaultLine seat line
         × (lines.new.items ≡ lines.old.items ++ line)) }

@@ -1,4 +1,4 @@
-//! Bytes that come to a console, and ends.
+//! Bytes that a console receives, and ends.
 
 ghost use Rattle.std.specs.Prelude.{◌≡◌, ◌≢◌, ◌≤◌, ◌<◌, ◌+◌, ◌⊎◌, ℕ, false};
 ghost use Rattle.std.specs.Prelude.{nat_eq, length, take, None};
@@ -133,7 +133,7 @@ impl<S: Speaker + Drop> Console<S> {
         }
     }
 
-    /// Takes bytes of the viewer of a seat. What the viewer did is told, and is the caller's too.
+    /// Takes bytes of the viewer of a seat. What the viewer did is reported, and returned.
     pub(crate) fn hear_seat(&mut self, seat: Seat, bytes: &[u8]) -> Said
         requires some { 0 < length bytes.now }
         ensures used { (0 < result.used) × (result.used ≤ length bytes.now) }
@@ -164,7 +164,7 @@ impl<S: Speaker + Drop> Console<S> {
         }
     }
 
-    /// The viewer of a seat is let go, with nothing wrong.
+    /// The viewer of a seat is disconnected, with nothing wrong.
     pub(crate) fn let_seat_go(&mut self, seat: Seat, why: Why)
         ensures leaves { LeavesSeat self.old seat self.new }
         ensures ends { RunsOut self.old.outcome self.new.outcome }

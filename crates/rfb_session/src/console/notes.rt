@@ -13,8 +13,8 @@ use crate::seats::Seats;
 // How many bytes of notes wait at most. What does not fit is dropped: whoever reads them does not.
 const NOTES_MOST: usize = 8 << 20;
 
-// Where more notes wait than these, sentences are. So viewers that come and go make the owner wait
-// for nobody.
+// Where more notes than these wait, sentences are dropped. So viewers that come and go make the
+// owner wait for nobody.
 const SENTENCES_MOST: usize = 1 << 15;
 
 impl<S: Speaker + Drop> Console<S> {
@@ -45,7 +45,8 @@ impl<S: Speaker + Drop> Console<S> {
         self.add_note(&note);
     }
 
-    /// The viewer at a seat is let go. One that has failed was before, whatever ends it then.
+    /// A sentence says why the viewer at a seat is disconnected, if none did before: one that has
+    /// failed is reported once.
     pub(crate) fn note_left(&mut self, seat: Seat, why: Why)
         ensures { KeepsButNotes self.old self.new }
     {
@@ -80,7 +81,7 @@ impl<S: Speaker + Drop> Console<S> {
         }
     }
 
-    /// The viewers at these seats are let go.
+    /// The viewers at these seats are disconnected.
     pub(crate) fn note_all_left(&mut self, seats: Seats, why: Why)
         ensures { KeepsButNotes self.old self.new }
     {
@@ -136,7 +137,7 @@ impl<S: Speaker + Drop> Console<S> {
     }
 }
 
-// Where too many bytes of notes wait there are only the first few again.
+// Where too many bytes of notes wait, only the first `few` are kept.
 fn trim(notes: &mut Vec<u8>, few: usize)
     requires { few ≤ 8388608 }
     ensures { length notes.new.items ≤ 8388608 }

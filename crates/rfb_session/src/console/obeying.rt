@@ -91,7 +91,7 @@ impl<S: Speaker + Drop> Console<S> {
         }
     }
 
-    // The viewer of a seat is let go.
+    // The viewer of a seat is disconnected.
     fn end_seat(&mut self, number: u8) -> Option<Refusal>
         ensures lets_go { ((8 ≤ number) × (self.new.desk ≡ self.old.desk))
             ⊎ OnDesk (λ a b. (taken : Bool) × LetsGo a number taken (leave_line number) b)

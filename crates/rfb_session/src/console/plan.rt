@@ -20,12 +20,12 @@ pub struct Rules {
     pub until_idle: bool,
     /// Whether a viewer that wishes to be alone is served beside the others.
     pub always_shared: bool,
-    /// Whether keys, pointers and texts are not told.
+    /// Whether keys, pointers and texts are not reported.
     pub view_only: bool,
     /// How long a handshake may take.
     pub handshake: u64,
-    /// How long bytes may wait for a viewer that neither takes any of them nor sends some, if there
-    /// is an end to it.
+    /// How long bytes may wait for a viewer that takes none of them and sends none, if there is an
+    /// end to it.
     pub timeout: Option<u64>,
     /// How long updates are held back at most.
     pub hold: u64,

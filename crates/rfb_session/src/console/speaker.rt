@@ -11,7 +11,7 @@ pub const NOTE_MAX: usize = 512;
 /// A sentence or two, with their newlines. What does not fit is left out.
 pub type Note = ArrayString<NOTE_MAX>;
 
-/// Why a viewer is let go.
+/// Why a viewer is disconnected.
 #[derive(Clone, Copy, Debug, PartialEq, Eq)]
 pub enum Why {
     /// It closed its connection.
@@ -26,7 +26,7 @@ pub enum Why {
     Alone(u8),
     /// Its handshake was not done within so many milliseconds.
     Handshake(u64),
-    /// Bytes waited for it for so many milliseconds, of which it took none.
+    /// Bytes waited for it for so many milliseconds, and it took none.
     Stuck(u64),
     /// Another one came, and its own handshake was not done.
     Newcomer,
@@ -51,7 +51,7 @@ pub enum Saying<'a> {
     NoScreen {
         number: u64,
     },
-    /// The viewer at a seat is let go.
+    /// The viewer at a seat is disconnected.
     Left {
         seat: u8,
         why: Why,

@@ -49,7 +49,7 @@ impl<S: Speaker + Drop> Console<S> {
         }
     }
 
-    // These viewers were let go by time.
+    // These viewers were disconnected by time.
     fn note_late(&mut self, late: Late)
         ensures { KeepsButNotes self.old self.new }
     {

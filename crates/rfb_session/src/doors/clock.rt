@@ -16,8 +16,8 @@ pub enum Pause {
 }
 
 /// The time, and which doors are ready: what a loop learns from the system. A door stays ready
-/// until it answers that it waits, has ended or has failed; or gives less than it may, where that
-/// says that no more has come.
+/// until it answers that it waits, has ended or has failed; or until it gives less than it may,
+/// where that means that no more has come.
 pub trait Clock {
     // Whether a door is worth a read.
     ghost readable: { Self → ℕ → Bool };
@@ -28,7 +28,7 @@ pub trait Clock {
     /// The time, in milliseconds since a moment that stays the same. It never goes back.
     fn now(&self) -> u64;
 
-    /// Waits no longer than it may, and learns which doors are ready. Tells whether the loop goes
+    /// Waits no longer than it may, and learns which doors are ready. Returns whether the loop goes
     /// on.
     fn wait(&mut self, pause: Pause) -> bool;
 

@@ -4,9 +4,9 @@ ghost use Rattle.std.specs.Prelude.{◌≡◌, ◌≤◌, ◌<◌, ◌+◌, ℕ,
 ghost use Rattle.std.specs.Prelude.{length, take, drop};
 ghost use Rattle.rfb_session.specs.doors.Events.{Stepping, Received, Ended, Failed, Wrote, Turned};
 
-/// What the bytes at numbered doors mean, without any IO. A loop tells it what happens at its
-/// doors, and each call that tells something is a step. A number at which it has no door is a door
-/// with no room where nothing waits.
+/// What the bytes at numbered doors mean, without any IO. A loop reports to it what happens at its
+/// doors, and each such call is a step. A number at which it has no door is a door with no room
+/// where nothing waits.
 pub trait Core {
     // What it may become when it is told something.
     ghost steps: { Stepping Self };
@@ -28,8 +28,8 @@ pub trait Core {
     fn room(&self, door: usize) -> usize
         ensures { result ≡ space self.now door };
 
-    /// Takes bytes that came at a door, from the front, and tells how many: one at least. The loop
-    /// brings the rest at once, so what it had room for it still has room for.
+    /// Takes bytes that came at a door, from the front, and returns how many: one at least. The
+    /// loop brings the rest at once, so what it had room for it still has room for.
     fn received(&mut self, door: usize, bytes: &[u8]) -> usize
         requires some { 0 < length bytes.now }
         requires room { length bytes.now ≤ space self.old door }
@@ -38,13 +38,13 @@ pub trait Core {
         ensures steps { steps self.old (Received door (take result bytes.now)) self.new }
         ensures room { space self.old door ≤ space self.new door + result };
 
-    /// All bytes of a door have come. The loop may tell it again as long as there is room, so a
+    /// All bytes of a door have come. The loop may report that again as long as there is room, so a
     /// core has none there from then on.
     fn ended(&mut self, door: usize)
         ensures { steps self.old (Ended door) self.new };
 
-    /// A read or a write at a door has failed. No more bytes come there, and none leave: what still
-    /// waits keeps the door from being closed, so a core lets go of it.
+    /// A read or a write at a door has failed. No more bytes come there, and none leave. What still
+    /// waits would keep the door from being closed, so a core drops it.
     fn failed(&mut self, door: usize)
         ensures { steps self.old (Failed door) self.new };
 
@@ -63,8 +63,8 @@ pub trait Core {
     fn is_closed(&self, door: usize) -> bool
         ensures { result ≡ closed self.now door };
 
-    /// All that was ready has been heard, and it is this time, in milliseconds. Tells the time at
-    /// which it wants to be called next even if nothing comes before; none where it need not be.
+    /// All that was ready has been heard, and it is this time, in milliseconds. Returns when it
+    /// wants to be called next even if nothing comes before; none where it need not be.
     fn turned(&mut self, now: u64) -> Option<u64>
         ensures steps { steps self.old (Turned now) self.new }
         ensures due { result ≡ due self.new };

@@ -17,14 +17,14 @@ pub trait Duplex {
     // The bytes that were written, where they are known.
     ghost written: { Self → Option (List ℕ) };
 
-    /// Reads some bytes into the front of `buf`, and tells how many. Into a buffer with room it
+    /// Reads some bytes into the front of `buf`, and returns how many. Into a buffer with room it
     /// gives none only at the end.
     fn read(&mut self, buf: &mut [u8]) -> io::Result<usize>
         ensures bound { ReadsAtMost result buf.new }
         ensures bytes { ReadConsumes (unread self.old) (unread self.new) result buf.new }
         ensures kept { Keeps (written self.old) (written self.new) };
 
-    /// Writes a front of `buf`, and tells how many bytes it has.
+    /// Writes a front of `buf`, and returns how many bytes that has.
     fn write(&mut self, buf: &[u8]) -> io::Result<usize>
         ensures bound { WritesAtMost result buf.now }
         ensures bytes { WriteAppends (written self.old) (written self.new) result buf.now }

@@ -33,9 +33,8 @@ pub trait Host: Core {
     fn calls(&self) -> bool
         ensures { result ≡ calling self.now };
 
-    /// A device came from there, and there are so many doors. Tells which one it gets: what stands
-    /// there is let go, so nothing that waited for that one may wait for the newcomer. Or it gets
-    /// none.
+    /// A device came from there, and there are so many doors. Returns which one it gets, or none.
+    /// What is there is dropped, so nothing that waited for that may wait for the newcomer.
     fn opened(&mut self, doors: usize, from: &str) -> Option<usize>
         ensures some { IfSome result (λ door.
             (door < doors) × opens self.old door from.now self.new) }
@@ -79,7 +78,7 @@ pub trait Arrivals<D> {
         ensures fresh { IfSome result (λ arrival. fresh arrival.device) }
         ensures called { called self.old result self.new };
 
-    /// The device that came last stands at this door now; or it got none, and was let go.
+    /// The device that came last is at this door now; or it got none, and was dropped.
     fn seated(&mut self, door: Option<usize>)
         ensures { placed self.old door self.new };
 }

@@ -16,7 +16,7 @@ use crate::loops::turns;
 
 /// Lets a device in, does a turn and closes what is over, time after time, until the core says that
 /// all has ended, or the clock does. It waits between as `run` does. `part` is as for `turn`. The
-/// clock and the arrivals are one value, since what came has to be told apart by its readiness.
+/// clock and the arrivals are one value, since the clock has to know when a newcomer is ready.
 pub fn live<C: Host, D: Device + Drop, S: Clock + Arrivals<D>>(
     core: &mut C,
     doors: &mut [Place<D>],
@@ -43,7 +43,7 @@ pub fn live<C: Host, D: Device + Drop, S: Clock + Arrivals<D>>(
 }
 
 /// Lets one device in, if the core would have one, one came or was called, and the core has a door
-/// for it. What stood there is let go.
+/// for it. What was there is dropped.
 pub fn open<C: Host, D: Device + Drop, A: Arrivals<D>>(
     core: &mut C,
     doors: &mut [Place<D>],
@@ -81,7 +81,7 @@ fn next_of<C: Host, D, A: Arrivals<D>>(core: &C, arrivals: &mut A) -> Option<Arr
     }
 }
 
-/// Empties each door that may be closed and where nothing waits. What stood there is let go.
+/// Empties each door that may be closed and where nothing waits. What was there is dropped.
 pub fn close<C: Core, D: Drop>(core: &C, doors: &mut [Place<D>])
     ensures { Closes C.closed C.waiting core.now doors.old doors.new }
 {

@@ -9,7 +9,7 @@ use crate::doors::device::{Answer, Device};
 // How many bytes leave by one write at most, so that no door has the others wait for long.
 const PIECE: usize = 1 << 20;
 
-/// Writes once at a door, if something waits there, a mebibyte of it at most, and tells the
+/// Writes once at a door, if something waits there, a mebibyte of it at most, and reports to the
 /// core how much of it has left. Where nothing waits it answers `Again`, so what is known of the
 /// door's readiness stays.
 pub fn tell<C: Core, D: Device>(core: &mut C, device: &mut D, door: usize) -> Answer

@@ -1,19 +1,19 @@
-//! A door at which a device may stand.
+//! A door that may have a device.
 
 ghost use Rattle.rfb_session.specs.doors.Places.{known_in, number_in, is_held};
 
 use crate::doors::device::{Answer, Device};
 
-/// A door, and what stands there.
+/// A door, and what is there.
 #[derive(Debug, Drop)]
 pub enum Place<D> {
-    /// Nothing stands there.
+    /// Nothing is there.
     Empty,
-    /// This does.
+    /// This is.
     Held(D),
 }
 
-/// Where nothing stands, all reads and writes wait.
+/// Where nothing is, all reads and writes wait.
 impl<D: Device> Device for Place<D> {
     ghost unread = { known_in D.unread };
 

@@ -33,8 +33,8 @@ pub fn run<C: Core, D: Device, K: Clock>(
     }
 }
 
-/// One turn: reads once at each door that is worth it, tells the core that all has been heard, and
-/// writes once at each door that is worth it. Answers when the core wants the next turn, in
+/// One turn: reads once at each door that is worth it, reports to the core that all has been heard,
+/// and writes once at each door that is worth it. Returns when the core wants the next turn, in
 /// milliseconds. `part` holds what one read gives, and is overwritten; where it is empty, nothing
 /// is read.
 pub fn turn<C: Core, D: Device, K: Clock>(

@@ -36,7 +36,7 @@ pub fn compare(
         MatchOption result (AreNear within shown wanted.places.items)
         (Differs within shown wanted.places.items wanted.width) }
 {
-    // It tells that no row's number passes 65,535.
+    // By this no row's number passes 65,535.
     let _rows = screen.height();
     let width = usize::from(expected.width);
     let mut found = None;

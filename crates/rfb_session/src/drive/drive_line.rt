@@ -16,7 +16,7 @@ pub enum DriveLine<'a> {
     Down(u32),
     /// A key goes up.
     Up(u32),
-    /// A text is typed, of whose characters each has a key.
+    /// A text is typed. Each of its characters has a key.
     Text(&'a str),
     /// The pointer goes to a place.
     Move(Place),
@@ -28,13 +28,13 @@ pub enum DriveLine<'a> {
     Drag(Place),
     /// The wheel turns, so many times.
     Wheel(Way, u16),
-    /// A text is cut, of which these are the hexadecimal digits.
+    /// The text with these hexadecimal digits is cut.
     Paste(&'a [u8]),
     /// The text of a file is cut.
     PasteFile(&'a [u8]),
     /// What the screen shows, or a part of it, is written to a file.
     Save(&'a [u8], Option<Rect>),
-    /// The screen comes to show the picture of a file.
+    /// The screen is to show the picture of a file.
     Expect(&'a [u8], Likeness),
     /// Nothing changes for so many seconds.
     Still(u32),

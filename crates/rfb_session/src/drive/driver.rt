@@ -6,13 +6,13 @@
 //! |---|---|---|
 //! | `SERVER` | what the server sends | the messages of its viewer, and those of lines |
 //! | `ORDERS` | the rig's lines | |
-//! | `LINES` | | lines that tell what happens |
+//! | `LINES` | | lines that report what happens |
 //! | `NOTES` | | a sentence, where all ends by a fault |
 //!
-//! - No line begins before the server's first update is whole, and none before the one before it is
-//!   done. Where 65,536 bytes of lines that tell wait, none begins and the server is not read.
+//! - No line begins before the server's first update is whole, nor before the line before it is
+//!   done. Where 65,536 bytes of reports wait, none begins and the server is not read.
 //! - It asks for what has changed all the time, so a line looks at the picture as it is now.
-//! - All that was ready is heard before a line begins. What an update shows counts, though another
+//! - All that was ready is heard before a line begins. What an update shows counts, even if another
 //!   one comes in the same turn.
 //! - An update changes the least rectangle that holds its own.
 
@@ -57,10 +57,10 @@ const ROOM: usize = 1 << 16;
 pub struct DriverSetup {
     /// What the server's viewer is made with.
     pub viewer: ViewerSetup,
-    /// How long the handshake and the first update may take, and each line before one that says
-    /// otherwise, in milliseconds.
+    /// How long, in milliseconds, the handshake and the first update may take, and each line until
+    /// one says otherwise.
     pub limit: u64,
-    /// Whether a line tells of each update that changed something.
+    /// Whether a line reports each update that changed something.
     pub tells_changes: bool,
 }
 
@@ -108,7 +108,7 @@ pub(crate) struct Rooms {
     pub orders: usize,
 }
 
-// What turns have told.
+// The times that turns have given.
 #[derive(Clone, Copy, Debug)]
 pub(crate) struct Turns {
     // When the first one was.

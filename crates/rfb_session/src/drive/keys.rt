@@ -23,8 +23,8 @@ const HYPHEN: u8 = b'-';
 // More digits make a word no number.
 const DIGITS_MAX: usize = 8;
 
-/// The key that a name stands for: one character for itself, a number such as `0xFF0D` for its
-/// value, and any other name for what the tables have.
+/// The key of a name. One character names its own key, a number such as `0xFF0D` the key of that
+/// value, and any other name the one that the tables have.
 pub fn key_of(name: &[u8]) -> Option<u32>
     ensures { result ≡ spec.key_of name.now }
 {

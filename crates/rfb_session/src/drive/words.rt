@@ -1,4 +1,4 @@
-//! What the words of a line stand for.
+//! What the words of a line mean.
 
 /// A place: its column and its row.
 #[derive(Clone, Copy, Debug, PartialEq, Eq)]

@@ -22,11 +22,11 @@ use std::alloc::Global;
 
 /// Runs a fresh server, whose screen may be drawn on: writes its greeting, and then reads, feeds it
 /// what comes and writes its answers, until `source` ends. After each read, of 4,096 bytes at most,
-/// it composes once; an update is written, and then the scene draws. It tells how many updates
-/// there were, as many as a `u64` has. It gives `Truncated` where the bytes end inside a message or
+/// it composes once; an update is written, and then the scene draws. Returns how many updates there
+/// were, as many as a `u64` has. The errors are `Truncated` where the bytes end inside a message or
 /// the handshake, `Device` where a read or a write fails, `NoMemory` where there is none for an
-/// update, and the server's fault where that ends. But for that the server stands as the bytes and
-/// drawings left it.
+/// update, and the server's fault where it ends by one. But for that fault the server is as the
+/// bytes and drawings left it.
 pub fn serve<R: Source, W: Sink, S: Scene>(
     alloc: Global,
     source: &mut R,
@@ -65,9 +65,9 @@ pub fn serve<R: Source, W: Sink, S: Scene>(
 /// Runs a fresh viewer until `updates` updates ended, at least one: reads, feeds it what comes and
 /// writes its answers. Once it is ready it asks for the whole screen, and after each update but the
 /// last for what has changed. It stops at once after the last: later bytes of that read are not
-/// fed. It gives `Truncated` where the bytes end before that, `Device` where a read or a write
-/// fails, and the viewer's fault where that ends. But for that the viewer stands as the bytes and
-/// requests left it.
+/// fed. The errors are `Truncated` where the bytes end before that, `Device` where a read or a
+/// write fails, and the viewer's fault where it ends by one. But for that fault the viewer is as
+/// the bytes and requests left it.
 pub fn view<R: Source, W: Sink>(
     source: &mut R,
     sink: &mut W,
@@ -94,9 +94,9 @@ pub fn view<R: Source, W: Sink>(
     view_recording(source, sink, &mut Nowhere, viewer, updates)
 }
 
-/// `view` that also writes to `kept` the server's bytes as they came, those that the viewer was fed
-/// and no others, and before it answers them. So `play` of them ends as this does. Where the server
-/// does wrong, the bytes of that read after the others are there too, unless writing them fails.
+/// `view` that also writes to `kept` the server's bytes as they came, before it answers them: those
+/// that the viewer was fed, and no others. So `play` of them ends as this does. Where the server
+/// does wrong, the later bytes of that read are there too, unless writing them fails.
 pub fn view_recording<R: Source, W: Sink, K: Sink>(
     source: &mut R,
     sink: &mut W,

@@ -8,7 +8,7 @@ ghost use Rattle.std.specs.Io.KnownBytes.{ReadConsumes, WriteAppends};
 
 use std::io;
 
-/// What an engine reads from. A source whose bytes are known answers 0 to a read with room only at
+/// What an engine reads from. A source whose bytes are known returns 0 for a read with room only at
 /// their end.
 pub trait Source {
     // The bytes that reads will give from here on, where they are known.
@@ -17,8 +17,8 @@ pub trait Source {
     // How many reads have failed.
     ghost failed: { Self → ℕ };
 
-    /// Reads some bytes into the front of `buf`, and tells how many. One that fails is counted, and
-    /// gives none.
+    /// Reads some bytes into the front of `buf`, and returns how many. One that fails is counted,
+    /// and gives none.
     fn read(&mut self, buf: &mut [u8]) -> io::Result<usize>
         requires countable { failed self.old < 2 ^ 64 - 1 }
         ensures bound { ReadsAtMost result buf.new }
@@ -40,11 +40,11 @@ pub trait Sink {
     // How many writes have failed.
     ghost failed: { Self → ℕ };
 
-    // The name of the reference to what it writes to, if it was lent that.
+    // The name of the reference to what it writes to, if it borrows that.
     ghost reference: { Self → Option GName };
 
-    /// Writes a front of `buf`, and tells how many bytes it has. A write that fails is counted, and
-    /// so is one that takes none of the bytes that there are.
+    /// Writes a front of `buf`, and returns how many bytes that has. A write that fails is counted,
+    /// and so is one that takes none of the bytes that there are.
     fn write(&mut self, buf: &[u8]) -> io::Result<usize>
         requires countable { failed self.old < 2 ^ 64 - 1 }
         ensures bound { WritesAtMost result buf.now }

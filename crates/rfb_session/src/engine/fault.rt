@@ -24,7 +24,7 @@ pub enum EngineFault {
     /// A reader or a writer has failed.
     #[error("29 Device")]
     Device,
-    /// There is no memory for an update. The server goes on to stand as it was.
+    /// There is no memory for an update. The server is as it was.
     #[error("30 NoMemory")]
     NoMemory,
 }

@@ -9,8 +9,8 @@ use crate::engine::failure::counted;
 use std::io;
 use std::io::Write;
 
-/// A writer that was lent, with a count of its failures. Of its bytes it tells what that one tells.
-/// Once it is let go, the writer is as the last write left it.
+/// A borrowed writer, with a count of its failures. What is known of its bytes is what the writer
+/// gives. Once this is dropped, the writer is as the last write left it.
 #[derive(Drop)]
 pub struct Lent<'a, W> {
     writer: &'a mut W,

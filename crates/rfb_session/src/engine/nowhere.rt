@@ -5,7 +5,7 @@ ghost use Rattle.std.specs.Prelude.{None};
 use crate::engine::device::Sink;
 use std::io;
 
-/// A sink that takes all bytes, and tells none of them.
+/// A sink that takes all bytes, and keeps none of them.
 #[derive(Drop)]
 pub struct Nowhere;
 

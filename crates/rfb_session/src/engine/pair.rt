@@ -6,8 +6,8 @@ use crate::engine::device::{Sink, Source};
 use crate::engine::wire::Wire;
 use std::io;
 
-/// A source and a sink that were lent, as one wire. A step of it is a call of one of them, by what
-/// that one tells.
+/// A borrowed source and a borrowed sink, as one wire. A step of it is a call of one of them, by
+/// that one's contract.
 #[derive(Drop)]
 pub struct Pair<'r, 'w, R, W> {
     pub source: &'r mut R,

@@ -48,7 +48,7 @@ pub fn ppm<W: Sink>(picture: &Picture<Colour>, sink: &mut W) -> Result<(), Devic
     send(waiting.as_slice(), sink)
 }
 
-// What stands before the places of a picture of that size.
+// What comes before the places of a picture of that size.
 fn header(width: u16, height: u16) -> Waiting
     ensures { result ≡ header_of width height }
 {
@@ -138,7 +138,7 @@ fn put_piece(bytes: &mut [u8], colours: &[Colour])
     *array = components_of(colours);
 }
 
-// The components of eight colours. Their bytes are written one by one, of which the compiler makes
+// The components of eight colours. Their bytes are written one by one: the compiler makes that into
 // shuffles of vectors.
 #[inline(always)]
 fn components_of(colours: &[Colour]) -> [u8; PIECE_BYTES]
@@ -168,7 +168,7 @@ fn bytes_of(colour: Colour) -> [u8; COLOUR_BYTES]
     [r1, r0, g1, g0, b1, b0]
 }
 
-// Bytes that wait for a write. An `ArrayVec` would write zeros over all that it lets go.
+// Bytes that wait for a write. An `ArrayVec` would write zeros over all that it removes.
 #[derive(Drop)]
 struct Waiting {
     bytes: [u8; ROOM],
@@ -228,7 +228,7 @@ impl Waiting {
         self.len = end;
     }
 
-    // Lets all bytes go.
+    // Removes all bytes.
     fn clear(&mut self)
         ensures { self.new ≡ [] }
     {

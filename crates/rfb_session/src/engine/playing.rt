@@ -19,10 +19,10 @@ use crate::engine::watcher::{Unwatched, Watcher};
 use feeding::{are_enough, feed_all};
 use rfb_viewer::Viewer;
 
-/// Feeds a fresh viewer what `source` gives, until it ends, and tells how many updates ended, as
-/// many as a `u64` has. What the viewer answers is dropped. It gives `Truncated` where the bytes
-/// end inside a message or the handshake, `Device` where a read fails, and the viewer's fault where
-/// that ends. After `Truncated` and `Device` the viewer stands as the bytes left it.
+/// Feeds a fresh viewer what `source` gives, until it ends, and returns how many updates ended, as
+/// many as a `u64` has. What the viewer answers is dropped. The errors are `Truncated` where the
+/// bytes end inside a message or the handshake, `Device` where a read fails, and the viewer's fault
+/// where it ends by one. After `Truncated` and `Device` the viewer is as the bytes left it.
 pub fn play<R: Source>(source: &mut R, viewer: &mut Viewer) -> Result<u64, EngineFault>
     requires countable { R.failed source.old < 2 ^ 64 - 1 }
     ensures played { IfOk result (λ updates. AllPlayed
@@ -43,8 +43,8 @@ pub fn play<R: Source>(source: &mut R, viewer: &mut Viewer) -> Result<u64, Engin
     play_watched(source, viewer, None, &mut Unwatched)
 }
 
-/// `play` that stops once `updates` updates ended, at least one, and returns their number then: it
-/// feeds no byte after the last of them. Where fewer end it is as `play`.
+/// `play` that stops once `updates` updates ended, at least one, and returns their number then. It
+/// feeds no byte after the last of them. Where fewer end it does as `play`.
 pub fn play_some<R: Source>(
     source: &mut R,
     viewer: &mut Viewer,
@@ -71,8 +71,8 @@ pub fn play_some<R: Source>(
 }
 
 /// `play` with somebody who watches; or `play_some`, where a number of updates is given. The
-/// watcher hears of every event that the viewer tells it of, before its next byte is fed, also of
-/// those before a fault.
+/// watcher hears of every event of the viewer's before the next byte is fed, also of those before a
+/// fault.
 pub fn play_watched<R: Source, A: Watcher>(
     source: &mut R,
     viewer: &mut Viewer,

@@ -8,8 +8,8 @@ use rfb_server::Server;
 
 /// Draws on a server's screen, each time that it has sent an update.
 pub trait Scene {
-    // What one drawing may be: as the scene stands, of a screen, which it makes that one, and how
-    // the scene stands then.
+    // What one drawing may be: how the scene is, a screen, the screen that it makes of it, and how
+    // the scene is then.
     ghost shows: { Showing Self };
 
     /// The next drawings and hints. Nothing else of the server changes but its screen's colours.

@@ -24,9 +24,8 @@ use crate::reply::server_reply;
 use rfb_server::Server;
 use std::alloc::Global;
 
-/// `serve` over a wire. It has written its greeting before it reads, and all that a read asks for
-/// before it reads again: the answers, and then the update. Only its last turn may stop before
-/// that.
+/// `serve` over a wire. It writes its greeting before it reads, and all that a read asks for before
+/// it reads again: the answers, and then the update. Only its last turn may stop before that.
 pub fn serve_over<W: Wire, S: Scene>(
     alloc: Global,
     wire: &mut W,
@@ -104,7 +103,7 @@ fn serve_all<W: Wire, S: Scene>(
     Ok(updates)
 }
 
-// Reads once, has the server hear that, and updates; and tells how many updates there were, one or
+// Reads once, feeds the server that, and composes. Returns how many updates there were, one or
 // none. All that this sends is written then. Where the wire has ended, the answer says so.
 fn turn<W: Wire, S: Scene>(
     part: &mut [u8; READ_SIZE],
@@ -157,7 +156,7 @@ fn hear<W: Wire>(bytes: &[u8], wire: &mut W, server: &mut Server) -> Result<(), 
     Ok(())
 }
 
-// Feeds a server what it takes of these bytes at once, answers, and tells how many that were.
+// Feeds a server what it takes of these bytes at once, answers, and returns how many that were.
 fn hear_some<W: Wire>(bytes: &[u8], wire: &mut W, server: &mut Server) -> Result<usize, EngineFault>
     requires countable { (W.known wire.old).failed_writes < 2 ^ 64 - 1 }
     requires some { 0 < length bytes.now }

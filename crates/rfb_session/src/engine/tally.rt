@@ -9,7 +9,8 @@ use crate::engine::failure::counted;
 use std::io;
 use std::io::{Read, Write};
 
-/// A reader or a writer that counts its failures. Of its bytes it tells what that one tells.
+/// A reader or a writer, with a count of its failures. What is known of its bytes is what that one
+/// gives.
 #[derive(Debug, Drop)]
 pub struct Tally<T> {
     inner: T,

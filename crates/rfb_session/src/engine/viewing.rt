@@ -24,7 +24,7 @@ use crate::loops::turns;
 use asking::answer;
 use rfb_viewer::Viewer;
 
-/// `view_recording` over a wire. It has written all that a read asks for before it reads again: the
+/// `view_recording` over a wire. It writes all that a read asks for before it reads again: the
 /// viewer's answers, and the requests that were due. Only its last turn may stop before that. A
 /// `kept` of `Nowhere` makes no recording.
 pub fn view_over<W: Wire, K: Sink>(
@@ -61,8 +61,8 @@ pub fn view_over<W: Wire, K: Sink>(
     view_watched(wire, kept, viewer, updates, &mut Unwatched)
 }
 
-/// `view_over` with somebody who watches. The watcher hears of every event that the viewer tells it
-/// of, before what is sent for it, also of those before a fault.
+/// `view_over` with somebody who watches. The watcher hears of every event of the viewer's before
+/// anything is sent for it, also of those before a fault.
 pub fn view_watched<W: Wire, K: Sink, A: Watcher>(
     wire: &mut W,
     kept: &mut K,
@@ -119,7 +119,7 @@ pub fn view_watched<W: Wire, K: Sink, A: Watcher>(
     Err(EngineFault::Truncated)
 }
 
-// Feeds a viewer these bytes, up to the end of the last update that is looked for, and tells how
+// Feeds a viewer these bytes, up to the end of the last update that is looked for, and returns how
 // many are looked for then.
 fn look<W: Wire, K: Sink, A: Watcher>(
     bytes: &[u8],
@@ -157,9 +157,9 @@ fn look<W: Wire, K: Sink, A: Watcher>(
     Ok(left)
 }
 
-// Feeds a viewer of these bytes what it takes at once, tells the watcher of it, keeps that, and
-// writes its answer, and the request that is due then. It returns how many bytes it took, and how
-// many updates are looked for.
+// Feeds a viewer of these bytes what it takes at once, reports it to the watcher and keeps it. Then
+// writes the viewer's answer, and the request that is due. Returns how many bytes were taken, and
+// how many updates are looked for.
 fn look_once<W: Wire, K: Sink, A: Watcher>(
     bytes: &[u8],
     wire: &mut W,

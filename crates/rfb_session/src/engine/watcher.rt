@@ -6,19 +6,18 @@ ghost use Rattle.rfb_session.specs.Watcher.{Greeted, Hears, Listening, Updated};
 
 use rfb_viewer::{Viewer, ViewerEvent};
 
-/// Hears how an engine's viewer goes, as soon as the viewer tells it: before an answer or a request
-/// is sent for it, and before the viewer is fed any more. It changes nothing of what the engine
-/// does.
+/// Hears how an engine's viewer goes, at once: before an answer or a request is sent for it, and
+/// before the viewer is fed any more. It changes nothing of what the engine does.
 pub trait Watcher {
     // What the watcher may become when it hears something.
     ghost steps: { Listening Self };
 
-    /// The handshake is done, once: of a screen with so many columns and rows, RFC 6143 section
-    /// 7.3.2, and with a name of which this much is kept.
+    /// The handshake is done, once. The screen has so many columns and rows, RFC 6143 section
+    /// 7.3.2, and this much of its name is kept.
     fn ready(&mut self, width: u16, height: u16, name: &[u8])
         ensures { steps self.old (Greeted width height name.now) self.new };
 
-    /// An update has ended, and the viewer stands like that.
+    /// An update has ended, and this is the viewer.
     fn updated(&mut self, viewer: &Viewer)
         ensures { steps self.old (Updated viewer.now) self.new };
 }
@@ -35,7 +34,7 @@ impl Watcher for Unwatched {
     fn updated(&mut self, _viewer: &Viewer) {}
 }
 
-// Tells a watcher what it hears of an event, after which the viewer stands like that.
+// Reports to a watcher what it hears of an event, with the viewer after that.
 pub(super) fn tell<A: Watcher>(event: &Option<ViewerEvent>, viewer: &Viewer, watcher: &mut A)
     ensures { Hears A.steps (seen event.now) viewer.now watcher.old watcher.new }
 {

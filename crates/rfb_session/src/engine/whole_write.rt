@@ -9,8 +9,8 @@ use crate::engine::device::Sink;
 use crate::engine::fault::Device;
 use crate::engine::wire::Wire;
 
-/// Writes all of these bytes. A short write is gone on with. Where a write fails, or takes none of
-/// them, a beginning of them was written, and it is not tried again.
+/// Writes all of these bytes. After a short write the rest is written. Where a write fails, or
+/// takes none of them, a beginning of them was written, and it is not tried again.
 pub fn send<W: Sink>(bytes: &[u8], sink: &mut W) -> Result<(), Device>
     requires countable { W.failed sink.old < 2 ^ 64 - 1 }
     ensures done { OnOk result

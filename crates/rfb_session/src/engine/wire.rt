@@ -6,16 +6,16 @@ ghost use Rattle.rfb_session.specs.Wire.{Known, ReadSteps, Stepping, Tells, Wire
 
 use std::io;
 
-/// What an engine reads from and writes to, as one. What it does comes step by step, each from how
-/// the step before it left the wire; so a contract can tell what was written before a read.
+/// What an engine reads from and writes to, as one. It goes step by step, each from how the step
+/// before left the wire. So a contract can say what was written before a read.
 pub trait Wire {
     // What is known of its bytes and its failures.
     ghost known: { Self → Known };
 
-    // What a step may be, as the wire tells its own.
+    // What a step may be, as each wire defines its own.
     ghost steps: { Stepping Self };
 
-    /// Reads some bytes into the front of `buf`, and tells how many; none are at the end. One that
+    /// Reads some bytes into the front of `buf`, and returns how many; at the end none. One that
     /// fails is counted, and gives none.
     fn read(&mut self, buf: &mut [u8]) -> io::Result<usize>
         requires some { 0 < length buf.old }
@@ -23,8 +23,8 @@ pub trait Wire {
         ensures bound { ReadsAtMost result buf.new }
         ensures stepped { ReadSteps steps self.old result buf.new self.new };
 
-    /// Writes a front of `buf`, and tells how many bytes it has. A write that fails is counted, and
-    /// so is one that takes none.
+    /// Writes a front of `buf`, and returns how many bytes that has. A write that fails is counted,
+    /// and so is one that takes none.
     fn write(&mut self, buf: &[u8]) -> io::Result<usize>
         requires some { 0 < length buf.now }
         requires countable { (known self.old).failed_writes < 2 ^ 64 - 1 }

@@ -14,11 +14,11 @@ impl Hub {
     ghost use Rattle.rfb_session.specs.Hub.{HubStands, is_shut};
     ghost use Rattle.rfb_session.specs.HubSteps.{DrawsHub};
 
-    /// Draws on the screen, once, and tells every session; or gives each a hint. It tells the
-    /// refusal of a drawing that leaves the screen, or has not one colour for each of its places:
-    /// then nothing changes. It takes no memory. A hub that is closed answers so again.
+    /// Draws on the screen, once, and notifies every session; or gives each a hint. Returns the
+    /// refusal of a drawing that leaves the screen, or has not one colour for each of its places;
+    /// then nothing changes. It takes no memory. A hub that is closed gives its error again.
     pub fn draw(&mut self, drawing: &Drawing<'_>) -> Result<HubTold, NoMemory>
-        // What becomes of the screen and of all slots, and of the networks that they stand for.
+        // What becomes of the screen, of all slots, and of their networks.
         ensures draws { IfOk result (λ told.
             DrawsHub self.old (stroke drawing.now) told self.new) }
         // Where its slots stood for networks over the screen, they do.

@@ -1,4 +1,4 @@
-//! Viewers that come to a hub and go, and bytes that none of them sent.
+//! Viewers that join and leave a hub, and bytes that none of them sent.
 
 ghost use Rattle.std.specs.Prelude.{◌≡◌, ◌≤◌, length, None, IfOk, IsOk};
 ghost use Rattle.rfb_session.specs.HubSlots.{TakesOrNot};
@@ -82,7 +82,7 @@ impl Hub {
     }
 }
 
-// They are in flight to the session of a seat, where there is one: it tells whether.
+// They are in flight to the session of a seat, if there is one. Returns whether there is.
 fn take_foreign(slot: &mut Option<HubSeat>, bytes: &[u8]) -> Result<bool, NoMemory>
     requires few { length bytes.now ≤ 1048576 }
     ensures taken { IfOk result (λ taken. TakesOrNot taken bytes.now slot.old slot.new) }

@@ -44,7 +44,7 @@ impl Hub {
     }
 }
 
-// What an event of the slot is, happens there, where there is a seat.
+// Makes an event of the slot happen, where there is a seat.
 fn happen_in(
     slot: &mut Option<HubSeat>,
     event: &SlotEvent,

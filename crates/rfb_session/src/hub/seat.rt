@@ -56,8 +56,8 @@ impl HubSeat {
         Ok(())
     }
 
-    /// What an event of the slot is, happens, over the screen. It tells beside whether the client
-    /// asked for the screen alone.
+    /// Makes an event of the slot happen, over the screen. Returns beside whether the client asked
+    /// for the screen alone.
     pub(crate) fn happen(
         &mut self,
         event: &SlotEvent,

@@ -1,4 +1,4 @@
-//! Words of a line that stand for a value.
+//! Words of a line that mean a value.
 
 ghost use Rattle.std.specs.Prelude.{◌≡◌, ◌≢◌, ◌<◌, ◌↔◌, ◌∷◌, ◌+◌, ◌*◌, [], ℕ, Ok, IfSome, IsSome};
 ghost use Rattle.std.specs.Prelude.{List, MatchOption, length};
@@ -155,7 +155,7 @@ pub fn read_encoding(word: &[u8]) -> Option<Encoding>
     None
 }
 
-/// One to four encodings. One that comes again is kept as it stands.
+/// One to four encodings. One that is named twice is kept twice.
 pub fn read_encodings(words: &[&[u8]]) -> Option<ArrayVec<Encoding, 4>>
     ensures { MatchOption result
         ((encodings : List Encoding) → ¬ (AreEncodings (texts words.now) encodings))

@@ -33,9 +33,11 @@ ghost use Rattle.rfb_session.specs.relay.Presence.{is_gone};
 ghost use Rattle.rfb_session.specs.relay.Server.{Begins};
 
 /// A relay asks its server for the whole screen: when the handshake of its viewer is done, and
-/// where a viewer of its own waits. So whatever it does on its first hop goes for all: its viewer
-/// and its share take the server's bytes, a share opens or gets another server's picture, it asks,
-/// and it sends a message that changes nothing of its viewer.
+/// where a viewer of its own waits. So whatever it does on its first hop goes for all:
+///
+/// - Its viewer and its share take the server's bytes.
+/// - A share opens, or gets another server's picture.
+/// - It asks, or it sends a message that changes nothing of its viewer.
 pub fn what_a_relay_asks_goes_for_all<S: Drop>()
     ensures fed { (e : Ends) (old new : Viewer) (bytes : List ℕ) (event : Option ViewerTold)
         (has to_server to_viewer later : List ℕ) (n : Network) → AreMade e →

@@ -1,4 +1,4 @@
-//! Laws of two hops, with nothing to run: what a viewer behind a relay comes to show of a server.
+//! Laws of two hops, with nothing to run: what a viewer behind a relay shows of a server.
 
 ghost use Rattle.std.specs.Prelude.{◌≡◌, ◌≢◌, ℕ, Bool, false, List, [], ◌∷◌, ◌++◌, take};
 ghost use Rattle.std.specs.Prelude.{Option, Some, None, Result, Ok};
@@ -38,11 +38,11 @@ ghost use Rattle.rfb_session.specs.ShareMirrors.{FeedsOn, FailsOn, MakesOn, Show
 ghost use Rattle.rfb_session.specs.ShareViewers.{IsWatchedBy, GoesOn, StaysWatched, fresh_over};
 ghost use Rattle.rfb_session.specs.ShareViewers.{Requests, plain_message};
 
-/// Whatever happens on both hops, each of them has the theorem of a server and its viewer. The
-/// relay's screen, where its viewer stands between two messages, is the server's at a composing of
-/// the server's, through the relay's format. What a viewer behind it shows over the area of its
-/// latest update is the relay's screen at that composing, through its own format; so it shows the
-/// server's screen through both.
+/// Whatever happens on both hops, the theorem of a server and its viewer holds of each. Where the
+/// relay's viewer is between two messages, the relay's screen is the server's at a composing of the
+/// server's, through the relay's format. What a viewer behind it shows over the area of its latest
+/// update is the relay's screen at that composing, through its own format. So it shows the server's
+/// screen through both.
 pub fn a_viewer_behind_a_relay_shows_the_servers_screen()
     ensures above { (e f : Ends) (m : Moment) (earlier : List Moment) →
         IsRun e f (m ∷ earlier) → IsHeadline e m.above.link }
@@ -56,9 +56,9 @@ pub fn a_viewer_behind_a_relay_shows_the_servers_screen()
         Once (m ∷ earlier) (λ at before. IsPassedOn c (due_picture f l) at before) }
 {}
 
-/// A relay asks for its whole screen each time. From a fresh link on each update of its server's
-/// then answers all of it. So the relay shows the server's whole screen, and what its viewer shows
-/// of that is the server's, wherever its own update answered.
+/// A relay asks for its whole screen each time. Then each update of its server's answers all of it,
+/// from a fresh link on. So the relay shows the server's whole screen. What its viewer shows of
+/// that is the server's, wherever the viewer's own update answered.
 pub fn a_relay_that_asks_for_all_shows_all()
     ensures first { (e : Ends) → HasAskedAll e (first_link e) }
     ensures goes { (e : Ends) (old new : Network) → IsReached e old → GoesForAll e old new →
@@ -73,9 +73,10 @@ pub fn a_relay_that_asks_for_all_shows_all()
         Once (m ∷ earlier) (λ at before. IsAllPassedOn c (due_picture f l) at before) }
 {}
 
-/// A seat of a relay's share goes on as a link does, whatever its server sends: at bytes of the
-/// server's its screen is drawn over by the picture that they lead to, also at a fault of the
-/// server's, and by that of another viewer of a server. A call of the server's viewer leaves it.
+/// A seat of a relay's share goes on as a link does, whatever its server sends. Bytes of the
+/// server's draw the picture that they lead to over its screen, also where they end in a fault. So
+/// does the picture of another viewer of a server. A call of the server's viewer leaves the seat as
+/// it was.
 pub fn a_seat_goes_on_as_a_picture_does()
     ensures fed { (e : Ends) (old new : Share) (bytes : List ℕ) (told : Fed ViewerEvent) (k : ℕ)
         (viewer : Viewer) (to_server on_way : List ℕ) (n : Network) → FeedsOn old bytes told new →
@@ -93,7 +94,7 @@ pub fn a_seat_goes_on_as_a_picture_does()
 
 /// A fresh viewer and a fresh server stand for a fresh link, once the server has greeted. Bytes of
 /// the server's and a request of the viewer's go on as the link does. When the end of an update is
-/// reported a share of that viewer's picture opens, or the viewer takes the place of another's in
+/// reported, a share of that viewer's picture opens. Or the viewer takes the place of another's in
 /// a share whose seats stay.
 pub fn a_relay_meets_its_server()
     ensures first { (e : Ends) (screen : Grid Colour) (viewer : Viewer) →
@@ -127,10 +128,10 @@ pub fn a_relay_meets_its_server()
         RenewsAs e f m n new has to_server later k viewer sends gets }
 {}
 
-/// A share of a server's picture goes on moment by moment on the first hop: the server does
-/// something, whatever it is, as the seat of another share does; bytes of the server's reach the
-/// share; and its viewer requests an update, or sends a message that changes nothing of it. It
-/// refuses no byte of such a server.
+/// A share of a server's picture goes on moment by moment on the first hop. The server, which may
+/// be a seat of another share, does whatever it does. Bytes of the server's reach the share. Its
+/// viewer requests an update, or sends a message that changes nothing of it. It refuses no byte of
+/// such a server.
 pub fn a_relay_goes_on_with_its_server()
     ensures above { (e f : Ends) (share : Share) (viewer : Viewer)
         (had to_server to_viewer has sends gets : List ℕ) (m : Moment) (n : Network) →
@@ -170,8 +171,8 @@ pub fn a_relay_goes_on_with_its_server()
         k viewer sends gets }
 {}
 
-/// And on the second hop: a viewer comes to a seat of the share, and whatever is one thing between
-/// the two goes on there. What is done at another seat is not seen there, nor by the server.
+/// And on the second hop: a viewer takes a seat of the share. What happens between the two goes on
+/// there, one thing at a time. What is done at another seat is not seen there, nor by the server.
 pub fn a_relay_goes_on_with_its_viewers()
     ensures came { (e f : Ends) (old new : Share) (has to_server to_viewer : List ℕ) (k : ℕ)
         (viewer : Viewer) (m : Moment) → ShowsSame old new →

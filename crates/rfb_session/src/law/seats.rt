@@ -1,4 +1,4 @@
-//! Laws of a share's seats: what they come to by all calls, with nothing to run.
+//! Laws of a share's seats: what becomes of them by all calls, with nothing to run.
 
 ghost use Rattle.std.specs.Prelude.{◌≡◌, ◌≢◌, ℕ, List, [], ◌++◌, take, Option, Some, Result};
 ghost use Rattle.rfb_hello.specs.declared.fed.Fed.{Fed};
@@ -25,8 +25,8 @@ ghost use Rattle.rfb_session.specs.Slots.{OnSlot};
 
 /// A seat that a viewer takes begins its life: nothing was received there, nothing written. A call
 /// of the share's carries that on. So at any time its session stands for what the bytes received
-/// there lead to, over the screen that the drawings lead to. What was written and what waits are its
-/// greeting, its answers and its updates, in order, no byte lost and none twice.
+/// there lead to, over the screen that the drawings lead to. What was written and what waits are
+/// its greeting, its answers and its updates, in order, no byte lost and none twice.
 pub fn a_seat_lives_as_its_calls_say()
     ensures joined { (old new : Share) (joined : Option ℕ) (k : ℕ) →
         JoinsAs old joined new → joined ≡ Some k → LivesAt (serving_in old) new k [] [] }
@@ -62,7 +62,7 @@ pub fn a_seat_that_is_left_alone_lives_on()
 {}
 
 /// So does a seat of a share whose screen is the picture of a server's viewer, whatever the server
-/// sends, and also where it fails: the pictures that it leads to are the screens.
+/// sends, also where it fails. The pictures that this leads to are the screens.
 pub fn a_seat_lives_on_as_a_picture_changes()
     ensures fed { (serving : Serving) (old new : Share) (bytes : List ℕ) (told : Fed ViewerEvent)
         (k : ℕ) (heard taken : List ℕ) → FeedsOn old bytes told new →
@@ -79,8 +79,8 @@ pub fn a_seat_lives_on_as_a_picture_changes()
         LivesAt serving old k heard taken → LivesAt serving new k heard taken }
 {}
 
-/// A fault of the server's changes no seat's session: nobody comes or leaves, what each session
-/// stands for and what waits is as it was, and each follows the picture that the server left.
+/// A fault of the server's changes no seat's session. Nobody comes or leaves, each session's state
+/// and what waits are as they were, and each follows the picture that the server left.
 pub fn a_fault_of_the_server_changes_no_session()
     ensures { (old new : Share) (bytes : List ℕ) (fault : ViewerFault) (k : ℕ) →
         FailsOn old bytes fault new → OnSlot (λ a b. KeepsShareSeat a b

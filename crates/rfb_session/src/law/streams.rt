@@ -23,8 +23,8 @@ pub fn items_are_counted_in_bytes<P, I, F>()
         g.next p [] ≡ Got i rest → ⊥ }
 {}
 
-/// Items are read one after another: bytes that come later stand after what was left, and further
-/// items are read from what those before them left, at the point that they lead to.
+/// Items are read one after another. Bytes that come later follow what was left. Further items are
+/// read from what those before them left, at the point that they lead to.
 pub fn items_are_read_one_after_another<P, I, F>()
     ensures later { (g : Grammar P I F) (p : P) (bytes tail : List ℕ) (items : List I)
         (rest : List ℕ) → IsGrammar g → ReadsAll g p bytes items rest →

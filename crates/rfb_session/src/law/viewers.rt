@@ -1,5 +1,5 @@
-//! Laws of a share's seat whose viewer is this project's, with nothing to run: what it comes to
-//! show, whatever is drawn and whatever other viewers do.
+//! Laws of a share's seat whose viewer is this project's, with nothing to run: what it shows,
+//! whatever is drawn and whatever other viewers do.
 
 ghost use Rattle.std.specs.Prelude.{◌≡◌, ◌≢◌, ℕ, Bool, false, nat_eq, List, [], ◌++◌, take};
 ghost use Rattle.std.specs.Prelude.{Option, Some, None};
@@ -38,8 +38,8 @@ ghost use Rattle.rfb_session.specs.ShareViewers.{Requests, AsksFormat, MaySend, 
 
 /// A fresh viewer at a seat that was just taken, and the bytes between the two, stand for a fresh
 /// link over the share's screen. Each call of the share's goes on as a link does: a drawing, bytes
-/// of the viewer's that are received there, bytes that are written, a composing, also one for which
-/// memory is wanting. And where nothing but the viewer's own bytes reaches the seat, its session
+/// of the viewer's that are received there, bytes that are written, and a composing, even if memory
+/// is wanting for it. Where nothing but the viewer's own bytes reaches the seat, its session
 /// refuses none of them.
 pub fn a_seat_goes_on_as_a_link()
     ensures joined { (e : Ends) (old new : Share) (joined : Option ℕ) (k : ℕ) (viewer : Viewer) →
@@ -68,9 +68,9 @@ pub fn a_seat_goes_on_as_a_link()
     ensures wanted { (old new : Share) (k : ℕ) → WantsRoomAs old k new → StaysWatched old k new }
 {}
 
-/// A call of another seat leaves such a seat and its viewer what they were: that a viewer joins
-/// there or leaves, bytes that are received there, taken or refused, bytes that are written, a
-/// composing. But a viewer that asks for the screen alone empties it, and it is reported then.
+/// A call of another seat leaves such a seat and its viewer as they were: a viewer that joins there
+/// or leaves, bytes that are received there, taken or refused, bytes that are written, a composing.
+/// But a viewer that asks for the screen alone empties it, and it is reported then.
 pub fn a_seat_goes_on_beside_others()
     ensures joined { (old new : Share) (joined : Option ℕ) (k : ℕ) → JoinsAs old joined new →
         StaysWatched old k new }
@@ -89,8 +89,8 @@ pub fn a_seat_goes_on_beside_others()
         WantsRoomAs old j new → StaysWatched old k new }
 {}
 
-/// Each call of the viewer's that is not refused goes on as a link does too, a request, a format,
-/// and what changes nothing of it; and so do bytes that reach it.
+/// Each call of the viewer's that is not refused goes on as a link does, too: a request, a format,
+/// and what changes nothing of it. So do bytes that reach it.
 pub fn a_viewer_of_a_seat_goes_on_as_a_link()
     ensures shown { (e : Ends) (share : Share) (k : ℕ) (old new : Viewer) (bytes later : List ℕ)
         (event : Option ViewerTold) (to_server on_way : List ℕ) (n : Network) → AreMade e →

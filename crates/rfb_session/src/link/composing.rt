@@ -16,9 +16,9 @@ impl Link {
     ghost use Rattle.rfb_session.specs.LinkBytes.{ComposesOver, SpendsHints};
     ghost use Rattle.rfb_session.specs.Told.{TellsAlone};
 
-    /// The session composes an update of the screen, which it is lent and has to follow, if one is
-    /// due, and it is in flight then. What it was composed of is noted. A session that has failed
-    /// composes none. Memory can be wanting for the update.
+    /// The session composes an update, if one is due, and it is in flight then. It borrows the
+    /// screen, and has to follow it. What the update was composed of is noted. A session that has
+    /// failed composes none. Memory can be wanting for the update.
     pub fn compose(&mut self, screen: &Picture<Colour>) -> Result<Told, NoMemory>
         requires follows { Follows screen.now (session_of_link self.old) }
         ensures bytes { IfOk result (λ told. ComposesOver screen.now self.old told self.new) }

@@ -45,7 +45,7 @@ impl Link {
         Ok(delivery.told)
     }
 
-    /// The same, and tells whether the client asked for the screen alone among the bytes.
+    /// The same, and says whether the client asked for the screen alone among the bytes.
     pub fn deliver_to_session(&mut self, count: u32) -> Result<Delivery, NoMemory>
         ensures arrives { IfOk result (λ delivery.
             Arrives self.old (ToServer count) delivery.told self.new) }
@@ -130,7 +130,7 @@ impl Link {
         }
     }
 
-    // `count` bytes reach the session, of those in flight to it. It tells whether the client asked
+    // `count` bytes reach the session, of those in flight to it. Returns whether the client asked
     // for the screen alone among them.
     fn deliver_to_server(&mut self, count: usize) -> Result<bool, NoMemory>
         requires { count ≤ length self.old.to_server }
@@ -194,7 +194,7 @@ fn either(one: bool, other: bool) -> bool
     one || other
 }
 
-/// Whether a client of which this is reported asks for the screen alone: its ClientInit has
+/// Whether a session reports by this that its client asks for the screen alone: its ClientInit has
 /// shared-flag 0.
 pub(crate) fn asks_sole(event: &Option<ServerEvent>) -> bool
     ensures { IsSole result (sole_told (seen event.now)) }

@@ -1,4 +1,4 @@
-//! The head of a pixmap: what stands before its pixels.
+//! The head of a pixmap: what comes before its pixels.
 
 ghost use Rattle.std.specs.Prelude.{◌≡◌, ◌≤◌, List, ℕ, MatchOption, MatchResult};
 ghost use Rattle.rfb_session.specs.netpbm.Head.{BlankNext, HasHeadFlaw, HasLateFlaw, IsHead};

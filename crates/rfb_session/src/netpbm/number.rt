@@ -8,7 +8,7 @@ ghost use Rattle.rfb_session.specs.netpbm.Gaps.{FirstDigits, after_gap};
 // A number that is larger is as good as this one: both are too large.
 const TOO_LARGE: u32 = 65_536;
 
-/// The digits of the number that stands next, at least one and all of them, and what follows. It is
+/// The digits of the number that comes next, at least one and all of them, and what follows. It is
 /// `None` where none does.
 pub fn next_number(bytes: &[u8]) -> Option<(&[u8], &[u8])>
     ensures { MatchOption result (NoNumberNext bytes.now)

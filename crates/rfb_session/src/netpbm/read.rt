@@ -19,8 +19,8 @@ use std::io::Read;
 const FRONT: usize = 8192;
 
 /// Reads the picture that all of `input` spells. It takes memory for its places, once the size is
-/// judged, and for no more. Where it spells none, the first thing that is wrong is reported; what
-/// follows that is not read, but for what a piece of some 8,192 bytes has.
+/// judged, and for no more. Where it spells none, the first thing that is wrong is reported. What
+/// follows that is not read, but for the rest of a piece of some 8,192 bytes.
 pub fn read_ppm<R: Read>(alloc: Global, input: &mut R) -> Result<Pixmap, PixmapError>
     ensures read { IfOk result (λ pixmap. SpellsKnown (R.remaining input.old) (picture_of pixmap)) }
     ensures refused { IfErr result (FailsToSpell (R.remaining input.old)) }

@@ -28,7 +28,7 @@ pub const QUIT: &[u8] = b"quit";
 
 const MINUS: u8 = b'-';
 
-/// What a line without its newline says. It is `None` where the line is bad wherever it stands.
+/// What a line without its newline says. It is `None` where the line is bad at any place.
 pub fn read_owner_line(line: &[u8]) -> Option<OwnerLine>
     ensures { MatchOption result (SaysNoOwner (words_of line.now)) (SaysOwner (words_of line.now)) }
 {

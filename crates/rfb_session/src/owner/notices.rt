@@ -26,7 +26,7 @@ pub fn tell_join<W: Write>(output: &mut W, seat: u8) -> io::Result<()>
     Ok(())
 }
 
-/// It went, or was let go, with nothing wrong.
+/// It went, or was disconnected, with nothing wrong.
 pub fn tell_leave<W: Write>(output: &mut W, seat: u8) -> io::Result<()>
     ensures { OnOk result
         (Appends (W.contents output.old) (W.contents output.new) (leave_line seat)) }
@@ -35,7 +35,7 @@ pub fn tell_leave<W: Write>(output: &mut W, seat: u8) -> io::Result<()>
     Ok(())
 }
 
-/// It was let go for a fault.
+/// It was disconnected for a fault.
 pub fn tell_fault<W: Write, F: Display>(output: &mut W, seat: u8, fault: &F) -> io::Result<()> {
     writeln!(output, "leave {seat} fault {fault}")?;
     Ok(())
@@ -78,7 +78,7 @@ fn tell_text<W: Write>(output: &mut W, seat: u8, text: &[u8]) -> io::Result<()>
     Ok(())
 }
 
-/// The hexadecimal digits of a text, of which 1,024 bytes are printed at most.
+/// The hexadecimal digits of a text, of its first 1,024 bytes at most.
 pub(crate) fn tell_text_hex<W: Write>(output: &mut W, text: &[u8]) -> io::Result<()>
     ensures { OnOk result (Appends (W.contents output.old) (W.contents output.new)
         (encode_lower (take 1024 text.now))) }

@@ -19,7 +19,7 @@ pub enum OwnerLine {
     Scroll(Rect, i16, i16),
     /// The colours of a rectangle follow, three bytes for each place, and a newline.
     Pixels(Rect),
-    /// The viewer of a seat is let go.
+    /// The viewer of a seat is disconnected.
     End(u8),
     /// What is drawn from here on is not shown yet.
     Hold,
@@ -32,7 +32,7 @@ pub enum OwnerLine {
 /// Why what was read is not done.
 #[derive(Clone, Copy)]
 pub enum Refusal {
-    /// It says nothing that may stand there.
+    /// It says nothing that may come there.
     Bad,
     /// There is no memory for its pixels.
     NoMemory,

@@ -35,7 +35,7 @@ pub struct OwnerReader {
 pub struct Taken {
     /// How many of them were taken.
     pub used: usize,
-    /// What the line says whose newline is the last of these, if one is.
+    /// What the line says, if its newline is the last of these.
     pub order: Option<Order>,
 }
 
@@ -51,8 +51,8 @@ impl OwnerReader {
         }
     }
 
-    /// Takes some of these bytes, up to the newline that ends what is being read or fewer, and
-    /// gives what was read if they end so. A reader that gave it begins anew.
+    /// Takes some of these bytes: up to the newline that ends what is being read, or fewer. Gives
+    /// what was read if they end with that newline. Then the reader begins anew.
     pub fn feed(&mut self, bytes: &[u8]) -> Taken
         requires some { 0 < length bytes.now }
         ensures used { (0 < result.used) × (result.used ≤ length bytes.now) }
@@ -103,7 +103,7 @@ impl OwnerReader {
         }
     }
 
-    // A line that says the screen's size stands first, and once.
+    // A line that says the screen's size comes first, and once.
     fn placed(&mut self, line: OwnerLine) -> Order
         ensures { Places self.old line result self.new }
     {

@@ -14,7 +14,7 @@ pub const LINE_MAX: usize = 96;
 /// How far the bytes have come, from the end of what was read last on.
 #[derive(Drop)]
 pub enum Stage {
-    /// In a line, of which these have come.
+    /// In a line. These bytes of it have come.
     Line(ArrayVec<u8, LINE_MAX>),
     /// After a line of pixels, in their bytes or at their end.
     Pixels(Pixels),

@@ -18,7 +18,8 @@ impl<S: Speaker + Drop> Relay<S> {
         self.console.outcome.is_none() && self.presence.is_called()
     }
 
-    /// Where the server went away and is to be called again, the turn is wanted in which it is.
+    /// Where the server went away and is to be called again, the turn in which it is called is
+    /// wanted.
     pub(crate) fn plan_call(&mut self, now: u64)
         ensures plans { PlansCall self.old now self.new }
         ensures given { self.new.given ≡ self.old.given }

@@ -16,7 +16,7 @@ use crate::slots::SLOTS;
 // How many bytes of the server's are taken in one turn.
 const ROOM_OF_SERVER: usize = 1 << 16;
 
-// Where so many bytes wait for the server of what a viewer did, it is not read.
+// Where so many bytes of what a viewer did wait for the server, it is not read.
 const PASSED_MOST: usize = 4096;
 
 impl<S: Speaker + Drop> Core for Relay<S> {
@@ -83,8 +83,8 @@ impl<S: Speaker + Drop> Core for Relay<S> {
     }
 
     fn turned(&mut self, now: u64) -> Option<u64> {
-        // Who asked for the whole screen waits no more after the desk's turn, and who is told of an
-        // update asks for the next one: both are seen before it.
+        // A viewer that asked for the whole screen waits no more after the desk's turn. One that
+        // got an update asks for the next. So the server is asked before the turn, too.
         self.ask();
         self.console.turn_desk(now);
         self.ask();
@@ -127,7 +127,7 @@ impl<S: Speaker + Drop> Relay<S> {
         self.console.open_room(SERVER, room);
     }
 
-    // Where much waits for the server of what a viewer did, it is not read.
+    // Where much of what a viewer did waits for the server, it is not read.
     fn spare_seats(&mut self)
         ensures spares { SparesUpTo 8 self.old self.new }
         ensures given { self.new.given ≡ self.old.given }

@@ -157,7 +157,7 @@ impl<S: Speaker + Drop> Relay<S> {
         }
     }
 
-    // Tells a bell and a text, which are not passed on.
+    // Reports a bell and a text, which are not passed on.
     fn heed(&mut self, event: Option<ViewerEvent>)
         ensures heeds { Heeds self.old event self.new }
         ensures given { self.new.given ≡ self.old.given }
@@ -185,7 +185,7 @@ impl<S: Speaker + Drop> Relay<S> {
     }
 }
 
-/// Whether sessions can be of a screen of this size, and a rig's lines name each of its places.
+/// Whether sessions can have a screen of this size, and a rig's lines can name each of its places.
 pub(crate) fn is_shown_size(width: u16, height: u16) -> bool
     ensures { result ≡ is_shown_size width height }
 {

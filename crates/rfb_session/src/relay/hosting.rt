@@ -1,4 +1,4 @@
-//! Who comes to a relay.
+//! A relay as a host: who is let in, and where.
 
 ghost use Rattle.std.specs.Prelude.{◌≡◌};
 ghost use Rattle.rfb_session.specs.console.Console.{is_welcome};

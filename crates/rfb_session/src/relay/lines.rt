@@ -1,4 +1,4 @@
-//! Lines that tell what the server of a relay does.
+//! Lines that report what the server of a relay does.
 
 ghost use Rattle.std.specs.Prelude.{◌≡◌, ◌++◌, List, ℕ, OnOk};
 ghost use Rattle.rfb_session.specs.relay.ServerLines.{bell_line, server_text_line, up_line};
@@ -51,7 +51,7 @@ pub(crate) fn tell_bell(lines: &mut Vec<u8>) -> io::Result<()>
     writeln!(lines, "server bell")
 }
 
-/// It cut a text, section 7.6.4, of which 1,024 bytes are printed at most.
+/// It cut a text, section 7.6.4. Of that 1,024 bytes are printed at most.
 pub(crate) fn tell_server_text(lines: &mut Vec<u8>, text: &[u8]) -> io::Result<()>
     ensures { OnOk result (lines.new.items ≡ lines.old.items ++ server_text_line text.now) }
 {

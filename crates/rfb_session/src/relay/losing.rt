@@ -12,7 +12,7 @@ use crate::relay::{Gone, Relay};
 use crate::slots::{SLOTS, empty};
 
 impl<S: Speaker + Drop> Relay<S> {
-    /// The server has gone away, and all ends, unless it is called again. A sentence tells it once,
+    /// The server has gone away, and all ends, unless it is called again. A sentence says so once,
     /// and a line if its picture was shown. What waits for it is forgotten. The sessions of the
     /// seats are as they were.
     pub(crate) fn lose_server(&mut self, gone: Gone)
@@ -48,7 +48,7 @@ impl<S: Speaker + Drop> Relay<S> {
         }
     }
 
-    // A line tells that it has gone, where its picture was shown. What was held back is shown.
+    // A line says that it has gone, where its picture was shown. What was held back is shown.
     fn tell_gone(&mut self, was_shown: bool, gone: Gone)
         ensures tells { TellsGone was_shown self.old gone self.new }
         ensures given { self.new.given ≡ self.old.given }

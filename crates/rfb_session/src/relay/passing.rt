@@ -84,7 +84,7 @@ impl<S: Speaker + Drop> Relay<S> {
         };
         match desk.call_server(call, &mut self.to_server) {
             Ok(()) => {}
-            // A server's viewer that has failed tells nothing.
+            // A server's viewer that has failed sends nothing.
             Err(AppendFault::Refused(_)) => {}
             Err(AppendFault::NoMemory) => self.console.outcome = Some(Outcome::NoMemory),
         }

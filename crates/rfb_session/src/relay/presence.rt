@@ -1,4 +1,4 @@
-//! How a relay stands with its server.
+//! Whether the server of a relay is there.
 
 ghost use Rattle.std.specs.Prelude.{◌≡◌};
 
@@ -18,7 +18,7 @@ pub(crate) enum Presence {
 /// When a server that went away is called again, if that is wanted.
 #[derive(Clone, Copy, Debug, PartialEq, Eq)]
 pub(crate) enum Recall {
-    /// No turn has told the time since it went.
+    /// No turn has given the time since it went.
     Unplanned,
     /// At this time.
     At(u64),
@@ -60,7 +60,7 @@ impl Presence {
         }
     }
 
-    /// When it is to be called, if a turn has told the time since it went. The time may have come.
+    /// When it is to be called, if a turn has given the time since it went. It may have come.
     pub(crate) fn call_time(&self) -> Option<u64>
         ensures { result ≡ call_time self.now }
     {

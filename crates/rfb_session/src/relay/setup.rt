@@ -15,8 +15,8 @@ use std::alloc::Global;
 /// What a relay is made with.
 #[derive(Drop)]
 pub struct RelaySetup<'a> {
-    /// The name that viewers get, of which they get 255 bytes at most. Where there is none they get
-    /// the server's.
+    /// The name that viewers get, its first 255 bytes at most. Where there is none they get the
+    /// server's.
     pub name: Option<&'a [u8]>,
     /// The rules that it goes by. `hold` is how long an update of the server's may take before
     /// what has come of it is shown, and `retry` the pause before a server that went away is
@@ -38,7 +38,7 @@ pub(crate) struct Given {
 impl Given {
     ghost use Rattle.rfb_session.specs.relay.Setup.{name_by, viewing_by};
 
-    /// A name of which 255 bytes are kept, and what viewers are made with.
+    /// The first 255 bytes of a name, and what viewers are made with.
     pub(crate) fn of(name: Option<&[u8]>, viewer: ViewerSetup) -> Given
         ensures { result.viewer ≡ viewer }
     {
@@ -49,7 +49,7 @@ impl Given {
         }
     }
 
-    /// The name that viewers get: what was given, or what the server told.
+    /// The name that viewers get: the one that was given, or the server's.
     pub(crate) fn name<'x>(&'x self, told: &'x [u8]) -> &'x [u8]
         requires told { length told.now ≤ 255 }
         ensures value { result.now ≡ name_by self.now told.now }

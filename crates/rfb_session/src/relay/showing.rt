@@ -16,7 +16,7 @@ use rfb_viewer::Viewer;
 
 impl<S: Speaker + Drop> Relay<S> {
     /// Its picture is shown. If it is the first, viewers may come. Else it takes the place of the
-    /// one that was shown; where its screen has another size, they are let go.
+    /// one that was shown; if its screen has another size, they are disconnected.
     pub(crate) fn open(&mut self, viewer: Viewer)
         requires stands { ∥ StandsOrFailed viewer ∥₁ }
         ensures opens { Opens self.old viewer self.new }
@@ -57,8 +57,8 @@ impl<S: Speaker + Drop> Relay<S> {
         }
     }
 
-    // Its screen has another size than the one that was shown: the viewers are let go, and others
-    // may come.
+    // Its screen has another size than the one that was shown: the viewers are disconnected, and
+    // others may come.
     fn open_anew(&mut self, viewer: Viewer)
         requires stands { ∥ StandsOrFailed viewer ∥₁ }
         requires some { self.old.console.desk ≢ None }
@@ -92,7 +92,7 @@ impl<S: Speaker + Drop> Relay<S> {
         }
     }
 
-    // Sentences tell why the viewers are let go.
+    // Sentences say why the viewers are disconnected.
     fn note_new_size(&mut self, share: &Share)
         ensures notes { KeepsButNotes self.old.console self.new.console }
         ensures server { KeepsServer self.old self.new }

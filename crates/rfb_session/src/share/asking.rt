@@ -11,8 +11,8 @@ impl Share {
     ghost use Rattle.rfb_session.specs.ShareWaiters.{SomeAsked};
 
     /// Whether some viewer waits for an update: its handshake is done, it has not failed, and asked
-    /// for a place since its latest update, RFC 6143 section 7.5.3. It asks each seat in turn, up
-    /// to the first of which it is so.
+    /// for a place since its latest update, RFC 6143 section 7.5.3. It looks at each seat in turn,
+    /// up to the first of such a viewer.
     pub fn is_asked(&self) -> bool
         ensures { IsTrue result ↔ SomeAsked self.now }
     {

@@ -17,9 +17,9 @@ impl Share {
     ghost use Rattle.rfb_session.specs.ShareSteps.{DrawsOn};
 
     /// Draws on the screen, once, and marks where in each session; or gives each session a hint. A
-    /// drawing that leaves the screen is refused, and one that has not one colour for each of its
-    /// places, and each where the screen is a viewer's picture; then nothing changes. It takes no
-    /// memory, and no bytes come to wait.
+    /// drawing is refused where it leaves the screen, where it has not one colour for each of its
+    /// places, and where the screen is a viewer's picture. Then nothing changes. It takes no
+    /// memory, and adds no bytes to those that wait.
     pub fn draw(&mut self, drawing: &Drawing<'_>) -> Result<(), Outside>
         ensures refused { IsErr result
             ↔ (IsOnCanvas (canvas_of self.old) (stroke drawing.now) → ⊥) }

@@ -1,4 +1,4 @@
-//! What the calls of a share tell.
+//! What the calls of a share report.
 
 ghost use Rattle.std.specs.Prelude.{◌≡◌, true, false};
 ghost use Rattle.rfb_session.specs.ShareSlots.{fault_of_late};

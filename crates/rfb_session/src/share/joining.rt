@@ -1,4 +1,4 @@
-//! Viewers that come to a share and go.
+//! Viewers that join and leave a share.
 
 ghost use Rattle.std.specs.Prelude.{◌≡◌, IfOk, IsOk, OnErr, Ok, None};
 
@@ -48,7 +48,7 @@ impl Share {
         Ok(ShareSeat::new(self.alloc, session))
     }
 
-    /// The viewer of a seat goes, and with it its session and what waited. It tells whether there
+    /// The viewer of a seat goes, and with it its session and what waited. Returns whether there
     /// was one.
     pub fn left(&mut self, seat: Seat) -> bool
         ensures { LeavesAs self.old seat result self.new }

@@ -15,8 +15,8 @@ use crate::slots::SLOTS;
 impl Share {
     ghost use Rattle.rfb_session.specs.ShareSteps.{KeepsScreen};
 
-    /// A seat, its kin and those that are found to know the same are kin from here on: so viewers
-    /// that joined one by one are, once each has all of the screen. Nothing else changes.
+    /// A seat, its kin and those that are found to know the same are kin from here on. So viewers
+    /// that joined one by one become kin, once each has all of the screen. Nothing else changes.
     pub(super) fn meet_alike(&mut self, seat: Seat)
         ensures seats { self.new.seats ≡ self.old.seats }
         ensures keeps { KeepsScreen self.old self.new }

@@ -68,7 +68,7 @@ impl Mirror {
         self.viewer.feed(bytes)
     }
 
-    /// Where the picture changed since this was asked last, as `Viewer::damage` tells.
+    /// Where the picture changed since this was asked last, as `Viewer::damage` gives it.
     pub(crate) fn damage(&mut self) -> Option<Rect>
         ensures value { result ≡ damage_of self.old.viewer }
         ensures cleared { ended_of self.new.viewer ≡ None }
@@ -78,7 +78,7 @@ impl Mirror {
         self.viewer.damage()
     }
 
-    /// The copies within the picture since this was asked last, as `Viewer::moved` tells.
+    /// The copies within the picture since this was asked last, as `Viewer::moved` gives them.
     pub(crate) fn moved(&mut self) -> ArrayVec<Move, MAX_MOVES>
         ensures value { result.items ≡ moved_of self.old.viewer }
         ensures cleared { moved_of self.new.viewer ≡ [] }

@@ -45,9 +45,9 @@ impl Share {
 
     /// A share of the picture that a viewer has, with eight empty seats. Each session offers
     /// versions up to 3.8, names the screen, and keeps at most `text_limit` bytes of each text that
-    /// its viewer cuts. The viewer is the share's from here on; it is given back where it has no
-    /// picture, or one of more than 4,096 columns or rows. It is to have failed, or to stand for
-    /// what its server's bytes led to, as a viewer does that was made and fed.
+    /// its viewer cuts. The viewer is the share's from here on. It is given back where it has no
+    /// picture, or one of more than 4,096 columns or rows. It has to have failed, or to stand for
+    /// what its server's bytes led to: a viewer that was made and fed does.
     pub fn of_viewer(
         alloc: Global,
         viewer: Viewer,
@@ -85,7 +85,7 @@ impl Share {
         })
     }
 
-    /// The viewer whose picture the screen is, where it is one's.
+    /// The viewer whose picture is the screen, if there is one.
     pub fn viewer(&self) -> Option<&Viewer>
         ensures { option_copied result ≡ viewer_of self.now }
     {
@@ -96,10 +96,10 @@ impl Share {
     }
 
     /// The viewer takes bytes of its server's, as `Viewer::feed` does. Then each session is told
-    /// where the picture changed, and of the copies that came, the oldest first, as hints; also
-    /// after a fault, of what came before it. So the viewer is asked for its damage and its copies.
-    /// `None` where the owner draws the screen; then nothing changes. No bytes come to wait, and
-    /// beside what the viewer takes it takes no memory.
+    /// where the picture changed, and of the copies that came, the oldest first, as hints. After a
+    /// fault it is told of what came before that. So the viewer is asked for its damage and its
+    /// copies. `None` where the owner draws the screen; then nothing changes. It adds no bytes to
+    /// those that wait, and takes no memory beside what the viewer takes.
     pub fn feed(&mut self, bytes: &[u8]) -> Option<Result<Fed<ViewerEvent>, ViewerFault>>
         ensures none { result ≡ None ↔ viewer_of self.old ≡ None }
         ensures kept { result ≡ None → self.new ≡ self.old }
@@ -118,7 +118,7 @@ impl Share {
     }
 
     /// A call of the viewer's, as `Viewer::append` makes it: its message, for the server, is
-    /// appended to the caller's buffer. `Refused(NotReady)` where the owner draws the screen, and
+    /// appended to the caller's buffer. `Refused(NotReady)` where the owner draws the screen; then
     /// nothing changes. The screen and the seats are as they were.
     pub fn append(&mut self, call: &Call<'_>, out: &mut Vec<u8>) -> Result<(), AppendFault>
         requires few { length (text_in call.now) ≤ 1048576 }
@@ -135,9 +135,9 @@ impl Share {
     }
 
     /// The picture of another viewer takes the place of the one that is shown, and each session is
-    /// told that all of it changed. Given back is a viewer that has no picture, or one of another
-    /// size, and each where the owner draws the screen; then nothing changes. The viewer that was
-    /// shown is let go.
+    /// told that all of it changed. A viewer that has no picture, or one of another size, is given
+    /// back, and so is any where the owner draws the screen. Then nothing changes. The viewer that
+    /// was shown is dropped.
     pub fn show(&mut self, viewer: Viewer) -> Result<(), Viewer>
         requires stands { ∥ StandsOrFailed viewer ∥₁ }
         ensures shown { OnOk result (ShowsOther self.old viewer self.new) }
@@ -172,7 +172,7 @@ fn is_alike(one: &Picture<Colour>, other: &Picture<Colour>) -> bool
     one.width() == other.width() && one.height() == other.height()
 }
 
-// The seats that may have work after one call more: all, where each was told of a change.
+// The seats that may have work after one more call: all, where each was told of a change.
 fn stirred_by(is_told: bool, stirred: Seats) -> Seats
     ensures all { is_told ≡ true → (k : ℕ) → k < 8 → has_bit result k ≡ true }
     ensures same { is_told ≡ false → result ≡ stirred }
@@ -180,7 +180,7 @@ fn stirred_by(is_told: bool, stirred: Seats) -> Seats
     if is_told { Seats::all() } else { stirred }
 }
 
-// Each session is told of what changed of the picture since the viewer was asked last. It tells
+// Each session is told of what changed of the picture since the viewer was asked last. Returns
 // whether anything did.
 fn relay(mirror: &mut Mirror, slots: &mut [Option<ShareSeat>; SLOTS]) -> bool
     requires alike { All (λ slot. ForSome slot (λ seat.

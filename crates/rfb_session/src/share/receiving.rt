@@ -33,10 +33,10 @@ impl Share {
     /// reported with its seat. A viewer that asks for the screen alone, by its ClientInit (RFC 6143
     /// section 7.3.1), empties the other seats at that byte, which is reported too.
     ///
-    /// What a client did wrong comes as a fault of its seat, and want of memory for a text; so does
-    /// it again at each later call, which takes nothing. What waits there goes on to wait, and no
-    /// other seat is changed. Where the bytes may end its handshake, the memory of its session is
-    /// taken first; where there is none the seat is emptied.
+    /// What a client did wrong, or want of memory for a text, is given as a fault of its seat. Each
+    /// later call gives it again, and takes nothing. What waits there still waits, and no other
+    /// seat is changed. Where the bytes may end its handshake, the memory of its session is taken
+    /// first; where there is none the seat is emptied.
     pub fn received(&mut self, seat: Seat, bytes: &[u8]) -> Result<Heard, ShareFault>
         ensures used { IfOk result (λ heard. heard.used ≤ length bytes.now) }
         ensures some { IfOk result (λ heard. 0 < length bytes.now → 0 < heard.used) }
@@ -47,8 +47,7 @@ impl Share {
         self.received_by(seat, bytes, true)
     }
 
-    /// The same, where a viewer's wish to be alone is heeded, or is not: then no other seat is
-    /// changed.
+    /// The same. A viewer's wish to be alone is heeded, or is not: then no other seat is changed.
     pub fn received_by(
         &mut self,
         seat: Seat,
@@ -72,7 +71,7 @@ impl Share {
     }
 }
 
-// Whether a client of which this is reported is to have the screen alone.
+// Whether the client that did this is to have the screen alone.
 fn is_sole(heeds: bool, event: &Option<ServerEvent>) -> bool
     ensures { result ≡ (heeds && asks_alone (seen event.now)) }
 {
@@ -94,8 +93,8 @@ fn told_of(seat: Seat, fed: Fed<ServerEvent>, ended: u8) -> Heard
     }
 }
 
-// The viewer of a seat is heard, where there is one. Where something is known of the first place
-// its format is what it was, and it knows what it knew; otherwise it leaves its kin.
+// The viewer of a seat is heard, where there is one. If it knows something of the first place, its
+// format and what it knows are as they were. Otherwise it leaves its kin.
 fn hear_at(
     place: usize,
     slot: &mut Option<ShareSeat>,

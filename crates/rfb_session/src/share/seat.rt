@@ -126,9 +126,9 @@ impl ShareSeat {
         Ok(Composing::Composed)
     }
 
-    /// Whether an update for another seat is one for this one too, to the byte, where the sessions
-    /// of both follow one screen: nothing waits at either, and the sessions are twins. The caller
-    /// says whether it knows that both know the same.
+    /// Whether an update for another seat is one for this one too, to the byte: nothing waits at
+    /// either, and the sessions are twins. The sessions of both follow one screen. The caller says
+    /// whether it knows that both know the same.
     pub(crate) fn is_twin_of(&self, other: &ShareSeat, knows_same: bool) -> bool
         requires { knows_same ≡ true → known_at other.now ≡ known_at self.now }
         ensures { OnTrue result ((screen : Grid Colour) → Follows screen (session_at other.now)
@@ -156,7 +156,7 @@ impl ShareSeat {
         self.session.knows_first()
     }
 
-    /// Whether so little may need sending that it is composed sooner than twins are found.
+    /// Whether so little may need sending that composing it takes less than finding twins.
     pub(crate) fn is_slight(&self) -> bool {
         self.session.is_slight()
     }
@@ -169,7 +169,7 @@ impl ShareSeat {
     }
 
     /// Takes over the update that was composed for a twin and is shared: it waits here too, in the
-    /// same memory. Where it is not shared nothing changes, and it tells so.
+    /// same memory. Returns whether it is shared; where it is not, nothing changes.
     pub(crate) fn take_over(&mut self, screen: &Picture<Colour>, sent: &ShareSeat) -> bool
         requires follows { Follows screen.now (session_at self.old) }
         requires twin { HasComposedTwin screen.now self.old sent.now }

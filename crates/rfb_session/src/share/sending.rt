@@ -23,9 +23,9 @@ impl Share {
     ghost use Rattle.rfb_session.specs.Share.{waits_at, is_update_at, screen_of, seat_in};
     ghost use Rattle.rfb_session.specs.ShareSteps.{WritesAs, ComposesAs, WantsRoomAs, HasNoWork};
 
-    /// The seats that may have work: bytes to write, or an update to compose. In any other nothing
-    /// waits, and composing would find none due, or no viewer; so it stays until a drawing, a hint
-    /// or a viewer's bytes. A seat of these may have none either: it goes out of the set once
+    /// The seats that may have work: bytes to write, or an update to compose. At any other nothing
+    /// waits, and composing would find none due, or no viewer. That stays so until a drawing, a
+    /// hint or a viewer's bytes. A seat of the set may have no work either: it leaves the set once
     /// composing finds nothing to do.
     pub fn to_serve(&self) -> Seats
         ensures work { (k : ℕ) → has_bit result k ≡ false → HasNoWork self.now k }
@@ -56,10 +56,10 @@ impl Share {
     }
 
     /// Composes an update for the viewer of a seat, if all earlier bytes there are written and one
-    /// is due: of what the viewer asked for and does not have of the screen. Any number of requests
-    /// is answered by one update, and a viewer that does not read costs no more than what waits for
-    /// it. Room is asked for once, as `Session::compose` does; where there is none nothing waits,
-    /// and the update may be composed later.
+    /// is due. It has what the viewer asked for and does not have of the screen. Any number of
+    /// requests is answered by one update, and a viewer that does not read costs no more than what
+    /// waits for it. Room is asked for once, as `Session::compose` does. Where there is none,
+    /// nothing waits, and the update may be composed later.
     pub fn compose(&mut self, seat: Seat) -> Result<Composing, NoMemory>
         ensures composes { IfOk result (λ told. ComposesAs self.old seat told self.new) }
         ensures wants { OnErr result (WantsRoomAs self.old seat self.new) }

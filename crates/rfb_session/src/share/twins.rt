@@ -27,11 +27,11 @@ impl Share {
     ghost use Rattle.rfb_session.specs.ShareSteps.{KeepsScreen, WantsRoomAs};
     ghost use Rattle.rfb_session.specs.ShareTwins.{ComposesShared};
 
-    /// Composes an update for the viewer of a seat, as `compose` does, and gives it to all of some
-    /// others for which nothing waits, and whose viewers have and ask for the same: to the byte
-    /// it is the one that would be composed for them. It tells which seats these are. It waits in
-    /// the same memory for all. Where there is none for what they share, a few bytes, it is given
-    /// to none, and an update may be composed later.
+    /// Composes an update for the viewer of a seat, as `compose` does. It is given also to each of
+    /// the others for which nothing waits, and whose viewer has and asks for the same. To the byte
+    /// it is the update that would be composed there. Returns which seats these are. The update
+    /// waits in the same memory for all. Where there is none for what they share, a few bytes, it
+    /// is given to none of the others, and an update may be composed later for each.
     pub fn compose_shared(
         &mut self,
         seat: Seat,
@@ -52,9 +52,9 @@ impl Share {
         }
     }
 
-    /// Of some others those at which it is worth to look for twins of a seat: where little may need
-    /// sending to its viewer those that are known to have the same, and otherwise all. What else
-    /// little is, is composed sooner for each.
+    /// The others at which it is worth looking for twins of a seat. Where little may need sending
+    /// to its viewer, these are the ones known to have the same: composing so little takes less
+    /// than finding more. Otherwise they are all.
     pub fn worth_sharing(&self, seat: Seat, others: Seats) -> Seats
         ensures { (k : ℕ) → has_bit result k ≡ true → has_bit others k ≡ true }
     {
@@ -64,8 +64,8 @@ impl Share {
         }
     }
 
-    /// Those of some seats to whose viewers little may need sending. It is about costs: nothing
-    /// rests on it.
+    /// Those of some seats to whose viewers little may need sending. It is about costs: no result
+    /// depends on it.
     pub fn slight_of(&self, seats: Seats) -> Seats {
         let mut slight = Seats::none();
         for place in 0..SLOTS {
@@ -115,8 +115,8 @@ fn twins_in(slots: &[Option<ShareSeat>; SLOTS], kin: &Kin, own: usize, others: S
     twins
 }
 
-// That seat, where it is one of the others and not that of the one, and somebody sits there who is
-// a twin of it. Its kin know the same.
+// That seat, where it is one of the others and not the seat `own`, and a twin of that sits there.
+// Kin know the same.
 fn twin_at(
     slot: &Option<ShareSeat>,
     place: usize,
@@ -203,7 +203,8 @@ fn give_at(
     Seats::none()
 }
 
-// The same of one who is. The slots are lent by two parts: a seat is large, and stays where it is.
+// The same of one who is. The slots are borrowed in two parts: a seat is large, and stays where it
+// is.
 fn give_apart(
     slots: &mut [Option<ShareSeat>],
     own: usize,

@@ -10,9 +10,9 @@ use rfb_server::Drawing;
 impl World {
     ghost use Rattle.rfb_session.specs.World.{DrawsWorld, is_closed};
 
-    /// Draws on the server's screen, or gives the server a hint. It tells the refusal of a drawing
-    /// that leaves the screen, or has not one colour for each of its places: then nothing changes.
-    /// It takes no memory. A world that is closed answers so again.
+    /// Draws on the server's screen, or gives the server a hint. Returns the refusal of a drawing
+    /// that leaves the screen, or has not one colour for each of its places; then nothing changes.
+    /// It takes no memory. A world that is closed gives its error again.
     pub fn draw(&mut self, drawing: &Drawing<'_>) -> Result<Told, NoMemory>
         ensures draws { IfOk result (λ told.
             DrawsWorld self.old (stroke drawing.now) told self.new) }

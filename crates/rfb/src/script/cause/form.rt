@@ -30,7 +30,7 @@ macro_rules! form {
 
 pub(crate) use form;
 
-/// The lines of a script, but for those that may stand after `at` and a slot too.
+/// The lines of a script, but for those that may follow `at` and a slot too.
 pub const OF_SCRIPT: &[Form] = &[OF_SCREEN, OF_VIEWER, OF_FILL, OF_COPY, OF_HINT];
 
 /// The lines of a hub's script, but for those of one slot.
@@ -38,7 +38,7 @@ pub const OF_HUB_SCRIPT: &[Form] = &[
     OF_HUB, OF_JOIN, OF_LEAVE, OF_FOREIGN, OF_SHOW, OF_FILL, OF_COPY, OF_HINT,
 ];
 
-/// What may stand after `at` and a slot.
+/// What may follow `at` and a slot.
 pub const OF_SLOT: &[Form] = &[
     OF_REQUEST,
     OF_FORMAT,

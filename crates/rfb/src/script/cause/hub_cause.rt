@@ -47,7 +47,7 @@ fn why_bad(line: &[u8], has_shown: bool) -> Reason<'_> {
     }
 }
 
-// What is wrong with the words of a line. Only the first line is bad for where it stands.
+// What is wrong with the words of a line. Only the first line is bad for its place.
 fn why_no_line(line: &[u8]) -> Reason<'_> {
     let words = first_words(line);
     let Some((keyword, rest)) = words.as_slice().split_first() else {

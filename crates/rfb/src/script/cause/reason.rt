@@ -17,7 +17,7 @@ pub enum Reason<'a> {
     SlotKeyword(&'a [u8]),
     /// This word is not what it is to be.
     Word(&'a [u8], Kind),
-    /// More than so many words follow its keyword, which stands at this place.
+    /// More than so many words follow its keyword, which is at this place.
     TooMany(usize, &'static str),
     /// Only the first number of words follows it, and the second is due.
     TooFew(usize, usize, &'static str),

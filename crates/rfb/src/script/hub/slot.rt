@@ -1,4 +1,4 @@
-//! Words of a line of a hub's script that stand for a value.
+//! Words of a line of a hub's script that mean a value.
 
 ghost use Rattle.std.specs.Prelude.{◌≡◌, ℕ, Bool, List, IfOk, MatchOption};
 ghost use Rattle.rfb_viewer.specs.declared.setup.ViewerSetup.{ViewerSetup as Setup};

@@ -20,10 +20,10 @@ impl<L: Drop, C: time::Clock> Clock for Shell<'_, L, C> {
     }
 
     /// It does not sleep while somebody may wait at the listener whom the core was not asked about:
-    /// what happened in the last turn may have made it welcome newcomers. Nor does it after lines
-    /// have left, or bytes for a server: which viewers are read again the core says in its next
-    /// turn, and nothing else may come that wakes it. The same goes for a write that has failed:
-    /// when a server is called again the core says then. It ends the loop where waiting fails.
+    /// the last turn may have made it welcome newcomers. Nor does it sleep after lines have left,
+    /// or bytes for a server: the core says in its next turn which viewers are read again, and
+    /// nothing else may come that wakes it. Nor after a write has failed: the core says in its next
+    /// turn when a server is called again. It ends the loop where waiting fails.
     fn wait(&mut self, pause: Pause) -> bool {
         self.read_time();
         let limit = self.limit(pause);
@@ -98,7 +98,7 @@ impl<L: Drop, C: time::Clock> Shell<'_, L, C> {
         }
     }
 
-    // What time it is. Where the clock fails it stands still.
+    // What time it is. Where the clock fails, the time stays.
     fn read_time(&mut self) {
         if let Ok(passed) = self.start.elapsed(self.clock) {
             let seconds = passed.as_secs().saturating_mul(1000);
@@ -107,7 +107,8 @@ impl<L: Drop, C: time::Clock> Shell<'_, L, C> {
         }
     }
 
-    // Something happened, unless a door only said that it is not ready. Tells whether it may be.
+    // Something happened, unless a door only said that it is not ready. Returns whether it may be
+    // ready.
     fn stir(&mut self, answer: Answer) -> bool {
         self.is_stirred |= answer != Answer::Waits;
         matches!(answer, Answer::Moved(_))

@@ -1,4 +1,4 @@
-//! The connections that come to a core, and those that it begins.
+//! The connections that a core is offered, and those that it begins.
 
 ghost use Rattle.std.specs.Prelude.{⊤};
 
@@ -89,7 +89,7 @@ where
 }
 
 // A connection that does not wait, and whose bytes go out at once, and where it came from. One that
-// would wait is let go.
+// would wait is closed.
 fn arrival<'t, R, W, E, S: OpenStream + Drop>(
     stream: S,
     address: SocketAddr,
@@ -100,7 +100,7 @@ fn arrival<'t, R, W, E, S: OpenStream + Drop>(
     Some(arrival_from(Tenant::Connection(stream), address))
 }
 
-// The same of what may stand at a door.
+// The same of what may be at a door.
 fn arrival_from<'t, R, W, E, S>(
     tenant: Tenant<'t, R, W, E, S>,
     address: SocketAddr,

@@ -1,4 +1,4 @@
--- What a driver comes to over many events: the rig's bytes are lines, of which each is run once and in order.
+-- What becomes of a driver over many events: the rig's bytes are lines, and each is run once and in order.
 use Rattle.std.specs.Prelude.{◌≡◌, ◌+◌, ℕ, true, List, [], ◌∷◌, ◌++◌, take}
 use Rattle.rfb_session.specs.declared.drive.driver.Driver.{Driver}
 use Rattle.rfb_session.specs.doors.Events.{Event, Received, Ended, Failed, Wrote, Turned, came}

@@ -93,7 +93,7 @@ module _ {R : Type 0} where
   abbrev pub ends : DriveOutcome → Driver R → Driver R
   ends how old = ends_after old.outcome how old
 
-  -- ---- what is told
+  -- ---- what is reported
 
   abbrev pub with_line : List ℕ → Driver R → Driver R
   with_line line old = record old { lines = old.lines ++ line }
@@ -106,7 +106,7 @@ module _ {R : Type 0} where
   Tells (Ok line) old new = (new ≡ with_line line.items old) ⊎ (new ≡ record old { outcome = Some How.NoMemory })
   Tells (Err fault) old new = new ≡ record old { outcome = Some How.NoMemory }
 
-  -- the line that is under way is done, which is told
+  -- the line that is under way is done, and a line says so
   abbrev pub finished : Driver R → Driver R
   finished old =
       record old { lines = old.lines ++ done_line old.input.count; pace = resting old.pace }
@@ -154,7 +154,7 @@ module _ {R : Type 0} where
   abbrev pub Sends : List ℕ → Driver R → Driver R → Type 0
   Sends bytes old new = (new ≡ with_sent bytes old) ⊎ (new ≡ record old { outcome = Some How.NoMemory })
 
-  -- a line tells it, once the first update is whole
+  -- a line reports it, once the first update is whole
   abbrev pub TellsIf : Bool → Result (Vec ℕ) Error → Driver R → Driver R → Type 0
   TellsIf false line old new = new ≡ old
   TellsIf true line old new = Tells line old new
@@ -186,8 +186,8 @@ module _ {R : Type 0} where
   BeginsShowing whole old new =
       TellsLine true (ready_line whole.w whole.h old.name.items) (record old { is_shown = true }) new
 
-  -- an update changed nothing; or a rectangle, which is told if that is wanted, and the line that is under way may be
-  -- done by it
+  -- an update changed nothing; or a rectangle, which is reported if that is wanted, and the line that is under way may
+  -- be done by it
   pub data Changes (old : Driver R) : Option Rect → Driver R → Type 0 where
     Unchanged : {new : Driver R} → new ≡ old → Changes old None new
     NoPicture : {area : Rect} {new : Driver R} → picture_of old.viewer ≡ None → (told : Driver R) →

@@ -91,7 +91,7 @@ module _ {R : Type 0} (steps : Rigging R) (now : ℕ) where
     IsLate : (why : Lateness) → lateness old.pace.begun old.pace.limit now old.pace.task ≡ Some why →
         (kept : Driver R) → Keeps steps old kept → EndsWith (How.Late old.input.count) kept new → GivesUp old new
 
-  -- a turn, but for what is taken before the next one and when that is wanted: the line that is under way may be done
+  -- a turn, but for what is taken before the next one and when that is wanted. The line that is under way may be done
   -- by time, then lines begin, and the last may be late
   pub data GoesOn (old new : Driver R) : Type 0 where
     AllEnded : old.outcome ≢ None → new ≡ old → GoesOn old new

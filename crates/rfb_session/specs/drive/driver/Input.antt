@@ -18,7 +18,7 @@ pub record IsLineOf (bytes : List ℕ) (ended : Bool) (count : ℕ) : Type 0 whe
   pub ends : ((rest : List ℕ) × (drop count bytes ≡ 10 ∷ rest))
       ⊎ ((count ≡ length bytes) × (0 < count) × (ended ≡ true))
 
--- no newline stands among the first 65,537 bytes
+-- no newline is among the first 65,537 bytes
 pub record IsTooLong (bytes : List ℕ) : Type 0 where
   pub long : 65536 < length bytes
   pub one : IsOneLine (take 65537 bytes)

@@ -71,7 +71,7 @@ module _ {R : Type 0} where
   abbrev pub has_part : Driver R → Rect → Bool
   has_part driver part = has_part_of (picture_of driver.viewer) part
 
-  -- all goes on, and few lines wait that tell
+  -- all goes on, and few bytes of reports wait
   abbrev pub is_free : Driver R → Bool
   is_free driver = not (is_some driver.outcome) && nat_lt (length driver.lines) 65536
 

@@ -1,4 +1,4 @@
--- The lines that tell a rig what happens.
+-- The lines that report to a rig what happens.
 use Rattle.std.specs.Prelude.{ℕ, List, [], ◌∷◌, ◌++◌, codes, take}
 use Rattle.std.specs.Fmt.{decimal}
 use Rattle.hex.specs.Hex.{encode_lower}

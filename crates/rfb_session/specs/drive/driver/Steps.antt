@@ -14,7 +14,7 @@ use Rattle.rfb_session.specs.drive.driver.LineRun.{with_task}
 use Rattle.rfb_session.specs.drive.driver.Tasks.{is_sent, left_by}
 use Rattle.rfb_session.specs.drive.driver.DriverTurn.{GoesOn, with_rooms, with_turns}
 
--- what tells has failed
+-- the device that reports go to has failed
 abbrev pub is_lost : Option DriveOutcome → Bool
 is_lost None = false
 is_lost (Some How.Done) = false
@@ -71,7 +71,7 @@ module _ {R : Type 0} where
     Added : new ≡ record old { input = with_bytes bytes old.input } → Adds bytes old new
     NoRoomToAdd : new ≡ ends How.NoMemory old → Adds bytes old new
 
-  -- bytes came, of which so many were taken
+  -- bytes came, and so many were taken
   pub record HearsDoor (old : Driver R) (door : ℕ) (bytes : List ℕ) (used : ℕ) (new : Driver R) : Type 0 where
     pub server : door ≡ 0 → HearsDriven old bytes used new
     pub orders : door ≡ 1 → Adds bytes old new × (used ≡ length bytes)

@@ -1,4 +1,4 @@
-//! Connections that come to a console.
+//! The viewers that a console admits.
 
 ghost use Rattle.std.specs.Prelude.{◌≡◌, ◌<◌, IfOk, IfSome};
 ghost use Rattle.rfb_session.specs.console.Desk.{seated};
@@ -22,8 +22,8 @@ pub(crate) struct Admission {
 }
 
 impl Desk {
-    /// A connection from there takes a seat, and a line tells it. Where there are as many viewers
-    /// as there may be, the oldest one whose handshake is not done gives way to it. Where all are
+    /// A connection from there takes a seat, and a line says so. Where there are as many viewers as
+    /// there may be, the oldest one whose handshake is not done gives way to it. Where all are
     /// done, or there is no memory for a session, it gets none, and a line says so. An error is
     /// want of memory for a line.
     pub(crate) fn admit(&mut self, from: &str) -> io::Result<Admission>
@@ -68,7 +68,7 @@ impl Desk {
         Ok(None)
     }
 
-    // Where no more may come, the oldest viewer whose handshake is not done is let go.
+    // Where no more may come, the oldest viewer whose handshake is not done is disconnected.
     fn make_room(&mut self) -> io::Result<Option<Seat>>
         ensures { IfOk result (λ left. MakesRoom self.old left self.new) }
     {
@@ -103,7 +103,7 @@ impl Desk {
         count
     }
 
-    // The place of the viewer whose handshake lasts longest, of those that give way.
+    // Of the viewers that give way, the place of the one whose handshake lasts longest.
     fn oldest_undone(&self) -> Option<usize>
         ensures { FindsOldest self.now 8 result }
     {

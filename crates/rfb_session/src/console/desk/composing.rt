@@ -13,7 +13,7 @@ use crate::seat::Seat;
 use crate::seats::Seats;
 use crate::slots::SLOTS;
 
-// After an update of more bytes than a mebibyte no other is composed in a turn.
+// After an update of more than a mebibyte no other is composed in a turn.
 const LARGE: usize = 1 << 20;
 
 // While more bytes than these of it wait, what is not slight is put off,
@@ -48,8 +48,8 @@ struct Tried {
 }
 
 impl Desk {
-    /// Composes an update for each viewer for which nothing waits and one is due, and gives it to
-    /// all that are left and to whom it is the same. It tells whether memory was wanting for one,
+    /// Composes an update for each viewer for which nothing waits and one is due. It is given also
+    /// to each later one for which it is the same. Returns whether memory was wanting for one,
     /// which may be composed later.
     pub(crate) fn compose(&mut self) -> bool
         ensures { ComposesAll self.old result self.new }
@@ -67,9 +67,9 @@ impl Desk {
         wants
     }
 
-    /// The same, but one seat after the other from the first of this turn on, going round, and no
-    /// further than to a large update. So at most one is composed before anything is written. Where
-    /// another leaves, what is not slight is put off.
+    /// The same, but one seat after the other, round from the first of this turn, and no further
+    /// than to a large update. So at most one large update is composed before anything is written.
+    /// Where another leaves, what is not slight is put off.
     pub(crate) fn compose_round(&mut self, is_busy: bool) -> Round
         ensures { ComposesRound self.old is_busy result.wants result.last self.new }
     {
@@ -125,8 +125,7 @@ impl Desk {
         }
     }
 
-    // The seats with work, but where others are put off those alone for which little may need
-    // sending.
+    // The seats with work. Where others are put off, only those for which little may need sending.
     fn to_serve(&self, is_busy: bool) -> Seats
         ensures rests { (k : ℕ) → has_bit result k ≡ false → (is_busy ≡ true)
             ⊎ RestsIn (screen_of self.now.share) (seat_in self.now.share k) }
@@ -139,8 +138,8 @@ impl Desk {
         }
     }
 
-    // Composes an update for the viewer of a seat, if that is to be tried, and tells whether it is
-    // a large one. It may be given to some others.
+    // Composes an update for the viewer of a seat, if that is to be tried, and says whether it is a
+    // large one. It may be given to some others.
     fn serve(&mut self, seat: Seat, tries: bool, others: Seats) -> Served
         ensures one { ComposesOne self.old seat tries result.wants others result.given self.new }
         ensures large { result.is_large ≡ true →

@@ -23,15 +23,15 @@ pub(crate) struct Hearing {
     pub used: usize,
     /// What the viewer did, if it did something that is reported.
     pub event: Option<SeatEvent>,
-    /// Who was let go, since this viewer asked for the screen alone.
+    /// Who was disconnected, since this viewer asked for the screen alone.
     pub ended: Seats,
     /// Why its session has failed now, if it has.
     pub fault: Option<ShareFault>,
 }
 
 impl Desk {
-    /// Takes bytes that the viewer of a seat sent, as `Share::received_by` does, and tells the
-    /// owner what it did. A viewer whose session fails is told of, and stays until what waits for
+    /// Takes bytes that the viewer of a seat sent, as `Share::received_by` does, and reports to the
+    /// owner what it did. A viewer whose session fails is reported, and stays until what waits for
     /// it is written. Where there is none, or it has failed before, all bytes are taken and nothing
     /// is done. An error is want of memory for a line.
     pub(crate) fn hear(&mut self, seat: Seat, bytes: &[u8]) -> io::Result<Hearing>
@@ -72,7 +72,7 @@ impl Desk {
         self.guests[seat.place()].idle = None;
     }
 
-    // Tells the owner what a viewer did, after who was let go for it.
+    // Reports to the owner what a viewer did, after who was disconnected for it.
     fn tell_of(&mut self, seat: Seat, heard: &Heard) -> io::Result<()>
         ensures { OnOk result (TellsOf self.old seat heard.now self.new) }
     {
@@ -83,7 +83,7 @@ impl Desk {
         Ok(())
     }
 
-    // What waits for the owner beyond so many bytes tells of the viewer of a seat.
+    // What waits for the owner beyond so many bytes is about the viewer of a seat.
     fn count_told(&mut self, seat: Seat, before: usize)
         ensures { CountsTold self.old seat before self.new }
     {
@@ -92,7 +92,7 @@ impl Desk {
         guest.told = guest.told.saturating_add(more);
     }
 
-    // Tells the owner what a viewer did.
+    // Reports to the owner what a viewer did.
     fn tell_event(&mut self, seat: Seat, event: &Option<SeatEvent>) -> io::Result<()>
         ensures { OnOk result (TellsEvent self.old seat event.now self.new) }
     {
@@ -111,7 +111,7 @@ impl Desk {
         }
     }
 
-    // The session of a seat has ended. It is told once, and whether it is told now is the answer.
+    // The session of a seat has ended. That is reported once. Returns whether it is reported now.
     fn fail(&mut self, seat: Seat, fault: ShareFault) -> io::Result<bool>
         ensures { IfOk result (λ told. Fails self.old seat told self.new) }
     {

@@ -1,4 +1,4 @@
-//! Viewers that are let go.
+//! Viewers that are disconnected.
 
 ghost use Rattle.std.specs.Prelude.{◌≡◌, ◌<◌, ℕ, List, IfOk, OnOk, cond, []};
 ghost use Rattle.rfb_picture.specs.Places.{has_bit};
@@ -21,9 +21,9 @@ use std::fmt::Display;
 use std::io;
 
 impl Desk {
-    /// The viewer of a seat is let go, if there is one, with nothing wrong. A line tells the owner,
-    /// unless one told that it failed, and whether it does is the answer. An error is want of
-    /// memory for the line.
+    /// The viewer of a seat is disconnected, if there is one, with nothing wrong. A line says so,
+    /// unless one said that it failed. Returns whether a line does. An error is want of memory for
+    /// the line.
     pub(crate) fn let_go(&mut self, seat: Seat) -> io::Result<bool>
         ensures { IfOk result (λ taken. LetsGo self.old seat taken (leave_line seat) self.new) }
     {
@@ -45,8 +45,8 @@ impl Desk {
         Ok(true)
     }
 
-    /// The seat is empty, and nobody is told. It tells whether that is to be told: there was a
-    /// viewer, and it was not told to have failed.
+    /// The seat is empty, and no line says so. Returns whether one is due: there was a viewer, and
+    /// no line said that it failed.
     pub(crate) fn vacate(&mut self, seat: Seat) -> bool
         ensures { Vacates self.old seat result self.new }
     {
@@ -56,7 +56,7 @@ impl Desk {
         taken && !is_over
     }
 
-    /// The viewers of these seats are let go, with nothing wrong, and a line tells each.
+    /// The viewers of these seats are disconnected, with nothing wrong, and a line reports each.
     pub(crate) fn let_all_go(&mut self, seats: Seats) -> io::Result<()>
         ensures { OnOk result (LetsAllGo self.old seats self.new) }
     {
@@ -66,7 +66,7 @@ impl Desk {
         Ok(())
     }
 
-    /// It is told of each of these seats that its viewer went, with nothing wrong. Their sessions
+    /// A line says of each of these seats that its viewer went, with nothing wrong. Their sessions
     /// are gone already.
     pub(crate) fn part(&mut self, seats: Seats) -> io::Result<()>
         ensures { OnOk result (Parts self.old seats self.new) }
@@ -94,7 +94,7 @@ impl Desk {
         tell_leave(&mut self.lines, seat.number())
     }
 
-    // Lets go of the viewer of one place, if its seat is among these.
+    // The viewer of one place is disconnected, if its seat is among these.
     fn let_go_at(&mut self, place: usize, seats: Seats) -> io::Result<()>
         requires { place < 8 }
         ensures { OnOk result (LetsGoIf self.old place (has_bit seats place) self.new) }

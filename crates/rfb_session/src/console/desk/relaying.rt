@@ -27,8 +27,8 @@ use std::alloc::Global;
 use std::io;
 
 impl Desk {
-    /// A desk of a share over a server's picture, which no viewer has come to. A line tells that
-    /// the server is there, and its name.
+    /// A desk of a share over a server's picture, without a viewer. A line says that the server is
+    /// there, and its name.
     pub(crate) fn over(alloc: Global, share: Share, rules: Rules, name: &[u8]) -> io::Result<Desk>
         ensures { IfOk result (IsOver share rules name.now) }
     {
@@ -38,8 +38,8 @@ impl Desk {
         Ok(Desk::of(share, lines, rules))
     }
 
-    /// Takes bytes of the server's, as `Share::feed` does. Where they end inside of a message
-    /// updates are held back from then on.
+    /// Takes bytes of the server's, as `Share::feed` does. Where they end inside a message, updates
+    /// are held back from then on.
     pub(crate) fn hear_server(
         &mut self,
         bytes: &[u8],
@@ -77,7 +77,7 @@ impl Desk {
         }
     }
 
-    /// The server has gone away, which a line tells. What has come of its picture is shown.
+    /// The server has gone away, and a line says so. What has come of its picture is shown.
     pub(crate) fn lose_server(&mut self, gone: Gone) -> io::Result<()>
         ensures told { OnOk result (LosesDesk self.old gone self.new) }
         ensures share { self.new.share ≡ self.old.share }
@@ -98,8 +98,8 @@ impl Desk {
         Ok(())
     }
 
-    /// Another share is shown in place of the one that was: the viewers of that one are let go, and
-    /// a line tells each. Nobody has come to it. An error is want of memory for a line.
+    /// Another share, without a viewer, is shown in place of the one that was. The viewers of that
+    /// one are disconnected, and a line reports each. An error is want of memory for a line.
     pub(crate) fn begin_anew(&mut self, share: Share) -> io::Result<()>
         ensures { OnOk result (BeginsAnew self.old share self.new) }
     {
@@ -121,7 +121,7 @@ impl Desk {
         seats
     }
 
-    /// A line tells that the server shows its screen, and its name.
+    /// A line says that the server shows its screen, and its name.
     pub(crate) fn tell_up(&mut self, name: &[u8]) -> io::Result<()>
         ensures { OnOk result (TellsServer self.old (up_of self.old.share name.now) self.new) }
     {
@@ -129,7 +129,7 @@ impl Desk {
         tell_up(&mut self.lines, width, height, name)
     }
 
-    /// What the server did is told, if it rang a bell or cut a text. Neither is passed on.
+    /// What the server did is reported, if it rang a bell or cut a text. Neither is passed on.
     pub(crate) fn tell_of_server(&mut self, event: &Option<ViewerEvent>) -> io::Result<()>
         ensures { OnOk result (TellsSome self.old (told_of_server event.now) self.new) }
     {

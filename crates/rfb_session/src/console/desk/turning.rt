@@ -20,7 +20,7 @@ use std::io;
 // How long it waits before it composes again what memory was wanting for, in milliseconds.
 const PAUSE: u64 = 100;
 
-/// Who was let go by time.
+/// Who was disconnected by time.
 #[derive(Clone, Copy, Debug)]
 pub(crate) struct Late {
     /// Those whose handshake took too long.
@@ -31,11 +31,11 @@ pub(crate) struct Late {
 
 impl Desk {
     /// All that was ready has been heard, and it is this time, in milliseconds. Viewers whose time
-    /// is over are let go, and a line tells each; then updates are composed for the others, unless
-    /// they are held back. After one of more than a mebibyte the seats that come after it are left
-    /// for the next turn, which begins with them and is wanted at once. Until that one has left,
-    /// for 100 milliseconds at most, what is not slight is put off. An error is want of memory for a
-    /// line.
+    /// is over are disconnected, and a line reports each. Then updates are composed for the others,
+    /// unless they are held back. After one of more than a mebibyte the seats that come after it
+    /// are left for the next turn, which begins with them and is wanted at once. Until that update
+    /// has left, for 100 milliseconds at most, what is not slight is put off. An error is want of
+    /// memory for a line.
     pub(crate) fn turn(&mut self, now: u64) -> io::Result<Late>
         ensures { IfOk result (λ late. TurnsAs self.old now late.slow late.stuck self.new) }
     {
@@ -208,8 +208,8 @@ impl Desk {
     }
 }
 
-// When composing goes on: at once where seats are left, and else when memory that was wanting may
-// be there.
+// When composing goes on: at once where seats are left, else when memory that was wanting may be
+// there.
 fn goes_on(now: u64, round: Round) -> Option<u64>
     ensures left { WakesAfter now round.last result }
     ensures again { round.wants ≡ true → IsBy (now + 100) result }

@@ -10,15 +10,15 @@ use crate::doors::device::Device;
 use crate::doors::echo::Echo;
 use crate::doors::turns::run;
 
-/// Whatever it is told: what left at a door, and what waits there then, is what waited there and
-/// what came at the other one.
+/// Whatever is reported to it: what left at a door, and what waits there then, is what waited there
+/// and what came at the other one.
 pub fn echoes_all()
     ensures { (old new : AnEcho) (events : List Event) →
         Runs Echoes old events new → EchoesAll old events new }
 {}
 
-/// Runs an echo over these doors, of which it uses the first two. What was written at one is what
-/// was read at the other, in order, but for the last 64 bytes at most.
+/// Runs an echo over the first two of these doors. What was written at one is what was read at the
+/// other, in order, but for the last 64 bytes at most.
 pub fn serve<D: Device, K: Clock>(doors: &mut [D], clock: &mut K, part: &mut [u8])
     ensures { (d : ℕ) → LeavesBeginning D.unread D.written doors.old doors.new d }
 {

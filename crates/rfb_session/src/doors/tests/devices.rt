@@ -6,7 +6,7 @@ use crate::doors::{Answer, Clock, Duplex, Pause};
 use std::io;
 use std::io::{ErrorKind, Read, Write};
 
-// Gives and takes at most `most` bytes a call. It tells its bytes.
+// Gives and takes at most `most` bytes a call. Its bytes are known.
 #[derive(Drop)]
 pub struct Pipe<'a> {
     pub unread: &'a [u8],

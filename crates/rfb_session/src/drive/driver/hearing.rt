@@ -77,7 +77,7 @@ impl<R: Rig + Drop> Driver<R> {
         }
     }
 
-    // A line tells what the server did, once its first update is whole.
+    // A line reports what the server did, once its first update is whole.
     fn tell_if_shown(&mut self, line: io::Result<Vec<u8>>)
         ensures { TellsIf self.old.is_shown line self.old self.new }
     {
@@ -144,8 +144,8 @@ impl<R: Rig + Drop> Driver<R> {
         self.tell(line);
     }
 
-    // What an update changed is told, if that is wanted, and the line that is under way may be done
-    // by it.
+    // What an update changed is reported, if that is wanted, and the line that is under way may be
+    // done by it.
     fn change(&mut self, damage: Option<Rect>)
         ensures { Changes self.old damage self.new }
     {
@@ -161,7 +161,7 @@ impl<R: Rig + Drop> Driver<R> {
         self.finish_if(is_done);
     }
 
-    // A line tells what an update changed, if that is wanted.
+    // A line reports what an update changed, if that is wanted.
     fn tell_changed(&mut self, rect: Rect)
         ensures tells { TellsLine self.old.tells_changes (changed_line rect) self.old self.new }
         ensures pace { self.new.pace ≡ self.old.pace }

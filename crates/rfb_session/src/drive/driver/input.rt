@@ -25,7 +25,7 @@ pub(crate) struct Input {
 /// What comes next.
 #[derive(Clone, Copy, Debug, PartialEq, Eq)]
 pub(crate) enum Upcoming {
-    /// A line of which more bytes come.
+    /// A line with more bytes to come.
     Partial,
     /// A line of so many bytes, without its newline. The last may lack that.
     Line(usize),

@@ -1,4 +1,4 @@
-//! Lines that tell a rig what happens.
+//! Lines that report to a rig what happens.
 
 ghost use Rattle.std.specs.Prelude.{◌≡◌, IfOk};
 ghost use Rattle.rfb_session.specs.drive.driver.RigLines.{ready_line, done_line, changed_line};
@@ -10,8 +10,8 @@ use std::alloc::Global;
 use std::io;
 use std::io::Write;
 
-/// The first picture is shown: the screen has this size, and the server this name, of which 1,024
-/// bytes are told.
+/// The first picture is shown: the screen has this size, and the server this name. Of that 1,024
+/// bytes are printed at most.
 pub(crate) fn ready_line(alloc: Global, width: u16, height: u16, name: &[u8]) -> io::Result<Vec<u8>>
     ensures { IfOk result (λ line. line.items ≡ ready_line width height name.now) }
 {
@@ -50,7 +50,7 @@ pub(crate) fn bell_line(alloc: Global) -> io::Result<Vec<u8>>
     Ok(line)
 }
 
-/// It cut a text, section 7.6.4, of which 1,024 bytes are told.
+/// It cut a text, section 7.6.4. Of that 1,024 bytes are printed at most.
 pub(crate) fn text_line(alloc: Global, text: &[u8]) -> io::Result<Vec<u8>>
     ensures { IfOk result (λ line. line.items ≡ drive_text_line text.now) }
 {

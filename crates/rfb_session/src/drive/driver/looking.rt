@@ -63,7 +63,7 @@ fn unlike_at(
         wanted.now.places.items wanted.now.width found }
     ensures { IsUnlike screen.now wanted.now likeness result }
 {
-    // It tells that no number of a row or a column passes 65,535.
+    // By this no number of a row or a column passes 65,535.
     let _rows = (screen.width(), screen.height());
     let x = likeness.at.x + found.x;
     let y = likeness.at.y + found.y;

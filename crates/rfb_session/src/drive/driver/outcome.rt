@@ -17,6 +17,6 @@ pub enum DriveOutcome {
     ServerGone(Gone),
     /// There was no memory.
     NoMemory,
-    /// The lines of the rig could not be read, or those that tell could not be written.
+    /// The lines of the rig could not be read, or reports could not be written.
     Device,
 }

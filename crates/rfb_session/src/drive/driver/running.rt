@@ -20,14 +20,14 @@ use crate::drive::line::read_drive_line;
 use crate::drive::words::Place;
 use rfb_picture::Rect;
 
-// Where so many bytes of lines that tell wait, no line begins and the server is not read.
+// Where so many bytes of reports wait, no line begins and the server is not read.
 const LINES_MOST: usize = 1 << 16;
 
 const SECOND: u64 = 1000;
 
 impl<R: Rig + Drop> Driver<R> {
     /// Lines begin, one after another, each once the one before it is done, as far as they are done
-    /// at this time. Where the input has ended, and all are done, all ends.
+    /// at this time. Where the input has ended and all lines are done, all ends.
     pub(crate) fn run_lines(&mut self, now: u64)
         ensures runs { RunsLines R.steps now self.old self.new }
         ensures rests { length self.old.input.waiting < 2 ^ 64 - 1 → Rests self.new }
@@ -58,7 +58,7 @@ impl<R: Rig + Drop> Driver<R> {
         self.is_shown && self.pace.task.is_idle() && self.is_free()
     }
 
-    /// Whether all goes on, and few lines wait that tell.
+    /// Whether all goes on, and few bytes of reports wait.
     pub(crate) fn is_free(&self) -> bool
         ensures { result ≡ is_free self.now }
     {

@@ -44,8 +44,8 @@ pub enum LineFlaw<'a> {
     },
 }
 
-/// Where the screen last was not as it was expected: how many places were not, and the first of
-/// them on the screen, in row order, with what was shown there and what was expected.
+/// How the screen last was not as it was expected: how many places were not, and the first of them
+/// in row order, with what was shown there and what was expected.
 #[derive(Clone, Copy)]
 pub struct Unlike {
     pub count: u32,
@@ -60,7 +60,7 @@ pub struct Unlike {
 pub enum Lateness {
     /// The server did not take its messages.
     Unsent,
-    /// The screen did not come to show the picture.
+    /// The screen did not show the picture.
     Unlike(Unlike),
     /// The screen did not stay as it was.
     Moving,

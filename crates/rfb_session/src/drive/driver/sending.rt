@@ -136,7 +136,7 @@ fn spell_drag(from: Place, to: Place, out: &mut Vec<u8>) -> Result<(), AllocErro
     spell_pointer(0, to, out)
 }
 
-// A text is cut, of which these are the digits.
+// The text with these digits is cut.
 fn spell_pasted(alloc: Global, digits: &[u8], out: &mut Vec<u8>) -> Result<(), AllocError>
     ensures { IfOk result (λ _. out.new.items
         ≡ out.old.items ++ spelled (OfText (pasted digits.now) ∷ [])) }
@@ -169,7 +169,7 @@ fn mask_of(button: u8) -> u8
     }
 }
 
-// The bit of the button that a wheel is which turns so.
+// The bit of the button that a wheel is when it turns so.
 fn turning(way: Way) -> u8
     ensures { result ≡ spec.turning way }
 {

@@ -19,8 +19,8 @@ pub(crate) enum Task {
     Idle,
     /// So many bytes wait for the server up to the last of its messages.
     Sending(usize),
-    /// Nothing is to change for so long. No turn has told the time since the last change, or it was
-    /// this.
+    /// Nothing is to change for so long. The last change was at this time, if a turn has given the
+    /// time since.
     Still(u64, Option<u64>),
     /// So much time is to pass.
     Wait(u64),
@@ -46,7 +46,7 @@ impl Task {
         matches!(self, Task::Idle)
     }
 
-    /// An update has changed a rectangle of the screen, which shows this now. Tells whether the
+    /// An update has changed a rectangle of the screen, which shows this now. Returns whether the
     /// line is done by that.
     pub(crate) fn hear_change(&mut self, rect: Rect, screen: &Picture<Colour>) -> bool
         ensures { HearsChange self.old rect screen.now result self.new }
@@ -62,7 +62,7 @@ impl Task {
         }
     }
 
-    /// So many bytes have left for the server. Tells whether the line is done by that.
+    /// So many bytes have left for the server. Returns whether the line is done by that.
     pub(crate) fn hear_left(&mut self, count: usize) -> bool
         ensures task { self.new ≡ spec.left_by count self.old }
         ensures done { result ≡ spec.is_sent self.new }
@@ -138,7 +138,7 @@ impl Task {
 
 impl Expected {
     // An update has changed a rectangle. Where it has a place of the picture's, the screen is
-    // looked at. Tells whether it shows the picture.
+    // looked at. Returns whether it shows the picture.
     fn hear_change(&mut self, rect: Rect, screen: &Picture<Colour>) -> bool
         ensures { spec.LooksAgain self.old rect screen.now result self.new }
     {

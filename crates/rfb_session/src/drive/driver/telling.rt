@@ -1,4 +1,4 @@
-//! What a driver tells, and how all ends.
+//! What a driver reports, and how all ends.
 
 ghost use Rattle.std.specs.Prelude.{◌≡◌};
 ghost use Rattle.rfb_session.specs.drive.driver.Driver.{Finishes, FinishesIf, SaysNote, Tells};
@@ -35,8 +35,8 @@ impl<R: Rig + Drop> Driver<R> {
         }
     }
 
-    /// The line that is under way is done, which is told; or there was no memory for that, and all
-    /// ends.
+    /// The line that is under way is done, and a line says so; or there was no memory for that, and
+    /// all ends.
     pub(crate) fn finish(&mut self)
         ensures { Finishes self.old self.new }
     {

@@ -67,7 +67,7 @@ impl Rig for Files {
     }
 }
 
-/// A driver that asks in rgb888 for Raw, of whose lines each has a second.
+/// A driver that asks in rgb888 for Raw, and whose lines have a second each.
 pub fn driver_in(alloc: Global) -> Driver<Files> {
     let mut encodings = ArrayVec::new();
     encodings.push(Encoding::Raw);

@@ -97,7 +97,7 @@ fn feed_read<A: Watcher>(
     Ok(updates)
 }
 
-// Feeds a viewer of these bytes what it takes at once, and tells the watcher of it. It returns how
+// Feeds a viewer of these bytes what it takes at once, and reports it to the watcher. Returns how
 // many bytes that were, and how many updates ended then.
 fn feed_once<A: Watcher>(
     bytes: &[u8],

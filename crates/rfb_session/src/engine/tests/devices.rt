@@ -44,7 +44,7 @@ impl Write for Writer {
     }
 }
 
-// Gives one byte a call, and fails after a number of calls. It tells its bytes.
+// Gives one byte a call, and fails after a number of calls. Its bytes are known.
 #[derive(Drop)]
 pub struct FailingReader<'a> {
     pub unread: &'a [u8],
@@ -76,7 +76,7 @@ impl Source for FailingReader<'_> {
     }
 }
 
-// Takes one byte a call, and fails after a number of calls. It tells its bytes.
+// Takes one byte a call, and fails after a number of calls. Its bytes are known.
 #[derive(Drop)]
 pub struct FailingWriter {
     pub written: Vec<u8>,
@@ -108,7 +108,7 @@ impl Sink for FailingWriter {
     }
 }
 
-// Takes one byte a call, and none after a number of calls. It tells its bytes.
+// Takes one byte a call, and none after a number of calls. Its bytes are known.
 #[derive(Drop)]
 pub struct FullWriter {
     pub written: Vec<u8>,

@@ -1,4 +1,4 @@
-//! What a viewer tells, answered, and requests where they are due.
+//! What a viewer's events ask for: its answers, and requests where they are due.
 
 ghost use Rattle.std.specs.Prelude.{◌≡◌, ◌≤◌, ◌<◌, ◌+◌, ◌-◌, ◌^◌, [], List, ℕ, IfOk, OnOk, OnErr};
 ghost use Rattle.rfb_viewer.specs.Model.{StandsFor};
@@ -18,7 +18,7 @@ use rfb_picture::Rect;
 use rfb_viewer::{Viewer, ViewerEvent};
 
 // Writes what a viewer answers and the request that is due then, unless no further update is looked
-// for; and tells how many are.
+// for. Returns how many are.
 pub(super) fn answer<W: Wire>(
     event: &Option<ViewerEvent>,
     left: u32,

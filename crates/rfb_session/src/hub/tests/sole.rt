@@ -2,7 +2,7 @@
 
 use super::*;
 
-// Viewers in the slots 1, 2, 5 and 7, of which that in 5 asks for the screen alone.
+// Viewers in the slots 1, 2, 5 and 7. The one in 5 asks for the screen alone.
 fn joined(hub: &mut Hub) -> bool {
     let mut all = true;
     for slot in [1, 2, 7] {

@@ -11,8 +11,8 @@ use arrayvec::ArrayVec;
 use std::mem;
 
 impl OwnerReader {
-    /// No more bytes come. It gives what came after the last newline, as if one ended it, if
-    /// anything did, and begins anew. A line of pixels whose bytes have not all come is refused.
+    /// No more bytes come. Gives what came after the last newline, if anything did, as if a newline
+    /// ended it, and begins anew. A line of pixels whose bytes have not all come is refused.
     pub fn end(&mut self) -> Option<Order>
         ensures { ClosesFrom self.old.screen self.old.stage result self.new }
     {

@@ -92,8 +92,8 @@ fn tell_change(seat: &mut ShareSeat, picture: &Picture<Colour>, damage: Option<R
     }
 }
 
-// What is told of a change in a rectangle. It lies on the picture; of one that would not the whole
-// picture is told.
+// What is told of a change in a rectangle. It lies on the picture. If it would not, a change of the
+// whole picture is told.
 fn change_in(picture: &Picture<Colour>, area: Rect, whole: Rect) -> Notice
     requires { whole ≡ rect 0 0 picture.now.width picture.now.height }
     ensures held { Holds picture.now (area_told result) }

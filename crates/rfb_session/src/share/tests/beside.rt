@@ -1,4 +1,4 @@
-//! Eight viewers, of which one is stuck, one floods, and one is at fault.
+//! Eight viewers: one is stuck, one floods, and one is at fault.
 
 use super::*;
 use crate::seats::Seats;

@@ -27,9 +27,9 @@ const ASKS_AND_TYPES: &[u8] = b"\x03\0\0\0\0\0\0\x02\0\x01\x04\x01\0\0\0\0\0\x61
 // Sections 7.6.1 and 7.7.1: the column of the first turn, moved to the left, and the second one.
 const UPDATE: &[u8] = b"\0\0\0\x01\0\0\0\0\0\x02\0\x01\0\0\0\0\x1E\x14\x0A\0\x42\x37\x2C\0";
 
-// What viewers sent comes to their seats, and keys go down. What is there moves to the left, and a
-// column comes from the right: it is blue until it has three bytes a place. Then each viewer is
-// sent what it lacks.
+// What viewers sent is received at their seats, and keys go down. What is there moves to the left,
+// and a column comes from the right: it is blue until it has three bytes a place. Then each viewer
+// is sent what it lacks.
 fn serve(
     share: &mut Share,
     came: &[(Seat, &[u8])],

@@ -25,7 +25,7 @@ const ASKS_FOUR: &[u8] = b"\x03\0\0\0\0\0\0\x04\0\x01";
 
 const ASKS_CHANGES_OF_FOUR: &[u8] = b"\x03\x01\0\0\0\0\0\x04\0\x01";
 
-// A viewer takes bytes of its server's up to what it tells next: the others.
+// A viewer takes bytes of its server's up to its next event: the others.
 fn fed<'a>(viewer: &mut Viewer, bytes: &'a [u8]) -> &'a [u8]
     requires { ∥ StandsOrFailed viewer.old ∥₁ }
     ensures { ∥ StandsOrFailed viewer.new ∥₁ }

@@ -35,7 +35,7 @@ fn empties_two(heard: &Heard) -> bool {
         && matches!(heard.event, Some(SeatEvent::Ready { shared: false }))
 }
 
-// Whether it tells that key "a" went down at seat 2, section 7.5.4.
+// Whether it says that key "a" went down at seat 2, section 7.5.4.
 fn tells_the_key(heard: &Heard) -> bool {
     heard.used == 8
         && heard.ended.is_empty()

@@ -1,4 +1,4 @@
--- The names so far stand for the keys.
+-- The names so far name the keys.
 use Rattle.std.proofs.Common.{◌≡◌, ◌≤◌, Some, length, map, take}
 use Rattle.rfb_session.specs.drive.Keys.{key_of}
 use Rattle.rfb_session.specs.language.Words.{texts}

@@ -19,7 +19,7 @@ called g c =
     hears_once g.A.Watcher.steps c.args.viewer.now c.feed.new.self c.args.watcher.now c.tell.new.watcher
     (take c.in-Ok.fed.used c.args.bytes.now) (seen c.in-Ok.fed.event) c.in-Ok.ensures.fed c.tell.ensures
 
--- it stands so after the request too
+-- it is so after the request too
 asked : (g : Over) (c : After-answer g) → HearsAll g.A.Watcher.steps c.args.viewer.now c.args.watcher.now
     (take c.in-Ok.fed.used c.args.bytes.now) (ends_told (seen c.in-Ok.fed.event)) c.answer.new.viewer
     c.tell.new.watcher

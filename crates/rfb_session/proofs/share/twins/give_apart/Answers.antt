@@ -6,7 +6,7 @@ use Rattle.rfb_session.proofs.GivenLemmas.{own_before}
 use Rattle.rfb_session.proofs.SlotLemmas.{seat_set_same}
 use Rattle.rfb_session.proofs.share.twins.give_apart.Goals as goal
 
--- ---- where the one that is given it stands before seat `own`
+-- ---- where the seat that is given it comes before seat `own`
 
 pub give-requires : goal.give-requires
 give-requires c =
@@ -37,7 +37,7 @@ returns-then-place-own-clause-given c =
     ∙ seat_set_same front c.args.place c.give.new.slot below)
     (OnTrue_at e c.give.ensures.given) (OnTrue_at e c.give.ensures.follows))
 
--- ---- and where it stands behind
+-- ---- and where it comes after it
 
 pub give-requires-else-place-own : goal.give-requires-else-place-own
 give-requires-else-place-own c =

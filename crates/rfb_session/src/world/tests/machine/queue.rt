@@ -17,7 +17,7 @@ pub(super) enum Act {
     Accepts,
     /// The viewer's ClientInit.
     Joins,
-    /// The fixed part of the server's ServerInit, which tells of the screen.
+    /// The fixed part of the server's ServerInit, which describes the screen.
     Starts,
     /// Its name, which ends the handshake.
     Names,

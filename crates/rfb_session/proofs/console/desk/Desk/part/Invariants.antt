@@ -1,4 +1,4 @@
--- The seats so far are told of.
+-- The seats so far are reported.
 use Rattle.rfb_session.specs.console.Viewers.{PartsUpTo}
 use Rattle.rfb_session.proofs.console.desk.Desk.part.Given as goal
 

@@ -1,4 +1,4 @@
--- The lines so far, of which each leaves less to run.
+-- The lines so far: each leaves less to run.
 use Rattle.std.proofs.Common.{length}
 use Rattle.rfb_session.specs.drive.driver.LineRun.{RunsLines}
 use Rattle.rfb_session.proofs.DriverLineLemmas.{IsFewer}
