@@ -23,7 +23,7 @@ last_of-more colour [] t = sym (later_none (colour t))
 last_of-more colour (u ∷ tiles) t = ap (λ (c : Option ℕ). later c (colour u)) (last_of-more colour tiles t)
     ∙ later_assoc (colour t) (last_of colour tiles) (colour u)
 
--- it stands after the last that specifies the colour, or is it
+-- it is after the last that specifies the colour, or is that one
 after_last-more : (colour : Tile → Option ℕ) (tiles : List Tile) (t : Tile) →
     after_last colour (tiles ++ t ∷ []) ≡ (if is_missing (colour t) then after_last colour tiles ++ t ∷ [] else [])
 after_last-more colour [] t = at_none (is_missing (colour t))

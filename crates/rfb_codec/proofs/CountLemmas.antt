@@ -9,13 +9,13 @@ use Rattle.rfb_codec.proofs.PlacesLemmas.{run_counted, run_passed, is_pixel, has
 use Rattle.rfb_codec.proofs.PlacesLemmas.{copies_passed}
 use Rattle.rfb_codec.proofs.TallyLemmas.{Yields}
 
--- its slot belongs to the pixel: at a slot stands the first place of its pixel and 1, or 0
+-- its slot belongs to the pixel: a slot holds the first place of its pixel, plus 1, or 0
 pub record IsOwner (slot : ℕ → ℕ) (pixels firsts : List ℕ) (p : ℕ) : Type 0 where
   pub taken : 0 < get_or firsts (slot p) 0
   pub is : get_or pixels (get_or firsts (slot p) 0 - 1) 0 ≡ p
 
--- the places before start are counted in the table, or stand aside; `most` of them have the best of
--- those in the table
+-- the places before start are counted in the table, or put aside; `most` of them have the best pixel in
+-- the table
 pub record Tallied (slot : ℕ → ℕ) (pixels firsts counts aside : List ℕ) (start better most : ℕ) : Type 0 where
   pub vacant : (p : ℕ) → get_or firsts (slot p) 0 ≡ 0 →
       (get_or counts (slot p) 0 ≡ 0) × (places_of p (take start pixels) ≡ 0)

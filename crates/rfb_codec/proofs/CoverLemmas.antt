@@ -25,7 +25,7 @@ parts_more width height pixels background (t ∷ subs) s old one =
 
 -- ---- places
 
--- place (i, j) is passed where the scan stands at (x, y), or lies above the row u that its column is covered up to
+-- place (i, j) is passed by a scan at (x, y), or lies above the row u that its column is covered up to
 abbrev pub is_done : ℕ → ℕ → ℕ → ℕ → ℕ → Bool
 is_done x y u i j = nat_lt j y || (nat_eq j y && nat_lt i x) || nat_lt j u
 

@@ -127,7 +127,7 @@ sends_one f w h pixels subs carried background specified none size tile some sma
       };
     }
 
--- two pixels, of which the subrectangles have the foreground
+-- two pixels; the subrectangles have the foreground
 pub sends_two : (f : PixelFormat) (w h : ℕ) (pixels : List ℕ)
     (subs : List Subrect) (carried : Carried) (background foreground : ℕ) (specified named_too : Option ℕ) →
     length pixels ≡ h * w → IsTileSize w h → ArePixels f pixels → IsPixel f background → IsPixel f foreground →
@@ -167,7 +167,7 @@ sends_two f w h pixels subs carried background foreground specified named_too si
       };
     }
 
--- more, of which each subrectangle has its own; no foreground is left
+-- more pixels; each subrectangle has its own, and no foreground is left
 pub sends_more : (f : PixelFormat) (w h : ℕ) (pixels : List ℕ) (subs : List Subrect) (carried : Carried)
     (background : ℕ) (specified : Option ℕ) → length pixels ≡ h * w → IsTileSize w h → ArePixels f pixels →
     IsPixel f background → IsCover w h pixels background subs → IsNamed specified carried.background background →

@@ -35,7 +35,7 @@ pixel_waits f all count pixels pending more body s left short = record {
   ended = λ e. absurd (omega arith);
 }
 
--- whole pixels more, of which the first bytes were pending
+-- whole pixels more, whose first bytes were pending
 pub pixels_end : (f : PixelFormat) (all count n : ℕ) (pixels pending more body : List ℕ) →
     SpellsPixels f all count pixels pending body → count + n ≤ all → 0 < size_of f → length (pending ++ more)
     ≡ n * size_of f → SpellsPixels f all (count + n) (pixels ++ (pending ++ more)) [] (body ++ more)
@@ -97,8 +97,8 @@ some_places h w high wide =
 
 -- ---- a step
 
--- some of the bytes are taken to a stage of the same encoding, what stood for data stands for them with these,
--- and the picture keeps its size
+-- some of the bytes are taken to a stage of the same encoding; what stood for data stands for them with
+-- these, and the picture keeps its size
 pub takes_on : {r : Rectangle} {stage : Stage} {pending : List ℕ} {picture : Grid Colour} {bytes : List ℕ}
     {step : Step} {rest : List ℕ} {now : Grid Colour} → 0 < step.used → step.used ≤ length bytes →
     is_sound r.format r.rect step.stage (length rest) ≡ true → encoding_at step.stage ≡ encoding_at stage →

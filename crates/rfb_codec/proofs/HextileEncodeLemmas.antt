@@ -131,7 +131,7 @@ column_below w x p =
     let c = mod_below (w + 15) 16 (omega arith) in
     elim (cases_lt (x / 16) ((w + 15) / 16)) [ inl l ↦ l | inr l ↦ omega (arith, a, b, c, l) ]
 
--- the column of tiles that a place's tile stands in, and its row
+-- the column of tiles that a place's tile is in, and its row
 pub column_of : (w x y : ℕ) → x < w → tile_at w x y % across w ≡ x / 16
 column_of w x y p = mod-mul-add (y / 16) (across w) (x / 16) (column_below w x p)
 

@@ -219,7 +219,7 @@ long_parts size room limit (part ∷ parts) some is more few =
 
 module _ (f : PixelFormat) (w h : ℕ) (pixels : List ℕ) (held : Held) (whole : length pixels ≡ h * w)
     (small : length pixels ≤ 256) where
-  -- two pixels, of which too many subrectangles would be needed
+  -- two pixels that would need too many subrectangles
   pub two_no_shorter : (b g limit : ℕ) (some : List Subrect) → HasPalette (Two b g) pixels →
       limit ≡ min 255 (raw_length f w h / 2) → IsGivenUp w h pixels b limit some →
       (drawn : Tile) → IsDrawn w h pixels held drawn → 1 + raw_length f w h ≤ tile_length f drawn

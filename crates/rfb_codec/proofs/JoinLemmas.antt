@@ -66,7 +66,7 @@ tile_waits f rect n seen pending more xs now before body some is short stands =
     tile_stays f rect n seen pending more xs now before body is
     (λ tiles number sees begins. rw is (begins_still f rect.w rect.h tiles pending more some short' begins)) stands
 
--- ---- what the tests tell
+-- ---- what follows from the tests
 
 inside_row : (n s x y w h : ℕ) → (w == 0 || nat_le h y) ≡ false →
     (nat_lt n s && (w == 0 || nat_lt x w)) ≡ true → (x < w) × (y < h)

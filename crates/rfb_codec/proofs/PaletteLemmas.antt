@@ -36,7 +36,7 @@ two_counted a b pixels differ each =
     let all : take (length pixels) pixels ≡ pixels = take_all (length pixels) pixels (omega arith) in
     rw all at (counted_up_to a b (length pixels) pixels differ each (omega arith))
 
--- each place has one of two pixels, of which so many have the first and so many the second
+-- each place has one of two pixels: so many the first and so many the second
 pub record AreTwo (pixels : List ℕ) (first second firsts seconds : ℕ) : Type 0 where
   pub has_first : IsPixelOf pixels first
   pub has_second : IsPixelOf pixels second

@@ -75,7 +75,7 @@ mask_judged : (fault : Option PaintFault) (mask : ℕ) (rest : List ℕ) (k : �
 mask_judged None mask rest k e = e
 mask_judged (Some told) mask rest k e = cc
 
--- what stands after a mask
+-- what comes after a mask
 colour_suffices : (f : PixelFormat) (flag : Bool) → Suffices (size_of f) (optional flag (tile_colour f))
 colour_suffices f flag =
     optional_suffices (size_of f) flag (tile_colour f) (valued_suffices (size_of f) (pixel_number f))

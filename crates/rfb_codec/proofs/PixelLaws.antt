@@ -20,7 +20,7 @@ sized-drawn w h c = record {
   whole = whole-changed (λ x y old. c x y) (uniform w h 0) (whole-uniform w h 0);
 }
 
--- what stands at a place of it
+-- the value at a place of it
 pub at-drawn : (w h : ℕ) (c : ℕ → ℕ → ℕ) (x y d : ℕ) → x < w → y < h → at_or (drawn w h c) x y d ≡ c x y
 at-drawn w h c x y d p q =
     let across : x < (uniform w h 0).width = subst (λ (n : ℕ). x < n) (sym (width-uniform w h 0)) p in

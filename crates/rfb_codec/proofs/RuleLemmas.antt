@@ -41,7 +41,7 @@ next_push width height pixels background before (t ∷ subs) s (here, rest) one 
       height pixels background l s) (sym (append_assoc before (t ∷ []) subs)) one),
 )
 
--- ---- the scan stands at (x, y)
+-- ---- the scan is at (x, y)
 
 -- the subrectangles so far are the rule's, they reach down to each column's row in until, and no
 -- place before is left

@@ -76,7 +76,7 @@ run_place rect row column n x y wide high = by (contains rect x y) refl
         let inside : contains rect x y ≡ true = within rect row column n x y wide high h in
         cc))
 
--- what stands at a place of the picture with a run more
+-- the value at a place of the picture with a run more
 painted_place : {A : Type 0} (first run : Bool) (written before now old : A) →
     (run ≡ true → written ≡ now) → (run ≡ false → first ≡ true → before ≡ now) →
     (if run then written else (if first then before else old)) ≡ (if first || run then now else old)

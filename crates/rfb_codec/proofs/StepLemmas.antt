@@ -62,7 +62,7 @@ more_than_allowed slot pixels firsts start limit below vacant old = record {
 
 -- ---- the steps of the loop, where the code's slot is that of the pixel
 
--- at `start` both tables have all slots, the places before are counted or stand aside, and the owners of
+-- at `start` both tables have all slots, the places before are counted or put aside, and the owners of
 -- slots and the pixels still allowed are together the limit
 pub record Counting (slot : ℕ → ℕ) (slots : ℕ) (pixels firsts counts aside : List ℕ)
     (start better most free limit : ℕ) : Type 0 where

@@ -33,7 +33,7 @@ use Rattle.rfb_codec.proofs.VerdictLemmas.{refused_with, stage_waits}
 
 -- ---- a fault
 
--- of data of which the bytes say that they end in it
+-- of data whose bytes say that they end in it
 data_bad : (f : PixelFormat) (rect : Rect) (encoding : Encoding) (before : Grid Colour)
     (body : List ℕ) (fault : PaintFault) → FaultsData f before.width before.height rect encoding fault body →
     rect_data f before.width before.height rect encoding body ≡ Bad fault

@@ -150,7 +150,7 @@ sort_left items sorted new same is =
     let all : take (length items) new ≡ new = take_all (length items) new (omega arith) in
     is ∙ front ∙ all
 
--- the runs before `start` are passed: what they hold comes before what stands there
+-- the runs before `start` are passed: their pixels are less than the one there
 pub record PassedTo (sorted : List ℕ) (start first before better most : ℕ) : Type 0 where
   pub within : start ≤ length sorted
   pub apart : start < length sorted → (k : ℕ) → k < start → get_or sorted k 0 < get_or sorted start 0

@@ -58,7 +58,7 @@ decide_neither a b c =
     ]
 
 module _ (w h : ℕ) (pixels : List ℕ) (held : Held) (whole : length pixels ≡ h * w) (some : 0 < length pixels) where
-  -- two pixels are there, of which the first is the background, and no third
+  -- two pixels are there and no third; the first is the background
   drawn_over : (b p q : ℕ) → IsBackground pixels b → b ≡ p → IsPixelOf pixels q → q ≢ p →
       ((i : ℕ) → i < length pixels → (slice_index pixels i ≡ p) ⊎ (slice_index pixels i ≡ q)) →
       (tile : Tile) × IsDrawn w h pixels held tile

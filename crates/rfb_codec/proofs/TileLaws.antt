@@ -23,9 +23,9 @@ use Rattle.rfb_codec.specs.Tile.{tile_fault, tile_after}
 use Rattle.rfb_codec.proofs.TilePartLaws.{colored_reads, counted_reads, counted_says, never, pixel_reads, pixel_says}
 use Rattle.rfb_codec.proofs.TilePartLaws.{place_reads}
 
--- ---- what stands after a mask
+-- ---- what comes after a mask
 
--- an optional part of which none is refused has no fault
+-- an optional part has no fault where none of it is refused
 no_fault : (flag : Bool) (fault : PaintFault) (bytes : List ℕ) → FaultIf flag never fault bytes → ⊥
 no_fault false fault bytes none = none
 no_fault true fault bytes none = none

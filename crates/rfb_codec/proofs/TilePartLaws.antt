@@ -111,7 +111,7 @@ colored_reads f = same_reads (valued (size_of f + 2) (colored_of f)) (valued_say
 -- ---- counted parts
 
 module _ {A : Type 0} where
-  -- parts of which none is refused
+  -- parts where none is refused
   abbrev calm : (A → List ℕ → Type 0) → Says A PaintFault
   calm R = record { item = R; fault = never }
 

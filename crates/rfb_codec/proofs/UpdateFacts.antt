@@ -1,4 +1,4 @@
--- What stands next in all that a server sends, computed from the grammar, on a screen of 2 by 1.
+-- What comes next in all that a server sends, computed from the grammar, on a screen of 2 by 1.
 use Rattle.std.proofs.Common.{◌≡◌, [], ◌∷◌, refl}
 use Rattle.std.specs.Prelude.{negsuc}
 use Rattle.rfb_pixel.specs.Format.{bgr233}

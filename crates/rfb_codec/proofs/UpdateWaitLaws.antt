@@ -1,4 +1,4 @@
--- What stands next in an update, by what its parts tell: messages, heads of rectangles, and their data.
+-- What comes next in an update, as its parts decide: messages, heads of rectangles, and their data.
 use Rattle.std.proofs.Common.{◌≡◌, ℕ, zero, suc, ◌-◌, ◌<◌, List, [], ◌++◌, length, refl, sym, ◌∙◌, ap, arith}
 use Rattle.std.proofs.Common.{append_assoc}
 use Rattle.rfb_pixel.specs.declared.colour.Colour.{Colour}
@@ -40,7 +40,7 @@ pub past_left : (p : UpdatePoint) (item : UpdateItem) →
 unfolding update_stream
 past_left p item = refl
 
--- ---- what stands next
+-- ---- what comes next
 
 pub at_message : (p : UpdatePoint) (bytes : List ℕ) → p.left ≡ 0 →
     update_stream.next p bytes ≡ renamed (λ message. Message message) (λ fault. InMessage fault) server_message bytes

@@ -1,4 +1,4 @@
--- Whether data have ended, by the stage that they have come to.
+-- Whether data have ended, by the stage that they have reached.
 use Rattle.std.proofs.Common.{◌≡◌, ℕ, zero, suc, ◌+◌, ◌*◌, ◌<◌, ◌≤◌, ◌||◌, ◌==◌, nat_le, nat_lt, ◌&&◌, List, [], ◌∷◌}
 use Rattle.std.proofs.Common.{◌++◌, true, false, length, take, refl, sym, subst, ◌∙◌, ap, append-nil, arith}
 use Rattle.std.proofs.Common.{length-append}

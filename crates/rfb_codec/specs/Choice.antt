@@ -1,5 +1,5 @@
 -- This project's rule for senders: which background is chosen for the pixels of a block or a tile,
--- and which subrectangles over it; and when RRE gives a block up. Pixels stand row by row.
+-- and which subrectangles over it; and when RRE gives a block up. Pixels are row by row.
 use Rattle.std.specs.Prelude.{◌≡◌, ◌≢◌, ℕ, ◌+◌, ◌*◌, ◌<◌, ◌≤◌, ◌||◌, ◌⊎◌, Bool, false, nat_eq, count_by, List, [], ◌∷◌}
 use Rattle.std.specs.Prelude.{◌++◌, length, slice_index}
 use Rattle.std.specs.List.{flat_map}
@@ -56,9 +56,9 @@ abbrev pub IsFreeRun : ℕ → List ℕ → List Subrect → ℕ → ℕ → ℕ
 IsFreeRun width pixels subs pixel x end y =
     (i : ℕ) → x ≤ i → i < end → IsFree width pixels subs pixel i y
 
--- after those subrectangles comes this one: it begins at the first place that is left, and has its
--- pixel; its first row is the longest run of free places, and as many further rows belong to it as
--- are free under the whole run
+-- after those subrectangles comes this one. It begins at the first place that is left, and has its
+-- pixel. Its first row is the longest run of free places. As many further rows belong to it as are
+-- free under the whole run
 pub record IsNextSub (width height : ℕ) (pixels : List ℕ) (background : ℕ) (before : List Subrect)
     (s : Subrect) : Type 0 where
   pub inside : IsOnScreen width height s.rect

@@ -26,8 +26,8 @@ effect p (Rectangle head body) picture =
     painted_by p.form head.rect
     (rect_data p.form p.width p.height head.rect head.encoding body) picture
 
--- what items make of it, one after another. Where in the stream they stand does not matter, but
--- for the screen's size and the format, which no item changes
+-- what items make of it, one after another. Where in the stream they are does not matter, but for
+-- the screen's size and the format, which no item changes
 abbrev pub effects : UpdatePoint → List UpdateItem → Grid Colour → Grid Colour
 effects p [] picture = picture
 effects p (item ∷ items) picture = effects p items (effect p item picture)
@@ -59,7 +59,7 @@ IsRecorded rect block known now =
     (if contains rect x y then Some (at_or block (x - rect.x) (y - rect.y) 0) else
     at_or known x y None)
 
--- the same of data: a copy takes along what is known of its source, and that nothing is
+-- the same of data: a copy takes along what is known of its source, and what is not
 abbrev pub noted : Rect → RectData → Grid (Option ℕ) → Grid (Option ℕ)
 noted rect (Pixels block) known = recorded rect block known
 noted rect (Source x y) known = copied rect x y known

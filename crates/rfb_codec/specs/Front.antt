@@ -1,7 +1,7 @@
--- What data of a rectangle begin with, RFC 6143 section 7.7: pieces, each of which is shown at its
--- last byte, and the bytes of the piece after them. The pieces are the source of a CopyRect, a
--- pixel of Raw or of a raw tile, RRE's number with its background, a subrectangle of RRE, and a
--- tile that is not raw.
+-- What data of a rectangle begin with, RFC 6143 section 7.7: pieces, each shown at its last byte,
+-- and the bytes of the piece after them. The pieces are the source of a CopyRect, a pixel of Raw
+-- or of a raw tile, RRE's number with its background, a subrectangle of RRE, and a tile that is
+-- not raw.
 use Rattle.std.specs.Prelude.{◌≡◌, ℕ, ◌+◌, ◌-◌, ◌*◌, ◌/◌, ◌%◌, ◌<◌, ◌≤◌, ◌&&◌, nat_lt, true, false, List, [], ◌∷◌, ◌++◌}
 use Rattle.std.specs.Prelude.{length, if◌then◌else◌}
 use Rattle.rfb_pixel.specs.declared.colour.Colour.{Colour}

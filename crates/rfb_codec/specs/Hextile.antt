@@ -118,7 +118,7 @@ abbrev pub NoneIs : (Tile → Bool) → List Tile → Type 0
 NoneIs test [] = Unit {0}
 NoneIs test (t ∷ tiles) = (test t ≡ false) × NoneIs test tiles
 
--- a tile after others: where it is not raw and names no background, no raw one stands after the
+-- a tile after others: where it is not raw and names no background, no raw one comes after the
 -- tile that specified it; where it uses a foreground and names none, no raw or coloured one does
 pub record KeepsRule (before : List Tile) (t : Tile) : Type 0 where
   pub background : is_raw_tile t ≡ false → background_of t ≡ None →

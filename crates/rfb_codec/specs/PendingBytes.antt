@@ -1,7 +1,7 @@
--- Pending bytes of all that a server sends: those of an item under way that stand after its last
--- whole piece. Of a rectangle's data, RFC 6143 section 7.7, a piece is a pixel of Raw; the source
--- of CopyRect; of RRE the count with the background, and a subrectangle; of Hextile a pixel of a
--- raw tile, and any other tile with its mask.
+-- Pending bytes of all that a server sends: those of an item under way after its last whole piece.
+-- The pieces of a rectangle's data, RFC 6143 section 7.7, depend on its encoding. Raw has pixels.
+-- CopyRect has its source. RRE has the count with the background, and subrectangles. Hextile has the
+-- pixels of a raw tile, and any other tile with its mask.
 use Rattle.std.specs.Prelude.{ℕ, zero, suc, ◌+◌, List, [], ◌∷◌, ◌++◌, length, take, if◌then◌else◌}
 use Rattle.rfb_pixel.specs.Format.{PixelFormat, size_of}
 use Rattle.rfb_picture.specs.declared.rect.Rect.{Rect}
@@ -20,7 +20,7 @@ use Rattle.rfb_codec.specs.UpdateStream.{UpdatePoint}
 
 -- ---- Hextile
 
--- of a tile under way: its pixel under way where it is raw, whose mask is no longer needed; else
+-- of a tile under way: those of a pixel where it is raw, since its mask is no longer needed; else
 -- all its bytes with the mask
 abbrev pub tile_pending : PixelFormat → List ℕ → ℕ
 tile_pending f [] = 0

@@ -119,7 +119,7 @@ replaced f rect block picture =
     old) picture
 
 -- what the data make of a picture: pixels replace the rectangle's, and a source is copied as it
--- stood
+-- was
 abbrev pub painted : PixelFormat → Rect → RectData → Grid Colour → Grid Colour
 painted f rect (Pixels block) picture = replaced f rect block picture
 painted f rect (Source x y) picture = copied rect x y picture

@@ -21,7 +21,7 @@ use Rattle.rfb_codec.specs.RectData.{rect_data}
 use Rattle.rfb_codec.specs.Front.{NoSource, TheSource, SomePixels, NoHead, SomeParts, SomeTiles, SomeOfRaw, Shows}
 use Rattle.rfb_codec.specs.Front.{ShowsFront}
 
--- how many places stand before one, row by row
+-- how many places come before one, row by row
 abbrev pub places_before : ℕ → Place → ℕ
 places_before width at = at.y * width + at.x
 

@@ -1,5 +1,5 @@
--- A tile of Hextile, RFC 6143 section 7.7.4: its mask, what stands after it, and the faults of
--- both. Colours that are carried from tile to tile past a raw or a coloured one are this project's
+-- A tile of Hextile, RFC 6143 section 7.7.4: its mask, what follows it, and the faults of both.
+-- That colours are carried from tile to tile past a raw or a coloured one is this project's
 -- choice.
 use Rattle.std.specs.Prelude.{◌≡◌, ℕ, ◌+◌, ◌-◌, ◌*◌, ◌/◌, ◌%◌, ◌≤◌, ◌<◌, ◌==◌, ◌&&◌, not, Bool, true, false, List, []}
 use Rattle.std.specs.Prelude.{◌∷◌, ◌++◌, length, drop, map, Option, Some, None, bit_and, if◌then◌else◌}

@@ -16,7 +16,7 @@ use Rattle.rfb_codec.specs.declared.fault.PaintFault.{PaintFault}
 use Rattle.rfb_codec.specs.RectData.{RectData, SpellsData, FaultsData, rect_data}
 
 -- a point of the stream: the screen's size, the format in force, and how many rectangles are left
--- of the update that it stands in
+-- of the update that it is in
 pub record UpdatePoint : Type 0 where
   pub width : ℕ
   pub height : ℕ
@@ -59,7 +59,7 @@ pub record FaultsInData (p : UpdatePoint) (fault : PaintFault) (bytes : List ℕ
   pub on_screen : IsOnScreen p.width p.height head.rect
   pub back_is : FaultsData p.form p.width p.height head.rect head.encoding fault back
 
--- the bytes are this item, by how many rectangles are left: inside an update rectangles alone stand
+-- the bytes are this item, by how many rectangles are left: an update has rectangles alone
 abbrev pub SpellsNext : UpdatePoint → ℕ → UpdateItem → List ℕ → Type 0
 SpellsNext p zero (Message message) bytes = SpellsServerMessage message bytes
 SpellsNext p zero (Rectangle head body) bytes = ⊥
@@ -89,7 +89,7 @@ rectangle p =
     (λ head. renamed (λ body. Rectangle head body) (λ fault. InData fault)
     (kept (rect_data p.form p.width p.height head.rect head.encoding)))
 
--- what stands next, by how many rectangles are left
+-- what comes next, by how many rectangles are left
 abbrev pub next_item : UpdatePoint → ℕ → Reading UpdateItem UpdateFault
 next_item p zero = renamed (λ message. Message message) (λ fault. InMessage fault) server_message
 next_item p (suc left) = rectangle p

@@ -129,7 +129,8 @@ impl Block {
         &self.pixels()[start..start + columns]
     }
 
-    /// Lends its pixels, row by row from the top. It also tells that there is one for each place.
+    /// Lends its pixels, row by row from the top. Its contract also says that there is one for each
+    /// place.
     #[inline]
     pub(crate) fn pixels(&self) -> &[u32]
         ensures value { result.now ≡ self.now.places }

@@ -11,8 +11,8 @@ pub enum PaintFault {
     /// A tile of Hextile is drawn over a background, and none was specified in its rectangle.
     #[error("11 NoBackground")]
     NoBackground,
-    /// Subrectangles without pixels of their own stand in a tile, and no foreground was specified
-    /// in its rectangle.
+    /// A tile has subrectangles without pixels of their own, and no foreground was specified in
+    /// its rectangle.
     #[error("12 NoForeground")]
     NoForeground,
     /// A tile has a foreground and subrectangles with pixels of their own.
@@ -26,8 +26,7 @@ pub enum PaintFault {
 /// With which byte a fault came.
 #[derive(Clone, Copy, Debug, PartialEq, Eq)]
 pub struct Flaw {
-    /// How many of the bytes, from the first on, show it: the last of them is the first byte with
-    /// which they do.
+    /// How many of the bytes, from the first on, show it. One fewer would not.
     pub used: usize,
     /// What is wrong there.
     pub fault: PaintFault,

@@ -7,7 +7,7 @@
 //!
 //! 1. `Block::pack` takes its pixels of a picture, in the format that the viewer wants.
 //! 2. The caller makes room for the pixels as Raw has them, and appends the rectangle's head.
-//! 3. `Codec::encode`, of `Rre` or `Hextile`, appends the data, or tells that it gives the block
+//! 3. `Codec::encode`, of `Rre` or `Hextile`, appends the data, or reports that it gives the block
 //!    up. Then `Raw` takes it, which never does. A head names the encoding that was taken,
 //!    `NUMBER`.
 //! 4. For a CopyRect `spell_source` has the four bytes.
@@ -16,7 +16,7 @@
 //!
 //! 1. `Painter::new` once its head is read: where it lies, its encoding, the format in force.
 //! 2. `feed` with each slice and the picture, until it is done. What it did not use is of the next
-//!    rectangle. `take` does the same, and a fault tells its byte.
+//!    rectangle. `take` does the same, and a fault names its byte.
 //!
 //! | Bytes | Go to |
 //! |---|---|

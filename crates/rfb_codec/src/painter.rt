@@ -37,8 +37,8 @@ pub struct Painted {
 }
 
 /// A rectangle of an update whose data come in slices, RFC 6143 section 7.7: where it lies, the
-/// format of its pixels, and how far its data have come. The picture is the caller's, and is lent
-/// at each call.
+/// format of its pixels, and how far its data have come. The picture is the caller's; each call
+/// borrows it.
 ///
 /// Data are pieces: the source of a CopyRect, a pixel of Raw or of a raw tile, RRE's count with its
 /// background, a subrectangle of RRE, and a tile that is not raw. A painter shows each at its last
@@ -90,10 +90,10 @@ impl Painter {
     /// Takes bytes of the rectangle's data up to their last one, and paints each piece of them at
     /// its last byte. A rectangle without data is painted at once, by the empty slice too.
     ///
-    /// - `SubrectOutside` at the last byte of a subrectangle that leaves the rectangle, or of a tile
-    ///   that one leaves
-    /// - `NoBackground`, `BothColourBits` and `NoForeground` at a tile's mask, in that order
-    /// - `SourceOutside` at the last byte of a source that leaves the picture
+    /// - `SubrectOutside` at the last byte of a subrectangle that leaves the rectangle, or of a
+    ///   tile that one leaves.
+    /// - `NoBackground`, `BothColourBits` and `NoForeground` at a tile's mask, in that order.
+    /// - `SourceOutside` at the last byte of a source that leaves the picture.
     ///
     /// The picture then shows the pieces before that one, and the painter is not fed again.
     pub fn feed(

@@ -22,7 +22,8 @@ pub fn paint_pixels(format: Format, rect: Rect, bytes: &[u8], picture: &mut Pict
     ensures width { picture.new.width ≡ picture.old.width }
     ensures height { picture.new.height ≡ picture.old.height }
 {
-    // It tells too that the picture has a colour at each place, and numbers these in 16 bits.
+    // This also shows that the picture has a colour at each place, and that places are numbered in
+    // 16 bits.
     prove!(rect.w <= picture.width() && rect.h <= picture.height());
     paint_rows(format, rect, bytes, picture);
 }

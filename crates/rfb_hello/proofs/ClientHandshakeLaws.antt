@@ -21,7 +21,7 @@ use Rattle.rfb_hello.proofs.VersionLaws.{text_true, text_test, text_false}
 
 -- ---- the version
 
--- the fault of twelve bytes, by the tests that tell it
+-- the fault of twelve bytes, by the tests that decide it
 version_good : (offer : Version) (bytes : List ℕ) → length bytes ≡ 12 → client_version_fault offer bytes ≡ None →
     SpellsVersion (version_of bytes) bytes × (minor_of (version_of bytes) ≤ minor_of offer)
 version_good offer bytes size e =

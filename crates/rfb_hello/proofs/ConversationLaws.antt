@@ -54,7 +54,7 @@ choice_heard : (offer v : Version) (shared : Bool) → ReadsAll (client_handshak
 choice_heard offer v true = (1 ∷ [], refl, ([], refl, refl))
 choice_heard offer v false = (0 ∷ [], refl, ([], refl, refl))
 
--- what stands after the versions
+-- what comes after the versions
 after : (v : Version) (server : ServerSetup) (viewer : ViewerSetup) → IsSetup viewer.max_places server →
     Converse server viewer (after_version v) (AwaitsSecurity v) (ByServer (security_bytes v ++ []))
     (turns_after_versions v viewer.shared server) (ClientBegun v viewer.shared) (Begun v server.width server.height)

@@ -38,7 +38,7 @@ server_pending_is (ClientInitPart v) point prefix h = rw (h.0, h.1) refl
 server_pending_is (ServerDone v shared) point prefix h = rw h.0 refl
 server_pending_is (ServerFailed fault) point prefix h = absurd h
 
--- after the bytes that stand before a reason
+-- after the bytes that come before a reason
 opened_pending : (cause : Cause) (point : ServerPoint) (intro tail : List ℕ) → OpensReason cause point intro →
     server_handshake_pending point (intro ++ tail) ≡ reason_pending tail
 opened_pending Refused (AwaitsSecurity V33) intro tail h = past_piece 4 reason_pending intro tail h.0

@@ -1,4 +1,4 @@
--- The version and the security types of a server's handshake, as they stand in its stream.
+-- The version and the security types of a server's handshake, as they are in its stream.
 use Rattle.std.proofs.Common.{◌≡◌, ◌≢◌, ℕ, inl, inr, Bool, true, false, List}
 use Rattle.std.proofs.Common.{Option, Some, None, if◌then◌else◌, length, refl, sym, subst, ap}
 use Rattle.rfb_wire.specs.Fields.{u8_at, u32_at}

@@ -1,4 +1,4 @@
--- Texts of which the first bytes are kept.
+-- Texts whose first bytes are kept.
 use Rattle.std.proofs.Common.{◌≡◌, ℕ, ◌≤◌, ◌+◌, ◌-◌, List, [], ◌++◌, length, take, min, nat_le, Bool, true, false, refl}
 use Rattle.std.proofs.Common.{sym, ◌∙◌, ap, arith}
 use Rattle.std.proofs.lemmas.Bool.Decides.{nat_tests}

@@ -64,7 +64,7 @@ letters_test : (bytes : List ℕ) →
     (u8_at 0 bytes ≡ 82) × (u8_at 1 bytes ≡ 70) × (u8_at 2 bytes ≡ 66) × (u8_at 3 bytes ≡ 32) → has_letters bytes ≡ true
 letters_test bytes (a, b, c, d) = rw (a, b, c, d) refl
 
--- the test tells of twelve bytes whether they are a text
+-- the test decides whether twelve bytes are a text
 pub text_true : (bytes : List ℕ) → length bytes ≡ 12 → is_version_text bytes ≡ true → IsVersionText bytes
 text_true bytes size e =
     let last = both (has_letters bytes && are_digits 4 bytes && u8_at 7 bytes == 46 && are_digits 8 bytes)

@@ -212,7 +212,7 @@ step_there setup old new n slice there result known same is steps =
     (StandsFor setup) old (take n there) r new) is
     (subst (λ (xs : List ℕ). StepsBy (viewer_end setup) (StandsFor setup) old (take n xs) result new) same steps)
 
--- ---- a slice of which some bytes were taken before, and the types that are kept
+-- ---- a slice with some bytes taken before, and the types that are kept
 
 pub offer_later : (fault : HelloFault) (old mid new : ViewerHello) (i n : ℕ) (bytes : List ℕ) →
     ((setup : ViewerSetup) → FedBy (viewer_end setup) (StandsFor setup) old (take i bytes) None mid) →

@@ -59,7 +59,7 @@ result_fails : (word : ℕ) (tail : List ℕ) → word ≢ 0 →
 result_fails zero tail not = absurd (not refl)
 result_fails (suc word) tail not = refl
 
--- after the bytes that stand before a reason
+-- after the bytes that come before a reason
 pub opened : (max : ℕ) (cause : Cause) (point : ServerPoint) (intro tail : List ℕ) → OpensReason cause point intro →
     server_item max point (intro ++ tail) ≡ reason (λ n. fault_for cause n) tail
 opened max Refused (AwaitsSecurity V33) intro tail h =

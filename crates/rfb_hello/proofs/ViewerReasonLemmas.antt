@@ -253,7 +253,7 @@ module _ (old new : ViewerHello) (cause : Cause) (n more used : ℕ) (kept : Kep
 
 -- ---- what is kept of a reason
 
--- a slice of which some bytes were taken before
+-- a slice with some bytes taken before
 pub kept_later : (fault : HelloFault) (old mid new : ViewerHello) (i n : ℕ) (bytes : List ℕ) →
     ((setup : ViewerSetup) → FedBy (viewer_end setup) (StandsFor setup) old (take i bytes) None mid) →
     KeepsReason fault mid (take n (drop i bytes)) new → KeepsReason fault old bytes new

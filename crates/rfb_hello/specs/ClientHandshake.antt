@@ -12,7 +12,7 @@ use Rattle.rfb_hello.specs.declared.fault.HelloFault.{HelloFault}
 use Rattle.rfb_hello.specs.declared.fault.HelloFault.TheVariants.{BadVersion, VersionTooHigh, BadSecurityChoice}
 use Rattle.rfb_hello.specs.Version.{IsVersionText, SpellsVersion, is_version_text, version_of, minor_of}
 
--- where a client's bytes stand in the handshake, and after it
+-- where a client's bytes are in the handshake, and after it
 pub data ClientPoint : Type 0 where
   AwaitsVersion : ClientPoint
   AwaitsChoice : (version : Version) → ClientPoint

@@ -65,7 +65,7 @@ turns_after_versions V38 shared setup =
 abbrev pub version_used : ServerSetup → ViewerSetup → Version
 version_used server viewer = lower viewer.limit server.offer
 
--- the whole: each end's version, and what stands after these
+-- the whole: each end's version, and what comes after these
 abbrev pub conversation : ServerSetup → ViewerSetup → List Turn
 conversation server viewer =
     FromServer (ServerVersion server.offer ∷ []) (version_text server.offer)
@@ -96,9 +96,9 @@ server_answers setup point items = ByServer (server_replies (told (server_end se
 abbrev pub viewer_answers : ViewerSetup → ServerPoint → List ServerItem → Said
 viewer_answers setup point items = ByViewer (viewer_replies (told (viewer_end setup) point items))
 
--- turn by turn: what was said are the bytes of the turn; the end that hears them reads them as its
--- items, with nothing left; and what is said next is its answer to these. At the last the viewer
--- has nothing to say, and each end stands at its point
+-- turn by turn. What was said are the bytes of the turn. The end that hears them reads them as its
+-- items, with nothing left, and what is said next is its answer to these. At the last the viewer
+-- has nothing to say, and each end is at its point
 abbrev pub Converse : ServerSetup → ViewerSetup → ClientPoint → ServerPoint → Said → List Turn →
     ClientPoint → ServerPoint → Type 0
 Converse server viewer at_server at_viewer said [] server_end_at viewer_end_at =

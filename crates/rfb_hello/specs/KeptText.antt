@@ -1,4 +1,4 @@
--- A text of which no more is kept than there is room for.
+-- A text that is kept as far as there is room for it.
 use Rattle.std.specs.Prelude.{ℕ, List, [], take, min}
 
 -- the most bytes that are kept of a text, and those that are
@@ -6,7 +6,7 @@ pub record KeptText : Type 0 where
   pub room : ℕ
   pub bytes : List ℕ
 
--- what is kept of a text of that length, of which these have come, under a limit
+-- what is kept of a text of that length, once these bytes have come, under a limit
 abbrev pub kept_of : ℕ → ℕ → List ℕ → KeptText
 kept_of limit size text = record { room = min size limit; bytes = take limit text }
 

@@ -1,7 +1,7 @@
--- Pending bytes of a handshake: those that stand after the last whole piece. Pieces are a
--- version's text, the word of 3.3, the count of the security types and each of these, the word of
--- SecurityResult, the length of a reason and each byte of it, ServerInit up to the name and each
--- byte of that; a client's are its version's text, its choice and ClientInit.
+-- Pending bytes of a handshake: those after the last whole piece. A server's pieces are a version's
+-- text, the word of 3.3, and the count of the security types and each of these. Then come the word
+-- of SecurityResult, the length of a reason and each byte of it, and ServerInit up to the name and
+-- each byte of that. A client's are its version's text, its choice and ClientInit.
 use Rattle.std.specs.Prelude.{ℕ, zero, suc, List, [], ◌∷◌}
 use Rattle.rfb_wire.specs.stream.PendingBytes.{in_pieces, after_piece}
 use Rattle.rfb_hello.specs.declared.version.Version.{Version}

@@ -15,7 +15,7 @@ use Rattle.rfb_hello.specs.ClientHandshake.{ClientPoint, AwaitsVersion, AwaitsCh
 use Rattle.rfb_hello.specs.ClientHandshake.{ProtocolVersion, SecurityType, ClientInit, past_client_item}
 use Rattle.rfb_hello.specs.ClientHandshake.{client_handshake}
 
--- the version that a server offers, and the screen and the name that it tells
+-- the version that a server offers, and the screen and the name that it sends
 pub record ServerSetup : Type 0 where
   pub offer : Version
   pub width : ℕ
@@ -44,7 +44,7 @@ answer_to_choice V33 = None
 answer_to_choice V37 = None
 answer_to_choice V38 = Some (Reply (as_reply (0 ∷ 0 ∷ 0 ∷ 0 ∷ [])))
 
--- what the server's end tells of what a client sent
+-- the server's event of what a client sent
 abbrev pub server_tells : ServerSetup → ClientPoint → ClientItem → Option ServerStep
 server_tells setup AwaitsVersion (ProtocolVersion version) =
     Some (Reply (as_reply (security_bytes version)))
@@ -53,7 +53,7 @@ server_tells setup (AwaitsInit version) (ClientInit shared) =
     Some (Ready (as_reply (server_init_bytes setup)) version shared)
 server_tells setup point item = None
 
--- the server's end: its state is where the client's bytes stand
+-- the server's end: its state is where the client's bytes are
 abbrev pub server_end : ServerSetup →
     Machine ClientPoint ClientPoint ClientItem HelloFault ServerStep
 server_end setup =

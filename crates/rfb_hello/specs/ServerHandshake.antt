@@ -12,8 +12,8 @@ use Rattle.rfb_hello.specs.declared.fault.HelloFault.TheVariants.{BadVersion, No
 use Rattle.rfb_hello.specs.declared.fault.HelloFault.TheVariants.{SecurityFailed, ScreenEmpty, ScreenTooLarge}
 use Rattle.rfb_hello.specs.Version.{IsVersionText, SpellsVersion, lower}
 
--- where a server's bytes stand in the handshake, with the version that both ends use and the
--- screen's size once they are known, and after it
+-- where a server's bytes are in the handshake, with the version that both ends use and the screen's
+-- size once they are known, and after it
 pub data ServerPoint : Type 0 where
   AwaitsVersion : ServerPoint
   AwaitsSecurity : (version : Version) → ServerPoint

@@ -15,7 +15,7 @@ use Rattle.rfb_hello.specs.ServerHandshake.{AwaitsName, Begun, ServerItem, Proto
 use Rattle.rfb_hello.specs.ServerHandshake.{SecurityResult, ServerInit, Name, has_none, past_server_item}
 use Rattle.rfb_hello.specs.ServerHandshake.{server_item_size}
 
--- a reason, and at its last byte the fault that tells its length
+-- a reason, and at its last byte the fault that has its length
 abbrev pub reason : (ℕ → HelloFault) → Reading ServerItem HelloFault
 reason fault =
     and_then (valued 4 (λ bytes. u32_at 0 bytes)) (λ n. and_then (piece n) (λ _. refused (fault n)))

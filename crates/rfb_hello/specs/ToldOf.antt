@@ -11,8 +11,8 @@ use Rattle.rfb_hello.specs.ServerHandshake.{past_server_item}
 use Rattle.rfb_hello.specs.ServerEnd.{ServerSetup, as_reply, server_init_bytes}
 use Rattle.rfb_hello.specs.ViewerEnd.{ViewerSetup}
 
--- the server's end is ready at ClientInit, under the version and with the flag that it tells, and
--- answers it with ServerInit and the name; the client's part is then over
+-- the server's end is ready at ClientInit, with the version and the flag of its event, and answers
+-- with ServerInit and the name; the client's part is then over
 pub record IsReadyAt (setup : ServerSetup) (point : ClientPoint) (item : ClientItem)
     (reply : ArrayVec ℕ) (version : Version) (shared : Bool) : Type 0 where
   pub at_point : point ≡ AwaitsClientInit version
@@ -20,7 +20,8 @@ pub record IsReadyAt (setup : ServerSetup) (point : ClientPoint) (item : ClientI
   pub reply_is : reply ≡ as_reply (server_init_bytes setup)
   pub after : past_client_item point item ≡ ClientBegun version shared
 
--- the viewer's end tells a screen at the ServerInit that has its size, before a name that has bytes
+-- the viewer's end reports a screen at the ServerInit that has its size, before a name that has
+-- bytes
 pub record IsScreenAt (setup : ViewerSetup) (point : ServerPoint) (item : ServerItem)
     (width height : ℕ) : Type 0 where
   pub version : Version

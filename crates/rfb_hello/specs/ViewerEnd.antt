@@ -1,5 +1,5 @@
--- The viewer's end of the handshake: what it answers to what a server sends, and what it tells of
--- it, RFC 6143 sections 7.1 to 7.3 and Appendix A.
+-- The viewer's end of the handshake: its answers to what a server sends, and its events, RFC 6143
+-- sections 7.1 to 7.3 and Appendix A.
 use Rattle.std.specs.Prelude.{◌≡◌, ◌≢◌, ◌<◌, ℕ, zero, suc, List, [], ◌∷◌, ◌++◌, Option, Some, None, Bool, true, false}
 use Rattle.rfb_wire.specs.stream.End.{Machine}
 use Rattle.rfb_hello.specs.declared.version.Version.{Version}
@@ -44,7 +44,7 @@ told_of_init text_limit version width height zero =
     Ready width height version (kept_of text_limit zero []) zero
 told_of_init text_limit version width height (suc n) = Screen width height
 
--- what the viewer's end tells of what a server sent
+-- the viewer's event of what a server sent
 abbrev pub viewer_tells : ViewerSetup → ServerPoint → ServerItem → Option ViewerStep
 viewer_tells setup AwaitsVersion (ProtocolVersion version) =
     Some (Reply (as_reply (version_text (lower setup.limit version))))
@@ -60,7 +60,7 @@ viewer_tells setup (AwaitsName version width height name_length) (Name text) =
     Some (Ready width height version (kept_of setup.text_limit name_length text) name_length)
 viewer_tells setup point item = None
 
--- the viewer's end: its state is where the server's bytes stand
+-- the viewer's end: its state is where the server's bytes are
 abbrev pub viewer_end : ViewerSetup →
     Machine ServerPoint ServerPoint ServerItem HelloFault ViewerStep
 viewer_end setup =
@@ -71,7 +71,7 @@ viewer_end setup =
       tells = viewer_tells setup;
     }
 
--- these bytes stand before a reason at that point: a word or a count of no types, or a
+-- these bytes come before a reason at that point: a word or a count of no types, or a
 -- SecurityResult that is not success
 abbrev pub OpensReason : Cause → ServerPoint → List ℕ → Type 0
 OpensReason Refused (AwaitsSecurity V33) bytes = IsWord 0 bytes

@@ -69,8 +69,8 @@ pub fn ends_that_stand_have_not_failed()
         → (viewer_fault_of hello ≡ None) × (viewer_is_open hello ≡ server_goes_on point) }
 {}
 
-/// `Screen` and `Ready` come of one item each, whose size, version, flag and name they have; after
-/// an item of which `Ready` comes the handshake is done.
+/// `Screen` and `Ready` come of one item each, whose size, version, flag and name they have. After
+/// the item of `Ready` the handshake is done.
 pub fn steps_are_of_their_items()
     ensures server { (setup : ServerSetup) (point : ClientPoint) (item : ClientItem)
         (reply : ArrayVec ℕ) (version : Version) (shared : Bool)
@@ -86,9 +86,9 @@ pub fn steps_are_of_their_items()
         → IsViewerReadyAt setup point item width height version name name_length }
 {}
 
-/// Two ends speak the whole handshake, whatever the server offers and the viewer's limit: each
-/// reads what the other says to its end, and both then stand after it with one version, one size
-/// and one flag.
+/// Two ends speak the whole handshake, whatever the server offers and the viewer's limit. Each
+/// reads what the other says to its end, and both are then past it, with one version, one size and
+/// one flag.
 pub fn two_ends_speak_the_handshake()
     ensures { (server : ServerSetup) (viewer : ViewerSetup) → IsSetup viewer.max_places server
         → Converse server viewer AwaitsVersion AwaitsServerVersion

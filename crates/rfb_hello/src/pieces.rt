@@ -22,8 +22,7 @@ pub const WORD_PART: usize = WORD_SIZE - 1;
 
 pub const INIT_PART: usize = INIT_SIZE - 1;
 
-/// Takes bytes of a word, of which a part has come. Returns how many these were, and the word, if
-/// it is whole now.
+/// Takes further bytes of a word. Returns how many it took, and the word, if it is whole now.
 pub fn gather_word(part: &mut ArrayVec<u8, WORD_PART>, bytes: &[u8]) -> (usize, Option<u32>)
     requires some { 0 < length bytes.now }
     ensures used { (0 < result.0) × (result.0 ≤ length bytes.now) }
@@ -40,8 +39,8 @@ pub fn gather_word(part: &mut ArrayVec<u8, WORD_PART>, bytes: &[u8]) -> (usize, 
     (used, Some(BigEndian::read_u32(whole.as_slice())))
 }
 
-/// Takes bytes of a text, of which `more` come after the next one. Returns how many these were, and
-/// whether the text is whole now.
+/// Takes bytes of a text that misses its next byte and `more` after it. Returns how many it took,
+/// and whether the text is whole now.
 pub fn read_text(kept: &mut Text, more: &mut u32, bytes: &[u8]) -> (usize, bool)
     requires some { 0 < length bytes.now }
     ensures used { (0 < result.0) × (result.0 ≤ length bytes.now) }

@@ -124,7 +124,7 @@ module _ {X : Type 0} where
       )
       (rw free at read)))))
 
-  -- what is read lies in the grid, so it does not matter what stands for the places outside
+  -- what is read lies in the grid, so it does not matter what is read outside it
   pub source_read : (r : Rect) (sx sy : ℕ) (g : Grid X) (x y : ℕ) (now here d other : X) →
       IsGrid g →
       Holds g (record r { x = sx; y = sy }) →
@@ -138,7 +138,7 @@ module _ {X : Type 0} where
       (omega (arith, held.0)) (omega (arith, held.1)) in
       get_or_default g.places ((sy + (y - r.y)) * g.width + (sx + (x - r.x))) d other (omega arith))
 
-  -- what stands at a place after a copy: in the rectangle, what stood at its source
+  -- the value at a place after a copy: in the rectangle, the one at its source
   pub at-copied : (r : Rect) (sx sy : ℕ) (g : Grid X) (x y : ℕ) (d : X) →
       IsGrid g →
       Holds g (record r { x = sx; y = sy }) →

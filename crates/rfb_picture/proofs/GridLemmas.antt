@@ -1,4 +1,4 @@
--- Laws of grids, for this crate's proofs and those above it: what stands where after a change.
+-- Laws of grids, for this crate's proofs and those above it: which value is where after a change.
 use Rattle.std.proofs.Common.{ℕ, zero, suc, List, [], ◌∷◌, ◌≡◌, ◌+◌, ◌-◌, ◌*◌, ◌/◌}
 use Rattle.std.proofs.Common.{◌%◌, ◌<◌, ◌≤◌, length, get_or}
 use Rattle.std.proofs.Common.{drop}
@@ -45,7 +45,7 @@ pub contains_more : (r : Rect) (n x y : ℕ) →
     || contains (record { x = r.x; y = r.y + n; w = r.w; h = 1 }) x y)
 contains_more r n x y = grind (arith, nat_tests)
 
--- what the test of a place tells
+-- what the test of a place says
 pub contains_true : (r : Rect) (x y : ℕ) →
     contains r x y ≡ true → (r.x ≤ x) × (x < r.x + r.w) × (r.y ≤ y) × (y < r.y + r.h)
 contains_true r x y e = (
@@ -108,7 +108,7 @@ module _ {X : Type 0} where
   at_value true now u v w e same = e ∙ same refl
   at_value false now u v w e same = e
 
-  -- values written from (x, y) on stand in their row
+  -- values written from (x, y) on are in their row
   pub row_written : (x y w i j : ℕ) (row : List X) (d now old : X) →
       x + length row ≤ w →
       i < w →
@@ -125,7 +125,7 @@ module _ {X : Type 0} where
 
   -- ---- any change
 
-  -- a list that has f x y old at each place (x, y), where old stood there, makes the changed grid
+  -- a list that has f x y old at each place (x, y) that had old makes the changed grid
   pub changed_is : (f : ℕ → ℕ → X → X) (g : Grid X) (new : List X) →
       IsGrid g →
       length new ≡ length g.places →
@@ -148,7 +148,7 @@ module _ {X : Type 0} where
       within in
       rw place at there ∙ sym (rw zero-add at read)))
 
-  -- what stands at a place of the changed grid
+  -- the value at a place of the changed grid
   pub at-changed : (f : ℕ → ℕ → X → X) (g : Grid X) (x y : ℕ) (d : X) →
       IsGrid g → x < g.width → y < g.height → at_or (changed f g) x y d ≡ f x y (at_or g x y d)
   unfolding changed
@@ -203,7 +203,7 @@ module _ {X : Type 0} where
       changed_is k g (changed f g).places whole (length-changed f g)
       (λ x y d p q. at-changed f g x y d whole p q ∙ each x y d p q)
 
-  -- ---- what stands at a place after each call
+  -- ---- the value at a place after each call
 
   pub at-filled : (r : Rect) (c : X) (g : Grid X) (x y : ℕ) (d : X) →
       IsGrid g →
@@ -275,7 +275,7 @@ module _ {X : Type 0} where
       let below = mul-le-mul_right g.width q in
       length-take-le w (drop (y * g.width + x) g.places) (rw length-drop (omega arith))
 
-  -- what stands at index i of a part of a row is what stands i places on in the row
+  -- the value at index i of a part of a row is the one i places on in the row
   pub slice_index_or-row_of : (g : Grid X) (x y w i : ℕ) (d : X) →
       i < w → slice_index_or (row_of g x y w) i d ≡ at_or g (x + i) y d
   slice_index_or-row_of g x y w i d l =

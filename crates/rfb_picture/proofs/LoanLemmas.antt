@@ -63,7 +63,7 @@ module _ {X : Type 0} where
         after_run xs n ws k d l,
       )
 
-  -- what stands at a place after the values that a loan of a vector's places left
+  -- the value at a place after those that a loan of a vector's places left
   pub run_written : {Z : Type 0} (v : Vec X Z) (n : ℕ) (ws : List X) (k : ℕ) (d other : X) →
       n ≤ length v.items →
       k < length v.items →

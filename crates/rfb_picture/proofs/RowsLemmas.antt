@@ -11,7 +11,7 @@ use Rattle.rfb_picture.proofs.LineLemmas.{column_in_line, index_in_line}
 use Rattle.rfb_picture.proofs.GridLemmas.{either, at_value}
 
 module _ {X : Type 0} where
-  -- what stands in the n-th of such rows is what stands n rows on in the list
+  -- the values of the n-th of such rows are those n rows on in the list
   row_read : (rows : List X) (n c i : ℕ) (d : X) → i < c →
       slice_index_or (take c (drop (n * c) rows)) i d ≡ slice_index_or rows (n * c + i) d
   row_read rows n c i d l =
@@ -42,7 +42,7 @@ module _ {X : Type 0} where
       let same : y - r.y ≡ n = omega arith in
       rw (h.0, cut, same) (row_read rows n r.w (x - r.x) d h.1))))
 
-  -- what is read lies in the list, so it does not matter what stands after its end
+  -- what is read lies in the list, so it does not matter what is read after its end
   pub rows_read : (r : Rect) (rows : List X) (x y : ℕ) (now here d other : X) →
       length rows ≡ r.h * r.w →
       now ≡ (if contains r x y then slice_index_or rows ((y - r.y) * r.w + (x - r.x)) d else here) →

@@ -6,7 +6,7 @@ use Rattle.std.proofs.lemmas.Bool.{cases_lt}
 use Rattle.std.proofs.lemmas.Bool.Decides.{nat_tests}
 use Rattle.rfb_picture.specs.layout.Runs.{RunCopied, in_run}
 
--- the first of the places to be moved have what stood at their source at first
+-- the first of the places to be moved have what their source had at first
 pub record AreMoved {X : Type 0} (from to done count : ℕ) (old now : List X) : Type 0 where
   pub within : done ≤ count
   pub moved : RunCopied from to done old now

@@ -20,7 +20,7 @@ module _ {X : Type 0} (w h : ℕ) (lines : List ℕ) where
   whole-shown places kept =
       length-changed (λ x y old. slice_index_or places (place_in lines w x y) old) (grid w h places) ∙ kept.whole
 
-  -- at a place stands what its line has
+  -- a place has the value that its line has there
   pub at-shown : (places : List X) (x y : ℕ) (d : X) → IsKept w h lines places → x < w → y < h →
       at_or (shown w h lines places) x y d ≡ slice_index_or places (place_in lines w x y) d
   at-shown places x y d kept p q =
@@ -64,7 +64,7 @@ module _ {X : Type 0} (w h : ℕ) (lines : List ℕ) where
   rows_changed f places new kept same each =
       shown_changed f places new kept same (λ x y d p q. each x y d p (rw kept.lines_are.each q))
 
-  -- places of which a rectangle has what another had show a copy
+  -- places show a copy where a rectangle of them has what another had
   pub copy_shown : (r : Rect) (sx sy : ℕ) (places new : List X) → IsKept w h lines places →
       length new ≡ length places → Holds (shown w h lines places) (record r { x = sx; y = sy }) →
       ((x y : ℕ) (d : X) → x < w → y < length lines →
@@ -87,7 +87,7 @@ module _ {X : Type 0} (w h : ℕ) (lines : List ℕ) where
       get_or_default places (place_in lines w (sx + (x - r.x)) (sy + (y - r.y))) d _ (omega (arith, fits))
       ∙ sym (at-shown places (sx + (x - r.x)) (sy + (y - r.y)) _ kept column row)))
 
-  -- values written from (x, y) on stand in their row
+  -- values written from (x, y) on are in their row
   pub line_written : (places : List X) (x y i j : ℕ) (row : List X) (d now old : X) → IsKept w h lines places →
       x + length row ≤ w → y < h → i < w → j < h →
       now ≡ (if nat_le (place_in lines w x y) (place_in lines w i j)
@@ -102,7 +102,7 @@ module _ {X : Type 0} (w h : ℕ) (lines : List ℕ) where
       let h = column_in_line lines x y (length row) w i j e in
       rw (h.0) (get_or_default row (i - x) d old h.1))
 
-  -- what stands in a part of a row is what its line has there
+  -- a part of a row has what its line has there
   pub row_shown : (places : List X) (x y n : ℕ) → IsKept w h lines places → x + n ≤ w → y < h →
       take n (drop (place_in lines w x y) places) ≡ row_of (shown w h lines places) x y n
   row_shown places x y n kept p q =

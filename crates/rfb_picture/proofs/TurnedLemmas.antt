@@ -87,7 +87,7 @@ line_within h rows y to_fits from_fits l (inr (inl (other, p, q))) =
     ])
 line_within h rows y to_fits from_fits l (inr (inr (other, outside))) = rw (of_others rows y other outside) l
 
--- going back a row comes to where it was
+-- going back a row is where it was
 pub there_and_back : (rows : Rows) (y : ℕ) → rows.to ≤ rows.from + rows.count →
     rows.from ≤ rows.to + rows.count →
     Where rows y → line_from (back rows) (line_from rows y) ≡ y

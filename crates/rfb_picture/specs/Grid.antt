@@ -34,11 +34,11 @@ module _ {X : Type 0} where
   abbrev pub Holds : Grid X → Rect → Type 0
   Holds g r = (r.x + r.w ≤ g.width) × (r.y + r.h ≤ g.height)
 
-  -- what stands at column x of row y, or d where there is no such place
+  -- the value at column x of row y, or d where there is no such place
   abbrev pub at_or : Grid X → ℕ → ℕ → X → X
   at_or g x y d = slice_index_or g.places (y * g.width + x) d
 
-  -- what stands at w places of row y, from column x on
+  -- the values at w places of row y, from column x on
   abbrev pub row_of : Grid X → ℕ → ℕ → ℕ → List X
   row_of g x y w = take w (drop (y * g.width + x) g.places)
 
@@ -47,7 +47,7 @@ module _ {X : Type 0} where
   by_index f n [] = []
   by_index f n (x ∷ xs) = f n x ∷ by_index f (n + 1) xs
 
-  -- the grid with f x y old at each place (x, y), where old stood there
+  -- the grid with f x y old at each place (x, y) that had old
   unfoldable pub changed : (ℕ → ℕ → X → X) → Grid X → Grid X
   changed f g =
       grid g.width g.height (by_index (λ i old. f (i % g.width) (i / g.width) old) 0 g.places)
@@ -56,8 +56,8 @@ module _ {X : Type 0} where
   abbrev pub filled : Rect → X → Grid X → Grid X
   filled r c g = changed (λ x y old. if contains r x y then c else old) g
 
-  -- the grid with, at each place of the rectangle, what stood at its place of the rectangle of that
-  -- size at (sx, sy), and the other places as they were
+  -- the grid where each place of the rectangle has what its place of the rectangle of that size at
+  -- (sx, sy) had, and the others are as they were
   abbrev pub copied : Rect → ℕ → ℕ → Grid X → Grid X
   copied r sx sy g =
       changed (λ x y old. if contains r x y then at_or g (sx + (x - r.x)) (sy + (y - r.y)) old
@@ -77,7 +77,7 @@ module _ {X : Type 0} where
       then slice_index_or row (i - x) old else old)
       g
 
-  -- the same where the list may be longer than what is left of the row: it goes on in the rows
+  -- the same for a list that may be longer than what is left of the row: it goes on in the rows
   -- below, as far as there are places
   abbrev pub with_run : ℕ → ℕ → List X → Grid X → Grid X
   with_run x y run g =

@@ -17,7 +17,7 @@ moved_by x y r = rect (x + r.x) (y + r.y) r.w r.h
 -- ---- a scroll: all that lies in a rectangle moves, and what leaves the rectangle is lost
 
 -- of `len` places from `start` on that move by a signed number: where the first that stays inside
--- comes to lie
+-- is afterwards
 abbrev pub start_after : ℕ → ℕ → ℤ → ℕ
 start_after start len (pos n) = start + min n len
 start_after start len (negsuc n) = start
@@ -27,7 +27,7 @@ abbrev pub start_before : ℕ → ℕ → ℤ → ℕ
 start_before start len (pos n) = start
 start_before start len (negsuc n) = start + min (n + 1) len
 
--- the rectangle that comes to hold what stays, dx columns to the right and dy rows down
+-- the rectangle where what stays is afterwards, dx columns to the right and dy rows down
 abbrev pub scrolled_to : ℤ → ℤ → Rect → Rect
 scrolled_to dx dy r =
     rect (start_after r.x r.w dx) (start_after r.y r.h dy) (r.w - unsigned_abs dx)

@@ -36,9 +36,8 @@ impl Model for Area {
 }
 
 impl Area {
-    /// An area of a screen of `width` by `height` places, of which none is asked. It
-    /// asks for room for all its bits, in six pieces; where there is none it gives the
-    /// error, and nothing is kept.
+    /// An area of a screen of `width` by `height` places, none of them asked. It asks for room for
+    /// all its bits, in six pieces. Where there is none it gives the error, and nothing is kept.
     pub fn new(alloc: Global, width: u16, height: u16) -> Result<Area, AllocError>
         ensures value { IfOk result (λ a. a ≡ no_places width height) }
         ensures width { IfOk result (λ a. a.asked.width ≡ width) }
@@ -49,8 +48,8 @@ impl Area {
         Ok(Area { asked, whole })
     }
 
-    /// How many places a row of the screen has. It also tells that each place is asked or not, and
-    /// whole only where it is asked.
+    /// How many places a row of the screen has. Its contract also says that a place is whole only
+    /// where it is asked.
     #[inline]
     pub fn width(&self) -> u16
         ensures value { result ≡ self.now.asked.width }

@@ -59,7 +59,7 @@ struct Gathered {
 }
 
 /// The edges of the zone's places whose bits are set, where a row is `across` words; `None` where
-/// none is. The zone's places of a row are of one word.
+/// none is. The zone's places of a row are in one word.
 pub(crate) fn edges_in(words: &[u64], across: usize, zone: Rect) -> Option<Edges>
     requires small { across < 2 ^ 16 }
     requires columns { zone.x + zone.w ≤ across * 64 }
@@ -131,7 +131,7 @@ fn gather(words: &[u64], strip: Strip, top: usize, bottom: usize) -> Option<Gath
     }
 }
 
-// The first of the rows from `top` up to `bottom` of whose word the mask leaves a bit.
+// The first of the rows from `top` up to `bottom` whose word has a bit of the mask.
 fn first_row(words: &[u64], strip: Strip, top: usize, bottom: usize) -> Option<usize>
     requires column { strip.column < strip.across }
     requires rows { bottom * strip.across ≤ length words.now }
@@ -152,8 +152,8 @@ fn first_row(words: &[u64], strip: Strip, top: usize, bottom: usize) -> Option<u
     None
 }
 
-// The last of the rows from `top` up to `bottom` of whose word the mask leaves a bit, as it does of
-// that of the row `top`.
+// The last of the rows from `top` up to `bottom` whose word has a bit of the mask. Row `top` is
+// one.
 fn last_row(words: &[u64], strip: Strip, top: usize, bottom: usize) -> usize
     requires column { strip.column < strip.across }
     requires rows { bottom * strip.across ≤ length words.now }

@@ -1,10 +1,10 @@
-//! Pictures, rectangles and sets of places, whatever stands at the places.
+//! Pictures, rectangles and sets of places, for values of any type.
 //!
 //! A `Picture` is a framebuffer of RFC 6143: rows of places, numbered from the top left, each with
-//! a value. An `Area` is what of it was asked for, and a `PlaceSet` any set of its places. Each
-//! owns its places; they are taken when it is made, and freed when it is let go. Nothing else here
-//! takes memory: what a set owns is of a type that can't grow, and that no call makes a picture
-//! grow is tested. The caller says that a place or a rectangle lies in it, and has `Picture::holds`
+//! a value. An `Area` is the part of it that was asked for, and a `PlaceSet` any set of its places.
+//! Each owns its places: they are taken when it is made, and freed when it is dropped. Nothing else
+//! here takes memory. What a set owns is of a type that can't grow; a test shows that no call makes
+//! a picture grow. The caller says that a place or a rectangle lies in it, and has `Picture::holds`
 //! to test it. No value is read or judged here, and no bytes of the protocol are known.
 #![tactic(auto)]
 

@@ -82,7 +82,8 @@ impl<T: Copy> Picture<T> {
         })
     }
 
-    /// How many places a row has. It also tells that the picture has a value for each place.
+    /// How many places a row has. Its contract also says that the picture has a value for each
+    /// place.
     #[inline]
     pub fn width(&self) -> u16
         ensures value { result ≡ self.now.width }
@@ -172,8 +173,8 @@ impl<T: Copy> Picture<T> {
         );
     }
 
-    /// The same by pieces of as many places as `piece` has, each of which is `value`. It stays the
-    /// caller's, who knows the type of a place, and how many a row has at least. It is compiled
+    /// The same, by pieces of as many places as `piece` has, each of them `value`. `piece` stays
+    /// the caller's, who knows the type of a place and the least width of a row. This is compiled
     /// into its caller.
     #[inline(always)]
     pub fn fill_by<const N: usize>(&mut self, rect: Rect, value: T, piece: &[T; N])
@@ -241,8 +242,8 @@ impl<T: Copy> Picture<T> {
         copy_rows(&mut self.places, &self.lines, width, dst, sx, sy);
     }
 
-    /// The same. Rows that are copied all across over others by fewer rows than they are take only
-    /// so many of them along. It is for pictures of which no row is lent for writing.
+    /// The same. Whole rows that move by at most their count change lines, and only as many rows
+    /// are copied as they move by. It is for pictures that lend no row for writing.
     pub fn copy_by_lines(&mut self, dst: Rect, sx: u16, sy: u16)
         requires target { Holds self.old dst }
         requires source { Holds self.old (record dst { x = sx; y = sy }) }

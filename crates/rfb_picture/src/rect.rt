@@ -41,8 +41,8 @@ impl Rect {
     }
 
     /// All that lies in the rectangle moves `dx` columns to the right and `dy` rows down, or to the
-    /// left and up where they are negative, and what leaves the rectangle is lost. This gives the
-    /// rectangle that comes to hold what stays, and the one of that size where it lay.
+    /// left and up where they are negative. What leaves the rectangle is lost. Returns the
+    /// rectangle where what stays is afterwards, and the one of that size where it was.
     pub fn scrolled(self, dx: i16, dy: i16) -> (Rect, Rect)
         requires columns { self.x + self.w < 2 ^ 16 }
         requires rows { self.y + self.h < 2 ^ 16 }
@@ -58,7 +58,7 @@ impl Rect {
     }
 }
 
-// Where the first of some places in a line comes to lie, where it lay, and how many there are.
+// Where the first of some places in a line is after a move, where it was, and how many there are.
 #[derive(Clone, Copy)]
 struct Line {
     after: u16,

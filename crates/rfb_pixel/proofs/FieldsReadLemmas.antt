@@ -14,7 +14,7 @@ abbrev pub field_read : ℕ → ℕ → Result Channel FormatFault
 field_read m shift =
     if is_max m then Ok (record { width = width_of m; shift = shift }) else Err BadMax
 
--- what the reading of a field tells
+-- what follows from the reading of a field
 pub read_field : (m shift : ℕ) (c : Channel) → Ok c ≡ field_read m shift →
     (is_max m ≡ true) × (c ≡ record { width = width_of m; shift = shift })
 read_field m shift c e = by (is_max m) e

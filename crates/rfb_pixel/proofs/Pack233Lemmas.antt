@@ -19,7 +19,7 @@ joined r g b small_r small_g small_b =
     sym (rw (one, two) (or_shifted_r b 6 (g * 8 + r) (omega (arith, small_r, small_g))
     ∙ omega (arith, small_r, small_g, small_b)))
 
--- what the lanes of a colour come to
+-- the number that the lanes of a colour make
 abbrev pub lane : Colour → ℕ
 lane c =
     (((c.r * 57345 % 4294967296 / 65536 + 4096) % 65536 / 8192
@@ -35,7 +35,7 @@ packed c fits =
     (joined (rescaled 65535 7 c.r) (rescaled 65535 7 c.g) (rescaled 65535 3 c.b) (omega (arith, fits.0))
     (omega (arith, fits.1)) (omega (arith, fits.2)))
 
--- fields of three, three and two bits come to a byte
+-- fields of three, three and two bits make a byte
 pub below_pixel : (r g b : ℕ) →
     ((r % 65536 / 8192 + g % 65536 / 8192 * 8 % 65536) % 65536 + b % 65536 / 16384 * 64 % 65536) % 65536 < 2 ^ 8
 below_pixel r g b = omega arith

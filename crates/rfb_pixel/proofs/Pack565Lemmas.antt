@@ -19,7 +19,7 @@ joined r g b small_r small_g small_b =
     let one : b * 2 ^ 0 ≡ b = omega arith in
     sym (rw (two, one) (or_shifted (r * 64 + g) 5 b small_b ∙ omega (arith, small_r, small_g, small_b)))
 
--- what the lanes of a colour come to
+-- the number that the lanes of a colour make
 abbrev pub lane : Colour → ℕ
 lane c =
     (((c.r * 63489 % 4294967296 / 65536 + 1024) % 65536 / 2048 * 2048 % 65536

@@ -56,7 +56,7 @@ max_of-passes c m wide e =
     let same : m ≡ 2 ^ width_of m - 1 = rw width e in
     (grind (arith, nat_tests), width)
 
--- the field that stands in bytes that spell it
+-- the field in bytes that spell it
 field_at-is : (c : Channel) (max shift : ℕ) (bytes : List ℕ) →
     width_of (number_at max bytes) ≡ c.width → slice_index bytes shift ≡ c.shift →
     field_at max shift bytes ≡ c
@@ -109,7 +109,7 @@ spells-accepted f bytes ok s =
 
 -- ---- the first check that fails
 
--- a check that comes first tells its fault where it fails, and else the rest tells
+-- a check that comes first gives its fault where it fails, and else the rest gives one
 first_of : (t : Bool) (fault k : FormatFault) (rest : Option FormatFault) →
     (if t then Some fault else rest) ≡ Some k →
     ((t ≡ true) × (fault ≡ k)) ⊎ ((t ≡ false) × (rest ≡ Some k))

@@ -33,7 +33,7 @@ digits_below (suc n) x (suc k) = digits_below n (x / 65536) k
 pub numbers_below : (bytes : List ℕ) → (k : ℕ) → get_or (digits_l 65536 8 (number_l 256 (take 16 bytes))) k 0 < 65536
 numbers_below bytes k = digits_below 8 (number_l 256 (take 16 bytes)) k
 
--- a field where it stands in its pixel
+-- a field at its place in the pixel
 abbrev pub field : ℕ → ℕ → ℕ → ℕ
 field high low p = (bit_and p high + (65536 - bit_and (bit_and p high) low)) % 65536
 

@@ -36,7 +36,7 @@ eight_written (s ∷ t ∷ u ∷ v ∷ w ∷ x ∷ y ∷ []) a b c d e f g h lon
 eight_written (s ∷ t ∷ u ∷ v ∷ w ∷ x ∷ y ∷ z ∷ []) a b c d e f g h long = refl
 eight_written (s ∷ t ∷ u ∷ v ∷ w ∷ x ∷ y ∷ z ∷ more ∷ row) a b c d e f g h long = absurd (omega arith)
 
--- the colour of the pixel that stands after k others
+-- the colour of the pixel after k others
 abbrev pub pixel_colour : PixelFormat → List ℕ → ℕ → Colour
 pixel_colour f bytes k = colour_of f (pixel_number f (drop (k * size_of f) bytes))
 

@@ -130,7 +130,7 @@ abbrev pub pixel_number : PixelFormat → List ℕ → ℕ
 pixel_number f bytes =
     if f.big_endian then big_number (size_of f) bytes else little_number (size_of f) bytes
 
--- each colour of a list is that of its pixel, which stand one after another in the bytes
+-- each colour of a list is that of its pixel; the pixels follow one another in the bytes
 abbrev pub AreColours : PixelFormat → List ℕ → List Colour → Type 0
 AreColours f bytes colours =
     (k : ℕ) (d : Colour) → k < length colours →

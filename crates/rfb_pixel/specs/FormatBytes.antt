@@ -18,7 +18,7 @@ AreBytes bytes = (i : ℕ) → slice_index bytes i < 256
 abbrev pub number_at : ℕ → List ℕ → ℕ
 number_at i bytes = big_number 2 (drop i bytes)
 
--- sixteen bytes spell a format, field by field as the table stands; padding is not looked at
+-- sixteen bytes spell a format, field by field as in the table; padding is not looked at
 pub record Spells (f : PixelFormat) (bytes : List ℕ) : Type 0 where
   pub whole : length bytes ≡ 16
   pub bits_per_pixel : slice_index bytes 0 ≡ f.bits_per_pixel
@@ -32,7 +32,7 @@ pub record Spells (f : PixelFormat) (bytes : List ℕ) : Type 0 where
   pub green_shift : slice_index bytes 11 ≡ f.green.shift
   pub blue_shift : slice_index bytes 12 ≡ f.blue.shift
 
--- the field whose maximum and shift stand at these bytes
+-- the field whose maximum and shift are at these bytes
 abbrev pub field_at : ℕ → ℕ → List ℕ → Channel
 field_at max shift bytes =
     record { width = width_of (number_at max bytes); shift = slice_index bytes shift }

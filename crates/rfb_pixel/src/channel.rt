@@ -9,7 +9,7 @@ ghost use Rattle.rfb_pixel.specs.Channel.{is_apart, are_within, are_apart};
 use crate::colour::COMPONENT_MAX;
 use crate::fault::FormatFault;
 
-/// Where a component stands in a pixel value: `width` bits, with `shift` bits below them.
+/// Where a component is in a pixel value: `width` bits, with `shift` bits below them.
 #[derive(Clone, Copy, Debug, PartialEq, Eq)]
 pub struct Channel {
     pub width: u8,
@@ -135,8 +135,8 @@ fn rescale(value: u32, from: u32, to: u32) -> u32
 // The widest field that has a factor.
 const WIDEST: u8 = 10;
 
-// What a value of a field is multiplied by to be a component, in 65,536ths, rounded to the nearest.
-// They stand by the field's width.
+// The factors, in 65,536ths, that make a value of a field a component, rounded to the nearest: one
+// for each width of a field, from 0 on.
 const FACTORS: [u32; 11] = [
     0,
     4_294_901_760,

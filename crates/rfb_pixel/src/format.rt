@@ -22,8 +22,8 @@ use std::marker::Model;
 /// How many bytes a PIXEL_FORMAT has.
 pub const FORMAT_SIZE: usize = 16;
 
-/// A true-colour pixel format: 8, 16 or 32 bits, of which three fields carry red, green and blue.
-/// Every value is one that RFC 6143 allows; the fields lie in the pixel and share no bit.
+/// A true-colour pixel format: 8, 16 or 32 bits, with three fields for red, green and blue. Every
+/// value is one that RFC 6143 allows; the fields lie in the pixel and share no bit.
 #[derive(Clone, Copy, Debug, PartialEq, Eq)]
 pub struct Format {
     bits_per_pixel: u8,

@@ -35,7 +35,7 @@ fn read_eight(colours: &[Colour]) -> ([u16; 8], [u16; 8], [u16; 8])
     )
 }
 
-// Writes the eight colours whose components stand one after another.
+// Writes the eight colours whose components follow one another.
 #[inline(always)]
 fn write_eight(x: [u16; 8], y: [u16; 8], z: [u16; 8], colours: &mut [Colour])
     requires { length colours.old ≡ 8 }

@@ -1,4 +1,4 @@
--- Whether a viewer waits for an update. One of which an update is due does.
+-- Whether a viewer waits for an update. It does where one is due.
 use Rattle.std.proofs.Common.{◌≡◌, ◌∙◌, ℕ, ◌<◌, ◌&&◌, Bool, true, false, List, Option, Some, None, arith, refl, sym, ap}
 use Rattle.std.specs.Option.{is_some}
 use Rattle.std.proofs.lemmas.Bool.{both_ways}
@@ -47,7 +47,8 @@ needs_asked : (asked wants : Bool) → (asked && wants) ≡ true → asked ≡ t
 needs_asked true wants e = refl
 needs_asked false wants e = absurd cc
 
--- a session that follows a screen, and stands for a state over it of which an update is due, has a viewer that waits
+-- the viewer of a session that follows a screen waits, where an update is due in the state that the
+-- session stands for
 pub due_asks : (serving : Serving) (screen : Grid Colour) (session : Session) (s : ServerState) (prefix : List ℕ) →
     Follows screen session → SessionStandsFor serving screen session s prefix → IsDue s → HasAsked session
 due_asks serving screen session s prefix follows stands due = record {

@@ -1,4 +1,4 @@
--- The set bits of a word, counted as the places of a row that they tell of.
+-- The set bits of a word, counted as the places of a row that they mark.
 use Rattle.std.proofs.Common.{◌≡◌, ◌∙◌, ℕ, zero, suc, ◌+◌, ◌-◌, ◌*◌, ◌/◌, ◌%◌, ◌^◌, ◌<◌, ◌≤◌, ◌&&◌, ◌⊎◌, Bool, false}
 use Rattle.std.proofs.Common.{nat_eq, nat_le, nat_lt, if◌then◌else◌, count_ones, sym, ap, refl, inl, inr, arith}
 use Rattle.std.specs.Int.{bit_at}
@@ -40,7 +40,7 @@ one_bit zero small = omega (arith, ones-le 0 0 (omega arith))
 one_bit (suc zero) small = ones-ones 1
 one_bit (suc (suc n)) small = absurd (omega arith)
 
--- a word of k bits has as many set as the k places of a row that they tell of
+-- a word of k bits has as many set as there are such places among the k of a row
 pub ones_of_row : (p : ℕ → ℕ → Bool) (x y k word : ℕ) → word < 2 ^ k →
     ((i : ℕ) → i < k → has_bit word i ≡ p (x + i) y) →
     count_ones word ≡ count_row p x y k

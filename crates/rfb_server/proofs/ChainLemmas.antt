@@ -17,7 +17,7 @@ module _ (session : Session) (before after : Grid Colour) (copy : Hint) (claim n
     (follows : Follows before session) (is : after ≡ copied copy.to copy.sx copy.sy before)
     (target : Holds session.known copy.to) (source : Holds session.known (moved_to copy.sx copy.sy copy.to))
     (claimed : IsTrue before session.known session.format claim) (on : IsCopiedOn copy claim next) where
-  -- a place whose row counts shows what its source did, of which the claim says where that lies
+  -- a place whose row counts shows what its source did; the claim says where that is
   shown : (x y : ℕ) → next.to.x ≤ x → x < next.to.x + next.to.w → is_claimed next y ≡ true →
       at_or session.known (next.sx + (x - next.to.x)) (next.sy + (y - next.to.y)) None
       ≡ Some (wanted_at after session.format x y)

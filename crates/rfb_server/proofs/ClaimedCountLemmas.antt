@@ -1,4 +1,4 @@
--- Rows of a rectangle of which some are chosen: their marked places, and those of the others.
+-- Rows of a rectangle, some of them chosen: the marked places of these and of the others.
 use Rattle.std.proofs.Common.{◌≡◌, ℕ, zero, suc, ◌+◌, ◌-◌, ◌<◌, ◌≤◌, Bool, true, false, not}
 use Rattle.std.proofs.Common.{nat_lt, if◌then◌else◌, refl, ap, arith, add-one, inl, inr}
 use Rattle.std.specs.Bool.{OnTrue, OnFalse}

@@ -84,7 +84,7 @@ or_true : (b : Bool) → (b || true) ≡ true
 or_true true = refl
 or_true false = refl
 
--- an encoding that stands at an index is listed
+-- an encoding at an index is listed
 pub listed_at : (e : Encoding) (xs : List Encoding) (i : ℕ) (d : Encoding) → i < length xs →
     is_same e (get_or xs i d) ≡ true → is_listed e xs ≡ true
 listed_at e [] i d l s = absurd (omega arith)

@@ -29,7 +29,7 @@ use Rattle.rfb_server.specs.session.Slice.{FeedsAs}
 use Rattle.rfb_server.proofs.ClaimLemmas.{nothing_claimed}
 use Rattle.rfb_server.proofs.MarksLemmas.{in_all, caught_unseen}
 
--- the places of a screen of which nothing is known or asked, and each is marked, are of one screen
+-- the places of a screen where nothing is known or asked, and each is marked, are of one screen
 pub alike_untouched : (w h : ℕ) → w ≤ 4096 → h ≤ 4096 →
     AreAlike (none_known w h) (no_places w h) (all_marked w h)
 alike_untouched w h columns rows = record {
@@ -68,7 +68,7 @@ follows_entering old new notice wide high before after follows told = record {
   claimed = nothing_claimed _ _ _ _ refl;
 }
 
--- a handshake of which something is left goes on
+-- a handshake that has something left goes on
 left_goes : (progress : Progress) → 0 < least_left progress → goes_on progress ≡ true
 left_goes (VersionPart text) some = refl
 left_goes (Choice version) some = refl

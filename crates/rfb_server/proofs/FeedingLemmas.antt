@@ -231,7 +231,7 @@ steps_bad serving screen old new unit fault step s prefix now =
     subst (λ (n : Next FromClient ServerFault). Steps (server serving) (SessionStandsFor serving screen) new s
     (prefix ++ unit) n (Err (fault_of_message fault))) (sym next) refl
 
--- ---- a step that begins where another session stands for the same
+-- ---- a step that begins where another session stands for the same state
 
 pub steps_from : (serving : Serving) (screen : Grid Colour) (old mid new : Session) (unit : List ℕ)
     (answer : Result (Option ServerTold) ServerFault) →

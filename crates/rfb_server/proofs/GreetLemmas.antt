@@ -45,7 +45,7 @@ is_begun (AwaitsChoice version) = false
 is_begun (AwaitsInit version) = false
 is_begun (Begun version shared) = true
 
--- an end whose bytes go on stands at a point of the handshake, and one whose bytes do not after it
+-- an end whose bytes go on is at a point of the handshake, and one whose bytes do not is past it
 open_is : (progress : HelloProgress) (point : ClientPoint) (prefix : List ℕ) →
     HelloProgressStandsFor progress point prefix →
     (goes_on progress ≡ true → is_begun point ≡ false)
@@ -72,7 +72,7 @@ over_told setup (Begun version flag) (ProtocolVersion other) e = refl
 over_told setup (Begun version flag) SecurityType e = refl
 over_told setup (Begun version flag) (ClientInit shared) e = refl
 
--- where a session stands after items of the handshake
+-- where a session is after items of the handshake
 abbrev Landed : ClientAt → ClientPoint → Type 0
 Landed at p = (is_begun p ≡ false → at ≡ First p) × (is_begun p ≡ true → at ≡ Second tt)
 
@@ -116,7 +116,7 @@ step_open (Begun version flag) i still e = absurd cc
 
 -- ---- items of the handshake, as a session's
 
--- after an item without an event it stands at the next point of the handshake
+-- after an item without an event it is at the next point of the handshake
 goes_first : (serving : Serving) (s : ServerState) (p : ClientPoint) (i : ClientItem) → s.point ≡ First p →
     handshake_tells serving.hello p i ≡ None → (serves serving s (First i)).point ≡ First (past_client_item p i)
 goes_first serving s p i e quiet = rw (e, over_told serving.hello p i quiet) refl
@@ -176,7 +176,7 @@ same_but serving s (i ∷ items) =
 
 -- ---- calls
 
--- a session in the handshake stands at a point of it, with the handshake's end
+-- a session in the handshake is at a point of it, with the handshake's end
 pub at_hello : (serving : Serving) (hello : ServerHello) (at : ClientAt) (prefix : List ℕ) →
     ProgressStandsFor serving hello Handshake at prefix →
     (p : ClientPoint) × (at ≡ First p) × HelloStandsFor serving.hello hello p prefix × (is_open hello ≡ true)

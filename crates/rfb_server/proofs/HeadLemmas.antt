@@ -62,7 +62,7 @@ begun_misses (first ∷ rest) h =
       ),
     )
 
--- a head that stands where one was begun is longer than what was there
+-- a head where one was begun is longer than what was there
 pub head_longer : (part bytes : List ℕ) (size : ℕ) (head : ClientHead) → is_head_begun part ≡ true →
     size ≤ length (part ++ bytes) →
     SpellsClientHead head (take size (part ++ bytes)) → length part < size
@@ -88,7 +88,7 @@ request_after [] bytes size incremental rect none all s =
     subst (SpellsRequest incremental rect) (take_all size bytes (omega (arith, all))) s
 request_after (first ∷ rest) bytes size incremental rect none all s = absurd (omega (arith, none))
 
--- the first bytes of a part and of what stands after it
+-- the first bytes of a part and of what comes after it
 pub head_taken : (part bytes : List ℕ) (k size : ℕ) → length part < size → size ≤ length part + k →
     part ++ take (size - length part) bytes ≡ take size (part ++ take k bytes)
 head_taken part bytes k size less within =

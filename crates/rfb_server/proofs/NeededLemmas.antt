@@ -93,7 +93,7 @@ known_some None e = absurd (both_ways false refl e)
 known_some (Some pixel) e = (pixel, refl)
 
 -- a place that is marked (m) and asked (a): where it is known (k) and not whole (w) a look at it
--- tells (b)
+-- decides (b)
 by_bits : (m a k w d b : Bool) → (m ≡ false → (a && (w || d)) ≡ false) → (k ≡ false → d ≡ true) →
     ((((m && a) && k) && not w) ≡ true → b ≡ d) →
     (((m && a) && not (((m && a) && k) && not w)) || ((((m && a) && k) && not w) && b)) ≡ (a && (w || d))
@@ -261,7 +261,7 @@ module _ (screen : Grid Colour) (session : Session) (y from to m a k w : ℕ) (a
           (nat_lt (place i) session.known.width && place_known i)
           (not (nat_lt (place i) session.area.whole.width && place_whole i)) (sym (judged_bit i l) ∙ e)
 
-  -- a look at those, or at more columns of the cell, tells which need sending
+  -- a look at those, or at more columns of the cell, shows which need sending
   pub judged_bits : (first end d : ℕ) → 0 < judged m a k w →
       from / 64 * 64 ≤ first → first ≤ from / 64 * 64 + trailing_zeros w64 (judged m a k w) →
       from / 64 * 64 + 64 - leading_zeros w64 (judged m a k w) ≤ end →
@@ -294,7 +294,7 @@ module _ (screen : Grid Colour) (session : Session) (y from to m a k w : ℕ) (a
           rw left at (told i pixel low) (omega (arith, before, from_first)) (omega (arith, until, to_last, less)) is in
           tells ∙ ap (λ old. differs (wanted_at screen session.format (from / 64 * 64 + i) y) old) (sym is)
 
--- what the sets and the record tell are such words
+-- the words of the sets and of the record are such
 pub row_words : (session : Session) (known : Places) (y from to m a k w : ℕ) (asked record_asked whole : Grid Bool) →
     known.asked.width ≡ session.known.width → TellsKnown session.known known →
     y < session.known.height → HasBitsBetween (is_in session.marks) y from to m →

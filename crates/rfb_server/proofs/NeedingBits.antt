@@ -77,7 +77,7 @@ set_marked p y from to word i told low some =
     let (a, b, m) = some_place (nat_le from x) (nat_lt x to) (p x y) (sym some ∙ told i low) in
     (from_le from x a, from_lt x to b, m)
 
--- a word without a bit tells of no place
+-- a word without a bit marks no place
 pub none_between : (p : ℕ → ℕ → Bool) (y from to word : ℕ) → HasBitsBetween p y from to word →
     word ≡ 0 →
     to ≤ from / 64 * 64 + 64 → NoneInRow p y from to

@@ -58,7 +58,7 @@ begun_before (first ∷ rest) last head some spelled = (
   omega (arith, length-append rest last, some),
 )
 
--- where a session stands that has bytes of a head
+-- where a session is that has bytes of a head
 at_part : (serving : Serving) (hello : ServerHello) (part : ArrayVec ℕ) (at : ClientAt) (prefix : List ℕ) →
     ProgressStandsFor serving hello (Head part) at prefix → (at ≡ Second tt) × (prefix ≡ part.items)
 at_part serving hello part (First point) prefix h = absurd h
@@ -145,7 +145,7 @@ placed_first old new bytes fault some ends = record {
   };
 }
 
--- ---- a slice of which a part was taken before
+-- ---- a slice with a part taken before
 
 pub placed_later : (fault : ServerFault) (old mid : Session) (i n : ℕ) (bytes : List ℕ) → i ≤ length bytes →
     FeedsAs old (take i bytes) None mid → IsPlacedIn n fault mid (drop i bytes) → IsPlacedIn (i + n) fault old bytes

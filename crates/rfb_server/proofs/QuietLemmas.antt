@@ -28,7 +28,7 @@ use Rattle.rfb_server.proofs.SendsLemmas.{noted_at}
 
 -- ---- all places counted
 
--- a row of which a place does not count has fewer that do
+-- a row with a place that does not count has fewer that do
 row_bound : (p : ℕ → ℕ → Bool) (x y w : ℕ) → count_row p x y w ≤ w
 row_bound p x y zero = omega arith
 row_bound p x y (suc w) = omega (arith, row_bound p x y w, at_most (p (x + w) y))

@@ -116,7 +116,7 @@ module _ (screen : Grid Colour) (s : Session) (copy one : Hint) (row n m : ℕ) 
       n + m ≡ count_rows (right_after screen s copy) copy.to.x copy.to.y copy.to.w (row + 1)
   after_row above here = line_added screen s copy.to copy.sx copy.sy row n m above (rw is at here)
 
-  -- and the rows up to row `h`, of which that is one, have as many at least
+  -- and the rows up to row `h`, that one among them, have at least as many
   pub before_left : (h : ℕ) → row < h →
       n ≡ count_rows (right_before screen s copy) copy.to.x copy.to.y copy.to.w row →
       m ≡ count_row (right_before screen s one) one.to.x one.to.y one.to.w →

@@ -58,7 +58,7 @@ single_gives_up f block sized =
       λ tiles number rule. omega (arith, raw, tiles_hold f block tiles sized number rule),
     )
 
--- so Raw stands in for it
+-- so Raw takes its place
 pub single_sent : (f : PixelFormat) (rect : Rect) (encoding : Encoding) (block : Grid ℕ) (old new : List ℕ) →
     IsSized 1 1 block →
     AppendsIn f rect Raw block old new → SendsRect f rect encoding block old new

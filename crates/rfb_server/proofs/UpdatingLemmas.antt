@@ -28,7 +28,7 @@ use Rattle.rfb_server.specs.UpdateCall.{HasSent, IsUpdate, SendsUpdate, OwesUpda
 use Rattle.rfb_server.proofs.KeptLemmas.{setting_back}
 use Rattle.rfb_server.proofs.ServerLaws.{session_over, same_notes}
 
--- a session that is ready stands between messages, or in one
+-- a session that is ready is between messages, or in one
 pub point_ready : (serving : Serving) (hello : ServerHello) (progress : Progress) (point : ClientAt)
     (prefix : List ℕ) →
     is_ready progress ≡ true → ProgressStandsFor serving hello progress point prefix → point ≡ Second tt

@@ -15,7 +15,7 @@ use Rattle.rfb_hello.specs.PendingBytes.{client_handshake_pending}
 use Rattle.rfb_server.specs.declared.fault.ServerFault.{ServerFault}
 use Rattle.rfb_server.specs.Fault.{fault_of_hello, fault_of_message}
 
--- where a client's bytes stand: in the handshake, or between two messages
+-- where a client's bytes are: in the handshake, or between two messages
 abbrev pub ClientAt : Type 0
 ClientAt = Stage ClientPoint ⊤
 

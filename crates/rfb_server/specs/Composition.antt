@@ -38,7 +38,7 @@ pub record Part : Type 0 where
 abbrev pub sent_as : Part → SentRect
 sent_as part = record { head = part.head; body = part.body }
 
--- where the server's bytes stand between two messages
+-- where the server's bytes are between two messages
 abbrev pub between : ServerState → UpdatePoint
 between s = record { width = s.screen.width; height = s.screen.height; form = s.form; left = 0 }
 
@@ -52,8 +52,8 @@ HasItsData s part =
 abbrev pub may_send : List Encoding → Encoding → Bool
 may_send encodings encoding = is_same encoding Raw || is_listed encoding encodings
 
--- a block goes in the first listed encoding that brings pixels where the rule of that one does not
--- give it up, and in Raw where it does
+-- a block goes in the first listed encoding that brings pixels, unless the rule of that one gives
+-- it up; then it goes in Raw
 abbrev pub IsForPixels : PixelFormat → List Encoding → Grid ℕ → Encoding → Type 0
 IsForPixels f encodings block encoding =
     ((encoding ≡ preferred encodings) × (GivesUp (preferred encodings) f block → ⊥)) ⊎
@@ -151,8 +151,8 @@ pub record IsBoxOf (across : ℕ) (s : ServerState) (index : ℕ) (rect : Rect) 
   pub is_cell : IsCell s.screen.width s.screen.height across index cell
   pub least : IsBox (needs_sending s) cell rect
 
--- of the cells from number `from` up to number `to` these are the rectangles, in the order of the
--- cells: one of each that has a place that needs sending, and none of another
+-- these are the rectangles of the cells from number `from` up to number `to`, in the order of the
+-- cells: one for each cell with a place that needs sending, and none for another
 abbrev pub AreBoxes : ℕ → ServerState → ℕ → ℕ → List Part → Type 0
 AreBoxes across s from to [] = NoneNeeds across s from to
 AreBoxes across s from to (part ∷ parts) =

@@ -14,8 +14,8 @@ use Rattle.rfb_server.specs.Server.{Serving, ServerState, server, AsksMemory}
 use Rattle.rfb_server.specs.Model.{SessionStandsFor, StandsFor, screen_of}
 use Rattle.rfb_server.specs.Model.{Notes, notes_in, notes_of, notes_at}
 
--- it ends at these bytes of the item that stands next in the state, by a fault of theirs or because
--- it asks for memory there; the screen and the notes are the state's
+-- it ends at these bytes of the state's next item, by a fault of theirs or because it asks for
+-- memory there; the screen and the notes are the state's
 pub record EndsAt (serving : Serving) (fault : ServerFault) (screen : Grid Colour) (notes : Notes)
     (s : ServerState) (bytes : List ℕ) : Type 0 where
   pub bad : fault ≢ NoMemory → (client_bytes serving.hello.offer).next s.point bytes ≡ Bad fault
@@ -24,7 +24,7 @@ pub record EndsAt (serving : Serving) (fault : ServerFault) (screen : Grid Colou
   pub notes_are : notes ≡ notes_at s
 
 -- after a fault of a session, over whatever screen: from each state and prefix that it stood for,
--- the bytes have led through whole items to those of the next one that it ends at, and it has the
+-- the bytes have led through whole items to those of the next one, at which it ends. It has the
 -- notes of the state that these whole items leave
 abbrev pub EndsAs : Session → List ℕ → ServerFault → Session → Type 0
 EndsAs old bytes fault new =

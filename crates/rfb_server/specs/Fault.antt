@@ -17,7 +17,8 @@ use Rattle.rfb_server.specs.declared.fault.ServerFault.TheVariants.{UnknownMessa
 use Rattle.rfb_server.specs.declared.fault.ServerFault.TheVariants.{VersionTooHigh as High, BadSecurityChoice as Choice}
 use Rattle.rfb_server.specs.declared.fault.ServerFault.TheVariants.{NoMemory as Memory}
 
--- of the handshake's a client's bytes show the first three alone; a server's have the next six
+-- of the handshake's faults, a client's bytes show the first three alone; the next six are a
+-- server's
 abbrev pub fault_of_hello : HelloFault → ServerFault
 fault_of_hello BadVersion = Version
 fault_of_hello VersionTooHigh = High

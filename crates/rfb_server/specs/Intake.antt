@@ -23,8 +23,8 @@ pub record IsUnfed (serving : Serving) (session : Session) : Type 0 where
       screen.height ≡ serving.hello.height → Follows screen session
   pub hints : hints_in session ≡ []
 
--- of these bytes as many were taken as there are up to the last of the first item that makes an
--- event, or all; where there are some, some
+-- the bytes up to the last of the first item that makes an event were taken, or all; at least one,
+-- if there are any
 pub record AreTaken (bytes : List ℕ) (took : Fed ServerEvent) : Type 0 where
   pub used : took.used ≤ length bytes
   pub all : took.event ≡ None → took.used ≡ length bytes

@@ -1,4 +1,4 @@
--- When a session has been notified of all that was drawn on the screen that it is lent.
+-- When a session has been notified of all that was drawn on the screen that it borrows.
 use Rattle.std.specs.Prelude.{◌≡◌, ℕ, ◌<◌, Bool, false, Option, Some, None}
 use Rattle.std.specs.Option.{ForSome}
 use Rattle.rfb_pixel.specs.declared.colour.Colour.{Colour}

@@ -24,7 +24,7 @@ IsHeadBegun [] = Unit {0}
 IsHeadBegun (first ∷ rest) =
     (size : ℕ) × (client_head_size first ≡ Some size) × (length (first ∷ rest) < size)
 
--- the bytes are a SetEncodings of which `left` numbers are missing: its head, the numbers that are
+-- the bytes are a SetEncodings without its last `left` numbers: its head, the numbers that are
 -- whole, and the bytes of the next one. These encodings are known among the numbers
 pub record IsListBegun (left : ℕ) (number : List ℕ) (list : List Encoding)
     (prefix : List ℕ) : Type 0 where
@@ -38,8 +38,8 @@ pub record IsListBegun (left : ℕ) (number : List ℕ) (list : List Encoding)
   pub short : length number < 4
   pub list_is : list ≡ known_among numbers []
 
--- the bytes are a ClientCutText of which `left` bytes are missing: its head, and a text of which
--- the first bytes are kept. There is room for all that are to be kept
+-- the bytes are a ClientCutText without its last `left` bytes: its head, and a text whose first
+-- bytes are kept. There is room for all that are to be kept
 pub record IsTextBegun (text_limit text_length left : ℕ) (kept : KeptText)
     (prefix : List ℕ) : Type 0 where
   pub head : List ℕ

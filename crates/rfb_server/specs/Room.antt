@@ -24,7 +24,7 @@ abbrev pub has_asked : Places → Rect → Bool
 has_asked area r =
     some_below (λ j. some_below (λ i. asked_at area (r.x + i) (r.y + j)) r.w) r.h
 
--- of a cell in which a place is asked the head of a rectangle, 12 bytes, and all its pixels; of
+-- for a cell with an asked place, the head of a rectangle, 12 bytes, and all its pixels; for
 -- another nothing
 abbrev pub cell_room : PixelFormat → Places → Rect → ℕ
 cell_room form area cell =

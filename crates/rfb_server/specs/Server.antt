@@ -24,7 +24,7 @@ pub record Serving : Type 0 where
   pub hello : ServerSetup
   pub text_limit : ℕ
 
--- where the client's bytes stand; the screen; of each place the pixel that the viewer has or will
+-- where the client's bytes are; the screen; of each place the pixel that the viewer has or will
 -- have, where that is known; the places that are asked; the format, and the encodings that the
 -- viewer listed
 pub record ServerState : Type 0 where
@@ -49,7 +49,7 @@ message_acts s (KeyEvent down key) = s
 message_acts s (PointerEvent buttons x y) = s
 message_acts s (ClientCutText text) = s
 
--- a step of the handshake changes where the bytes stand, and nothing else
+-- a step of the handshake changes where the bytes are, and nothing else
 abbrev pub item_acts : ServerState → FromClient → ServerState
 item_acts s (First step) = s
 item_acts s (Second message) = message_acts s message
@@ -59,9 +59,9 @@ abbrev pub serves : Serving → ServerState → FromClient → ServerState
 serves serving s item =
     record (item_acts s item) { point = past_in (client_two serving.hello.offer) s.point item }
 
--- ---- what a server tells of it
+-- ---- what a server reports of it
 
--- of an item of the part that the point belongs to a server tells what that part has it tell
+-- a server reports what the part that the point belongs to reports of an item of that part
 abbrev pub item_told : Serving → ClientAt → FromClient → Option ServerTold
 item_told serving (First point) (First step) = step_told (handshake_tells serving.hello point step)
 item_told serving (First point) (Second message) = None

@@ -1,4 +1,4 @@
--- What a server tells of what its client sent: events, as values that hold what was spelled.
+-- What a server reports of what its client sent: events, as values that hold what was spelled.
 use Rattle.std.specs.Prelude.{ℕ, Bool, List, [], length, take, Option, Some, None, Result, Ok, Err}
 use Rattle.rfb_wire.specs.ClientMessage.{ClientMessage, SetPixelFormat, SetEncodings, FramebufferUpdateRequest}
 use Rattle.rfb_wire.specs.ClientMessage.{KeyEvent, PointerEvent, ClientCutText}
@@ -46,13 +46,13 @@ abbrev pub answer_told :
 answer_told (Ok event) = Ok (seen event)
 answer_told (Err fault) = Err fault
 
--- what a server tells of a step of the handshake: its version is the handshake's own matter
+-- what a server reports of a step of the handshake: its version is the handshake's own matter
 abbrev pub step_told : Option ServerStep → Option ServerTold
 step_told None = None
 step_told (Some (ReplyStep reply)) = Some (Reply reply.items)
 step_told (Some (ReadyStep reply version shared)) = Some (Ready reply.items shared)
 
--- what a server tells of a message, where up to `text_limit` bytes of a text are kept
+-- what a server reports of a message, where up to `text_limit` bytes of a text are kept
 abbrev pub message_told : ℕ → ClientMessage → Option ServerTold
 message_told text_limit (SetPixelFormat format) = None
 message_told text_limit (SetEncodings numbers) = None

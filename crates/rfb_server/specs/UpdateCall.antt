@@ -1,4 +1,4 @@
--- What a call to compose makes of a session over the screen that it is lent, and of a `Server`.
+-- What a call to compose makes of a session over the screen that it borrows, and of a `Server`.
 use Rattle.std.specs.Prelude.{◌≡◌, ℕ, ◌<◌, true, List, ◌++◌}
 use Rattle.rfb_pixel.specs.declared.colour.Colour.{Colour}
 use Rattle.rfb_picture.specs.Grid.{Grid}
@@ -26,7 +26,7 @@ pub record IsUpdate (old new : ServerState) (hints : List Hint) (before after : 
   pub composes : Composes old new bytes copies blocks
   pub used : AreUsed old (usable old hints) composes.moves
 
--- such an update of what a session stood for was appended, and over the screen the session stands
+-- such an update of what a session stood for was appended; over the screen the session then stands
 -- for what it leaves
 pub record HasSent (serving : Serving) (s : ServerState) (prefix : List ℕ) (hints : List Hint)
     (screen : Grid Colour) (new : Session) (before after : List ℕ) : Type 0 where

@@ -20,8 +20,9 @@ pub(crate) use stale::{Rows, Stale};
 /// How many rows of a copy's source are looked at together: as many as a cell of the marks has.
 const BAND: u16 = 64;
 
-/// Each place of `to` whose row is not stale shows what the viewer has as far from (`sx`, `sy`): a
-/// copy from there leaves it right. Both rectangles lie on the screen.
+/// Each place of `to` whose row is not stale shows what the viewer has at its place of the
+/// rectangle at (`sx`, `sy`). So a copy from there leaves it right. Both rectangles lie on the
+/// screen.
 #[derive(Clone, Copy, Debug, Drop)]
 pub(crate) struct Claim {
     pub(crate) to: Rect,
@@ -32,7 +33,7 @@ pub(crate) struct Claim {
 
 impl Claim {
     /// That of a copy which is drawn: the viewer has what lies in rows of the source that have no
-    /// mark. The other rows are stale.
+    /// mark. The other rows are stale, and so may be rows between these.
     pub(crate) fn of_copy(copy: Hint, marks: &PlaceSet) -> Claim
         requires target { Holds marks.now copy.to }
         requires source { Holds marks.now (moved_to copy.sx copy.sy copy.to) }
@@ -107,7 +108,7 @@ impl Claim {
         Some((sx, sy))
     }
 
-    /// Whether it is of a hint's columns, and of sources as far away.
+    /// Whether it is of a hint's columns, with its sources as far away.
     pub(crate) fn is_of(&self, hint: Hint) -> bool
         ensures { OnTrue result (IsAsFar self.now hint) }
     {

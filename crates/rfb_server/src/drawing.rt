@@ -11,7 +11,7 @@ use rfb_codec::{paint_bytes, paint_pixels};
 use rfb_picture::{Picture, Rect};
 use rfb_pixel::{Colour, Format};
 
-/// One drawing on a screen, or a hint for what lies there. What it draws is lent. Rows stand from
+/// One drawing on a screen, or a hint for what lies there. It borrows what it draws. Rows go from
 /// the top, one after another, each from the left.
 #[derive(Clone, Copy, Debug)]
 pub enum Drawing<'a> {
@@ -24,7 +24,7 @@ pub enum Drawing<'a> {
     /// A rectangle gets the colours of these pixels, one for each place, whose bytes are in the
     /// format (RFC 6143 section 7.4), as those of Raw are (section 7.7.1).
     Pixels(Rect, Format, &'a [u8]),
-    /// A rectangle gets these colours: of each place a byte of red, of green and of blue.
+    /// A rectangle gets these colours: for each place a byte of red, of green and of blue.
     Bytes(Rect, &'a [u8]),
     /// A rectangle gets what the one of its size at a column and a row had, as CopyRect does
     /// (section 7.7.2).
@@ -42,7 +42,7 @@ impl Drawing<'_> {
     ghost use Rattle.rfb_server.specs.Strokes.{IsInside, drawn_by, notice_of, stroke};
 
     /// What the sessions over this screen are told of it. Refused is what leaves the screen, and
-    /// what has not one colour for each of its places.
+    /// what does not have one colour for each of its places.
     ///
     /// It is inlined, as `draw_on` is: mostly it is known there what is drawn.
     #[inline(always)]
@@ -65,7 +65,7 @@ impl Drawing<'_> {
         }
     }
 
-    /// Draws it on the screen, of which it was judged. A hint changes nothing.
+    /// Draws it on the screen that it was judged for. A hint changes nothing.
     #[inline(always)]
     pub fn draw_on(&self, screen: &mut Picture<Colour>)
         requires inside { IsInside screen.old (stroke self.now) }

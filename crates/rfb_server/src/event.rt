@@ -1,4 +1,4 @@
-//! What a server tells of what its client sent.
+//! What a server reports of what its client sent.
 
 ghost use Rattle.std.specs.Prelude.{◌≡◌};
 ghost use Rattle.rfb_server.specs.Told.{event_told, reply_bytes};

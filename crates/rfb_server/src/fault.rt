@@ -13,7 +13,7 @@ use thiserror::Error;
 /// A fault, and with which byte of a slice it came.
 #[derive(Clone, Copy, Debug, PartialEq, Eq)]
 pub struct Flaw {
-    /// How many bytes of the slice stand up to that byte, itself among them.
+    /// How many bytes of the slice there are up to that byte, itself among them.
     pub used: usize,
     pub fault: ServerFault,
 }

@@ -6,9 +6,9 @@ ghost use Rattle.rfb_server.specs.Room.{GrowsWithin};
 
 use std::alloc::AllocError;
 
-/// Makes room for that many bytes more, if there is less: twice the room that there was, so that a
-/// buffer that takes one update after another is seldom moved, or as much as is needed, if that is
-/// more or there is no memory for twice. On an error nothing changes.
+/// Makes room for that many bytes more, if there is less. It doubles the room, so that a buffer
+/// that takes one update after another is seldom moved. Where `more` is at least the room that
+/// there was, or there is no memory for twice, it makes just enough. On an error nothing changes.
 pub(crate) fn make_room(out: &mut Vec<u8>, more: usize) -> Result<(), AllocError>
     requires few { more ≤ 2 ^ 27 }
     ensures items { out.new.items ≡ out.old.items }

@@ -21,9 +21,9 @@ use rfb_pixel::Colour;
 use std::alloc::{AllocError, Global};
 use std::marker::Model;
 
-/// A session as `Session` is, but for when it takes memory: that of its places, which is nearly all
-/// of it, it takes where the client's handshake may come to its end. A connection that sends
-/// nothing costs little more than its name. Contracts say what session it is.
+/// A session as `Session` is, but for when it takes memory. The memory of its places is nearly all
+/// of it, and is taken where the client's handshake may end. A connection that sends nothing costs
+/// little more than its name. Contracts say what session it is.
 #[derive(Debug, Drop)]
 pub struct LateSession {
     alloc: Global,
@@ -123,7 +123,7 @@ impl LateSession {
         }
     }
 
-    /// Whether an update for `other` is one for this session too, as `Session::is_twin_of` tells:
+    /// Whether an update for `other` is one for this session too, as by `Session::is_twin_of`:
     /// never before both handshakes are done.
     pub fn is_twin_of(&self, other: &LateSession, knows_same: bool) -> bool
         requires same { knows_same ≡ true
@@ -139,7 +139,7 @@ impl LateSession {
         }
     }
 
-    /// Whether both viewers are known to have the same, as `Session::knows_as` tells: never before
+    /// Whether both viewers are known to have the same, as by `Session::knows_as`: never before
     /// both handshakes are done.
     pub fn knows_as(&self, other: &LateSession) -> bool
         ensures { OnTrue result ((screen : Grid Colour) → Follows screen self.now
@@ -151,8 +151,8 @@ impl LateSession {
         }
     }
 
-    /// Whether so little may need sending that no twin is worth finding, as `Session::is_slight`
-    /// tells: so it is before its handshake is done.
+    /// Whether so little may need sending that no twin is worth finding, as by
+    /// `Session::is_slight`: so it is before its handshake is done.
     pub fn is_slight(&self) -> bool {
         match &self.stage {
             Stage::Entering(_) => true,
@@ -180,7 +180,7 @@ impl LateSession {
         }
     }
 
-    /// Whether its viewer waits for an update, as `Session::is_asked` tells: never before its
+    /// Whether its viewer waits for an update, as by `Session::is_asked`: never before its
     /// handshake is done.
     pub fn is_asked(&self) -> bool
         ensures { IsTrue result ↔ HasAsked self.now }
@@ -191,7 +191,7 @@ impl LateSession {
         }
     }
 
-    /// Whether it is known what its viewer has at the first place, as `Session::knows_first` tells:
+    /// Whether it is known what its viewer has at the first place, as by `Session::knows_first`:
     /// never before its handshake is done.
     pub fn knows_first(&self) -> bool
         ensures { OnTrue result (at_or (notes_in self.now).known 0 0 None ≢ None) }

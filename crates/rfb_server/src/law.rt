@@ -79,8 +79,8 @@ pub fn a_session_stands_over_any_screen()
         SessionStandsFor serving after session (with_screen after s) prefix }
 {}
 
-/// A session over a screen that it follows is a server, which stands for what the session does; and
-/// a server is its session over its screen, with its count of bytes.
+/// A session over a screen that it follows is a server, which stands for what the session does. A
+/// server is its session over its screen, with its count of bytes.
 pub fn a_session_over_a_screen_is_a_server()
     ensures stands { (serving : Serving) (screen : Grid Colour) (session : Session)
         (count : ℕ) (follows : Follows screen session) (s : ServerState) (prefix : List ℕ) →

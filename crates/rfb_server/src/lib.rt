@@ -22,8 +22,8 @@
 //! | of `greeting`, of an event's `reply`, of `compose`, in this order | the client |
 //! | of the client, in any slices | `feed` |
 //!
-//! `Session` is a server without its screen, which its calls are lent. Several of them show one
-//! screen: of a `Drawing` each is told, `notified`, and the screen is drawn on once, `draw_on`.
+//! `Session` is a server without its screen, which its calls borrow. Several of them show one
+//! screen: `notified` tells each of a `Drawing`, and `draw_on` draws it on the screen once.
 #![tactic(auto)]
 
 mod cells;

@@ -37,8 +37,8 @@ impl Record {
     ghost use Rattle.rfb_picture.specs.Grid.{IsGrid, Holds, uniform};
     ghost use Rattle.rfb_server.specs.Record.{AreKnown, forgotten, ShowsKnown, TellsKnown};
 
-    /// A record of a screen of `width` by `height` places, of which none is known. It asks for room
-    /// for all its places, in eight pieces; where there is none it gives the error, and nothing is
+    /// A record of a screen of `width` by `height` places, none of them known. It asks for room for
+    /// all its places, in eight pieces. Where there is none it gives the error, and nothing is
     /// kept.
     pub(crate) fn new(alloc: Global, width: u16, height: u16) -> Result<Record, AllocError>
         ensures value { IfOk result (λ r. r ≡ uniform width height None) }
@@ -50,7 +50,7 @@ impl Record {
         Ok(Record { pixels, known })
     }
 
-    /// How many places a row has. It also tells that each place is known or not.
+    /// How many places a row has. Its contract also says that each place is known or not.
     #[inline]
     pub(crate) fn width(&self) -> u16
         ensures value { result ≡ self.now.width }

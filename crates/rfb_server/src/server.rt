@@ -166,8 +166,8 @@ impl Server {
         self.session.between()
     }
 
-    /// How many bytes are pending: those of the client's item under way that stand after its last
-    /// whole piece. It keeps no others, but the first bytes of a text.
+    /// How many bytes are pending: those of the client's item under way after its last whole piece.
+    /// It keeps no others, but the first bytes of a text.
     pub fn pending(&self) -> usize
         ensures value { (serving : Serving) (s : ServerState) (prefix : List ℕ)
             → StandsFor serving self.now s prefix
@@ -179,15 +179,18 @@ impl Server {
     }
 
     /// Appends to `out` one FramebufferUpdate, RFC 6143 section 7.6.1, of what the viewer asked for
-    /// and does not have, and tells whether it did: exactly where the handshake is done, the server
-    /// has not failed, and such a place is there. First in it is a CopyRect for each hint that is
-    /// of use, the oldest first, where the viewer listed CopyRect: a copy over asked places, none
-    /// of them to be sent whole, which leaves more of them right than there were. Then come pixels.
-    /// After an update nothing is asked any more. `out` stays the caller's; what was in it stays in
-    /// front. Room is asked for once, before anything changes: at most 260 bytes, and 12 and its
-    /// pixels' bytes for each cell of 64 by 64 places that holds an asked place; or twice the room
-    /// that there was, if that is more. Where there is none it gives the error, if an update is
-    /// due, and nothing changes.
+    /// and does not have. It reports whether it did: exactly where the handshake is done, the
+    /// server has not failed, and such a place is there.
+    ///
+    /// First in it is a CopyRect for each hint that is of use, the oldest first, where the viewer
+    /// listed CopyRect. Such a hint copies over asked places, none of them to be sent whole, and
+    /// leaves more of them right than there were. Then come pixels. After an update nothing is
+    /// asked any more, and no hint is kept.
+    ///
+    /// `out` stays the caller's; what was in it stays in front. Room is asked for once, before
+    /// anything changes. It is at most 260 bytes, and 12 and its pixels' bytes for each cell of 64
+    /// by 64 places that holds an asked place, or twice the room that there was, if that is more.
+    /// Where there is none it gives the error, if an update is due, and nothing changes.
     pub fn compose(&mut self, out: &mut Vec<u8>) -> Result<bool, AllocError>
         ensures appended { (bytes : List ℕ) × (out.new.items ≡ out.old.items ++ bytes) }
         ensures composed { IfOk result (λ did. did ≡ true →

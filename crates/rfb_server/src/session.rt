@@ -32,7 +32,7 @@ use std::alloc::{AllocError, Global};
 
 /// One viewer's part of a server: its handshake, its format and its list of encodings, what it was
 /// sent, what it asked for, hints, and marks where the screen may differ from what it was sent. The
-/// screen is someone else's: a session is notified where it is drawn on, and is lent it to compose.
+/// screen is someone else's: a session is notified where it is drawn on, and borrows it to compose.
 /// So several sessions, each of its own viewer, serve one screen.
 #[derive(Debug, Drop)]
 pub struct Session {
@@ -169,7 +169,7 @@ impl Session {
         self.known.pixels()
     }
 
-    /// Lends the places of which it is known what the viewer has, as asked ones.
+    /// Lends the places where it is known what the viewer has, as asked ones.
     pub fn known(&self) -> &Area
         ensures value { TellsKnown (notes_in self.now).known result.now }
         ensures columns { result.now.asked.width ≡ (notes_in self.now).known.width }

@@ -13,7 +13,7 @@ pub struct ServerSetup<'a> {
     pub width: u16,
     /// How many rows it has: 1 to 4,096.
     pub height: u16,
-    /// Its name, which ServerInit tells, RFC 6143 section 7.3.2: at most 255 bytes.
+    /// Its name, as ServerInit has it, RFC 6143 section 7.3.2: at most 255 bytes.
     pub name: &'a [u8],
     /// The highest version that is offered.
     pub offer: Version,

@@ -1,4 +1,4 @@
-//! Tests of a server that is fed what clients send. A server is let go by `drop`, whose proof is
+//! Tests of a server that is fed what clients send. A server is ended by `drop`, whose proof is
 //! shorter than that of the same at the end of a body. Lists of steps and tables are constants
 //! behind a `&`: one that is made in a body takes several times as long to prove.
 

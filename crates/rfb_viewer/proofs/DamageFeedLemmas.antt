@@ -296,7 +296,7 @@ damages_later fault old mid new i bytes fed d fails ends = λ viewing.
     × (damage_of new ≡ rect_of_damage (joined_if s.ended (begun s.state.point front))))
     (IsDamaged viewing) old mid i bytes (fed viewing) (fault_damages viewing mid new fault (drop i bytes) d fails ends)
 
--- ---- a slice, of which i bytes are taken, and now n more
+-- ---- i bytes of a slice are taken, and now n more
 
 module _ (old mid new : Viewer) (i n : ℕ) (bytes : List ℕ) (event : Option ViewerTold)
     (steps : (viewing : Viewing) →

@@ -50,7 +50,7 @@ use Rattle.rfb_viewer.proofs.MessageLemmas.{here, at_head, head_asks}
 use Rattle.rfb_viewer.proofs.RectLemmas.{IsOpened, opened_at, at_rect_head, at_data, painted_now, joined}
 use Rattle.rfb_viewer.proofs.LendLemmas.{unreasoned_at}
 
--- ---- a slice of which a part was taken before
+-- ---- a slice with a part taken before
 
 pub ends_later : (fault : ViewerFault) (old mid new : Viewer) (i : ℕ) (bytes : List ℕ) →
     ((viewing : Viewing) → FedBy (viewer viewing) (StandsFor viewing) old (take i bytes) None mid) →

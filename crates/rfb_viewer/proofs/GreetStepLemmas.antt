@@ -144,7 +144,7 @@ module _ (old new : Viewer) (bytes : List ℕ) (used : ℕ) (same : spared new �
       t.ready (greeted t.setup at shown))) ended
       (rw told (answer_offers old new.hello bytes reply t.was t.offered))
 
-  -- a step that tells the screen
+  -- a step that gives the screen's size
   pub takes_screen : (width height : ℕ) → IsTaken old bytes used (Some (Screen width height)) new.hello →
       new.progress ≡ Handshake → new.picture ≡ Some (screen_or width height old.picture) →
       ended_of new ≡ screen_made old.picture new.picture (ended_of old) → Takes old bytes used None new

@@ -39,7 +39,7 @@ damage_holds before after r x y h = all_held None before after r x y h
 
 -- ---- and no more
 
--- edges of places, none of which passes those of another rectangle
+-- edges of places that stay within those of another rectangle
 record Bounded (e : Edges) (outer : Rect) : Type 0 where
   columns : e.left < e.right
   rows : e.top < e.lower
@@ -52,7 +52,7 @@ abbrev Fits : Option Edges → Rect → Type 0
 Fits None outer = Unit {0}
 Fits (Some e) outer = Bounded e outer
 
--- the corners of a rectangle tell its edges
+-- the corners of a rectangle give its edges
 bounded : (r outer : Rect) → 0 < r.w → 0 < r.h → IsWithin (Some r) outer → Bounded (edges_of r) outer
 bounded r outer wide high within =
     let first =

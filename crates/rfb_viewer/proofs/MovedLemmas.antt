@@ -81,7 +81,7 @@ module _ (viewing : Viewing) (old new : Viewer) (unit : List ℕ) (m : Moves old
       by (Got i rest) e h = (h.0, h.1, record { stands = h.2; moves_are = now (Got i rest) e })
       by (Bad fault) e h = absurd h
 
--- a slice, of which i bytes are taken, and now n more
+-- i bytes of a slice are taken, and now n more
 pub moved_on : (old mid new : Viewer) (i n : ℕ) (bytes : List ℕ) (event : Option ViewerTold) →
     ((viewing : Viewing) → StepsBy (viewer viewing) (StandsFor viewing) mid (take n (drop i bytes)) (Ok event) new) →
     Moves mid (take n (drop i bytes)) new →

@@ -236,7 +236,7 @@ data_placed old more painter picture bytes flaw was shown some within shows =
 
 -- ---- a slice
 
--- of which a part was taken before
+-- a part of it was taken before
 pub placed_later : (fault : ViewerFault) (old mid : Viewer) (i n : ℕ) (bytes : List ℕ) → i ≤ length bytes →
     ((viewing : Viewing) → FedBy (viewer viewing) (StandsFor viewing) old (take i bytes) None mid) →
     IsPlacedAt n fault mid (drop i bytes) → IsPlacedAt (i + n) fault old bytes

@@ -24,8 +24,8 @@ refusal_if false fault more = more
 abbrev pub is_requestable : UpdatePoint → Rect → Bool
 is_requestable p rect = nat_lt 0 rect.w && nat_lt 0 rect.h && is_on_screen p.width p.height rect
 
--- whether the stream stands inside an update, from its type byte on: by how many rectangles are
--- left, and which bytes came of the next item
+-- whether the stream is inside an update, from its type byte on: by how many rectangles are
+-- left, and which bytes of the next item came
 abbrev pub is_inside : ℕ → List ℕ → Bool
 is_inside zero [] = false
 is_inside zero (first ∷ rest) = first == 0

@@ -34,7 +34,7 @@ IsHeadBegun [] = Unit {0}
 IsHeadBegun (first ∷ rest) =
     (size : ℕ) × (server_head_size first ≡ Some size) × (length (first ∷ rest) < size)
 
--- the bytes are a SetColorMapEntries of which `left` bytes are missing
+-- the bytes are a SetColorMapEntries without its last `left` bytes
 pub record AreColoursBegun (left : ℕ) (prefix : List ℕ) : Type 0 where
   pub head : List ℕ
   pub colours : List ℕ
@@ -44,8 +44,8 @@ pub record AreColoursBegun (left : ℕ) (prefix : List ℕ) : Type 0 where
   pub head_is : SpellsColourMap first count head
   pub missing : length colours + left ≡ count * 6
 
--- the bytes are a ServerCutText of `text_length` bytes of which `left` are missing, and `kept` is
--- kept of it
+-- the bytes are a ServerCutText of `text_length` bytes without its last `left`, and `kept` is kept
+-- of it
 pub record IsTextBegun (text_limit text_length left : ℕ) (kept : KeptText)
     (prefix : List ℕ) : Type 0 where
   pub head : List ℕ
@@ -68,7 +68,7 @@ IsScreenAt (AwaitsName version width height name_length) picture =
 IsScreenAt (Begun version width height) picture = picture ≡ Some (uniform width height black)
 
 -- the handshake is done, and no reason was given; updates are in the viewer's format, on a screen
--- of the picture's size; `left` rectangles are left of the update that the point stands in
+-- of the picture's size; `left` rectangles are left of the update that the point is in
 pub record IsReadyAt (viewer : Viewer) (p : UpdatePoint) (picture : Option (Grid Colour))
     (left : ℕ) : Type 0 where
   pub closed : is_open viewer.hello ≡ false

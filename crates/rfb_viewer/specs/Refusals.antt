@@ -23,7 +23,7 @@ is_ready Handshake = false
 is_ready (Failed fault) = false
 is_ready progress = true
 
--- the bytes stand inside an update, from its type byte on
+-- the bytes are inside an update, from its type byte on
 abbrev pub is_updating : Progress → Bool
 is_updating (Head bytes) = is_inside 0 bytes.items
 is_updating (RectHeadPart more head) = true

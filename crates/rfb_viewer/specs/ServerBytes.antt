@@ -17,7 +17,7 @@ use Rattle.rfb_hello.specs.ViewerEnd.{ViewerSetup}
 use Rattle.rfb_viewer.specs.declared.fault.ViewerFault.{ViewerFault}
 use Rattle.rfb_viewer.specs.Fault.{fault_of_hello, fault_of_update}
 
--- where a server's bytes stand: in the handshake, or after it, perhaps inside an update
+-- where a server's bytes are: in the handshake, or after it, perhaps inside an update
 abbrev pub ServerAt : Type 0
 ServerAt = Stage ServerPoint UpdatePoint
 
@@ -29,8 +29,8 @@ FromServer = Stage ServerItem UpdateItem
 abbrev pub first_between : PixelFormat → ℕ → ℕ → UpdatePoint
 first_between form width height = record { width = width; height = height; form = form; left = 0 }
 
--- ServerInit leads to the messages where no name follows; where one does, that leads there; no
--- other step does
+-- ServerInit leads to the messages where no name follows it. Where one does, the name leads there.
+-- No other step does
 abbrev pub to_updates : PixelFormat → ServerPoint → ServerItem → Option UpdatePoint
 to_updates form (AwaitsInit version) (ServerInit width height zero) =
     Some (first_between form width height)
@@ -64,8 +64,8 @@ server_bytes_say form setup =
 abbrev pub server_bytes_pending : ServerAt → List ℕ → ℕ
 server_bytes_pending at bytes = pending_in server_handshake_pending update_pending at bytes
 
--- it stands between two messages: the handshake is done, no update is under way, and nothing came
--- of the next item
+-- it is between two messages: the handshake is done, no update is under way, and nothing came of
+-- the next item
 abbrev pub is_between : ServerAt → List ℕ → Bool
 is_between (First point) bytes = false
 is_between (Second p) [] = p.left == 0

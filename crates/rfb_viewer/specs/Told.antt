@@ -1,4 +1,4 @@
--- What a viewer tells of what its server sent: events, as values that hold what was spelled.
+-- What a viewer reports of what its server sent: events, as values that hold what was spelled.
 use Rattle.std.specs.Prelude.{ℕ, ◌==◌, Bool, true, false, List, [], length, take, Option, Some, None}
 use Rattle.rfb_wire.specs.ServerMessage.{FramebufferUpdate, SetColorMapEntries, Bell as BellMessage, ServerCutText}
 use Rattle.rfb_codec.specs.UpdateStream.{UpdatePoint, UpdateItem, Message, Rectangle}
@@ -10,9 +10,9 @@ use Rattle.rfb_viewer.specs.declared.event.ViewerEvent.TheVariants.{UpdateDone a
 use Rattle.rfb_viewer.specs.declared.event.ViewerEvent.TheVariants.{CutText as CutTextEvent}
 use Rattle.rfb_viewer.specs.declared.event.ViewerEvent.TheVariants.{ColourMapSkipped as ColourMapSkippedEvent}
 
--- an answer that is to be sent; the last one, with the screen's size and as much of its name as is
--- kept and how many bytes it has; the end of an update; a bell; a text, likewise; a colour map,
--- which is not kept
+-- an answer that is to be sent; or the last one, with the screen's size, what is kept of its name,
+-- and the name's length. The end of an update. A bell. A text: what is kept of it, and its length.
+-- A colour map, which is not kept
 pub data ViewerTold : Type 0 where
   Reply : (bytes : List ℕ) → ViewerTold
   Ready : (bytes : List ℕ) → (width height : ℕ) → (name : List ℕ) → (name_length : ℕ) → ViewerTold

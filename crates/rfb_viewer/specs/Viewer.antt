@@ -26,9 +26,9 @@ pub record Viewing : Type 0 where
   pub form : PixelFormat
   pub encodings : List Encoding
 
--- where the server's bytes stand; the picture, once there is a screen; and whether a request is
--- outstanding. The format in force stands in the point, and before the messages it is the one that
--- the viewer was made with
+-- where the server's bytes are; the picture, once there is a screen; and whether a request is
+-- outstanding. The format in force is in the point; before the messages it is the one that the
+-- viewer was made with
 pub record ViewerState : Type 0 where
   pub point : ServerAt
   pub picture : Option (Grid Colour)

@@ -1,4 +1,4 @@
-//! What a viewer tells of what its server sent.
+//! What a viewer reports of what its server sent.
 
 ghost use Rattle.std.specs.Prelude.{◌≡◌};
 ghost use Rattle.rfb_viewer.specs.Told.{event_told, reply_bytes};
@@ -18,9 +18,9 @@ pub const MAX_READY: usize = 40;
 pub enum ViewerEvent {
     /// Bytes that are to be sent to the server.
     Reply(ArrayVec<u8, MAX_ANSWER>),
-    /// The handshake is done: the last bytes to be sent, SetPixelFormat and SetEncodings; how many
-    /// columns and rows the screen has, section 7.3.2; as much of its name as is kept, which is the
-    /// caller's from here on, and how many bytes it had.
+    /// The handshake is done. It has the last bytes to be sent, SetPixelFormat and SetEncodings,
+    /// and how many columns and rows the screen has, section 7.3.2. `name` is as much of its name
+    /// as is kept, the caller's from here on, and `name_length` how many bytes it had.
     Ready {
         reply: ArrayVec<u8, MAX_READY>,
         width: u16,
@@ -38,8 +38,8 @@ pub enum ViewerEvent {
         kept: Vec<u8>,
         length: u32,
     },
-    /// The last byte of SetColorMapEntries, section 7.6.2, of which nothing is kept: formats here
-    /// have no colour map.
+    /// The last byte of SetColorMapEntries, section 7.6.2. Nothing of it is kept: formats here have
+    /// no colour map.
     ColourMapSkipped,
 }
 

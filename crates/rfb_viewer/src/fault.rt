@@ -138,7 +138,7 @@ pub enum CallFault {
     /// The handshake is not done, or the viewer has failed.
     #[error("25 NotReady")]
     NotReady,
-    /// A request is outstanding; or, for a format, the server's bytes stand inside an update.
+    /// A request is outstanding; or, for a format, the server's bytes are inside an update.
     #[error("26 Busy")]
     Busy,
     /// The area has no place, or leaves the screen.

@@ -14,8 +14,8 @@
 //! 3. From `Ready` on there is a `picture`, which is black at first, and the other calls are
 //!    possible: `request`, `set_format`, `set_encodings`, `key`, `pointer`, `cut_text`. Each gives
 //!    a message that is to be sent. `append` and `spell` make any of them, by a `Call`.
-//! 4. `request` asks for an update. One at a time may be outstanding; `UpdateDone` tells its end.
-//!    The first is for all places, later ones for what changed.
+//! 4. `request` asks for an update. One at a time may be outstanding, until `UpdateDone`. The first
+//!    is for all places, later ones for what changed.
 //! 5. `damage` is the least rectangle that holds what changed of the picture since it was asked
 //!    last. A window repaints that, whenever it likes. `moved` has the copies among it.
 //! 6. An error of `feed` is the last of the connection. The picture stays, with what came before

@@ -68,7 +68,7 @@ fn ready(alloc: Global, format: Format, hello: &[u8]) -> Viewer {
     viewer
 }
 
-// How many bytes it takes up to what it tells next.
+// How many bytes it takes up to its next event.
 fn taken(viewer: &mut Viewer, bytes: &[u8]) -> usize {
     match viewer.feed(bytes) {
         Ok(fed) => fed.used,

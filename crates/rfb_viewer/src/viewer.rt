@@ -183,9 +183,9 @@ impl Viewer {
         result
     }
 
-    // Takes the same bytes where the viewer has not failed, and says how many these are, at a fault
-    // those up to the byte with which it came. It is a call, so that it writes what it tells where
-    // that is wanted.
+    // Takes the same bytes where the viewer has not failed. `used` is how many these are, at a
+    // fault those up to the byte with which it came. It is a call, so that it writes its event
+    // where that is wanted.
     #[inline(never)]
     fn take_all(&mut self, bytes: &[u8], used: &mut usize) -> Result<Fed<ViewerEvent>, ViewerFault>
         requires none { used.old ≡ 0 }

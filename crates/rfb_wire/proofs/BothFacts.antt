@@ -18,7 +18,7 @@ abbrev key_leads : ClientMessage → Option ⊤
 key_leads (KeyEvent down key) = Some tt
 key_leads message = None
 
--- of the first's messages, each of which its end tells, a key is an event of the whole
+-- the first's end reports each of its messages; only a key is an event of the whole
 abbrev key_of : ClientMessage → Option ℕ
 key_of (KeyEvent down key) = Some key
 key_of message = None
@@ -72,7 +72,7 @@ keys_go_as_first =
         keyed_told s (First message) ≡ key_of message
     told s p message at = ap (λ (r : Stage ⊤ ⊤). keyed_told r (First message)) at
 
--- the whole takes a pointer where its part does, and tells nothing of it
+-- the whole takes a pointer where its part does, and reports nothing
 pointer_taken : Takes (end_at client_stream (λ _ message. Some message)) tt (5 ∷ 1 ∷ [])
     (0 ∷ 2 ∷ 0 ∷ 3 ∷ []) (Some (PointerEvent 1 2 3)) tt []
 unfolding client_message

@@ -110,7 +110,7 @@ fault_none : (fault : Option FormatFault) → format_fault fault ≡ None → fa
 fault_none None e = refl
 fault_none (Some fault) e = cc
 
--- ---- what stands after a head
+-- ---- what comes after a head
 
 number_reads : Reads {F = ClientFault} (valued 4 (λ bytes. s32_at 0 bytes)) (items_say SpellsNumber)
 number_reads =

@@ -1,4 +1,4 @@
--- Fields of bytes that others stand before or after.
+-- Fields of bytes with others before or after them.
 use Rattle.std.proofs.Common.{◌≡◌, ℕ, ◌+◌, ◌-◌, ◌≤◌, List, take, drop, sym, ap, ◌∙◌, arith}
 use Rattle.std.proofs.lemmas.List.{drop-take}
 use Rattle.byteorder.specs.Endian.{big_number}

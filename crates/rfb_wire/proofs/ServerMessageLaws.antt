@@ -27,7 +27,7 @@ server_head_some first n e = grind (arith, nat_tests)
 pub server_headed : IsHeaded SpellsServerHead server_head_size server_head_of
 server_headed = headed_by server-sizes server-spelled server_head_some
 
--- ---- what stands after a head
+-- ---- what comes after a head
 
 colour_reads : Reads {F = ServerFault} (valued 6 map_colour_of) (items_say SpellsMapColour)
 colour_reads =
@@ -77,7 +77,7 @@ spells_item BellHead m bytes front back e s h = rw (h.0, alone bytes front back 
 spells_item (CutText text_length) m bytes front back e s (text, is, is_text) =
     rw is (text_follows SpellsServerCutText text_length text bytes front back e s is_text)
 
--- no fault stands after a head
+-- no fault comes after a head
 spells_fault : (head : ServerHead) (f : ServerFault) (back : List ℕ) →
     (after_says head).fault f back → ⊥
 spells_fault (Update count) f back h = h

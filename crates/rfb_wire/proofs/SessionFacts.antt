@@ -8,7 +8,7 @@ use Rattle.rfb_wire.specs.stream.End.{Machine, Takes, Refuses, Call, bytes_of, e
 use Rattle.rfb_wire.specs.stream.Both.{end_at}
 use Rattle.rfb_wire.specs.stream.Session.{IsSession, DeliversAll}
 
--- an end that tells each message
+-- an end that reports each message
 abbrev teller : Machine ⊤ ⊤ ClientMessage ClientFault ClientMessage
 teller = end_at client_stream (λ _ message. Some message)
 
@@ -76,7 +76,7 @@ same_bytes = refl
 same_events : events_of at_once ≡ events_of in_parts
 same_events = refl
 
--- ---- a queue of a key and the pointer, of which the key and a byte of the pointer are delivered
+-- ---- a queue of a key and the pointer: the key and a byte of the pointer are delivered
 
 parts_delivered : DeliversAll teller tt [] (KeyEvent true 97 ∷ PointerEvent 1 258 3 ∷ [])
     (key ++ 5 ∷ []) (1 ∷ 1 ∷ 2 ∷ 0 ∷ 3 ∷ []) (KeyEvent true 97 ∷ []) tt (5 ∷ [])

@@ -43,7 +43,7 @@ client_waits head front rest s more =
     ((headed_reads SpellsClientHead client_head_size (λ first. UnknownType first)
     client_head_of client_headed).only head front rest s) more
 
--- SetEncodings with fewer numbers than its head tells
+-- SetEncodings with fewer numbers than its head counts
 pub encodings_wait : (count : ℕ) (front rest : List ℕ) → SpellsSetEncodings count front →
     length rest < count * 4 → client_message (front ++ rest) ≡ More
 encodings_wait count front rest s less =
@@ -52,7 +52,7 @@ encodings_wait count front rest s less =
     (λ numbers. done (SetEncodings numbers)) rest
     (pieces_wait count 4 (λ bytes. s32_at 0 bytes) [] rest less))
 
--- ClientCutText with less text than its head tells
+-- ClientCutText with less text than its head says
 pub client_text_waits : (text_length : ℕ) (front rest : List ℕ) →
     SpellsClientCutText text_length front → length rest < text_length →
     client_message (front ++ rest) ≡ More
@@ -87,14 +87,14 @@ server_waits head front rest s more =
     ((headed_reads SpellsServerHead server_head_size (λ first. UnknownServerType first)
     server_head_of server_headed).only head front rest s) more
 
--- SetColorMapEntries with fewer colours than its head tells
+-- SetColorMapEntries with fewer colours than its head counts
 pub colours_wait : (first count : ℕ) (front rest : List ℕ) → SpellsColourMap first count front →
     length rest < count * 6 → server_message (front ++ rest) ≡ More
 colours_wait first count front rest s less =
     server_waits (ColourMap first count) front rest s
     (rw (pieces_wait {F = ServerFault} count 6 map_colour_of [] rest less) refl)
 
--- ServerCutText with less text than its head tells
+-- ServerCutText with less text than its head says
 pub server_text_waits : (text_length : ℕ) (front rest : List ℕ) →
     SpellsServerCutText text_length front → length rest < text_length →
     server_message (front ++ rest) ≡ More

@@ -1,5 +1,5 @@
--- The heads of the messages from client to server, RFC 6143 section 7.5, field by field as its
--- tables stand. A head is what comes before a list or a text that a message ends with.
+-- The heads of the messages from client to server, RFC 6143 section 7.5, field by field as in
+-- its tables. A head is what comes before a list or a text that a message ends with.
 use Rattle.std.specs.Prelude.{◌≡◌, ℕ, Bool, List, ◌∷◌, ◌++◌, length, drop, Option, Some, None, if◌then◌else◌, ◌==◌}
 use Rattle.byteorder.specs.Endian.{big_bytes}
 use Rattle.rfb_picture.specs.declared.rect.Rect.{Rect}

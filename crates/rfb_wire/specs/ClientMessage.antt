@@ -37,11 +37,11 @@ pub record SpellsNumber (number : ℤ) (bytes : List ℕ) : Type 0 where
   pub size : length bytes ≡ 4
   pub number_is : s32_at 0 bytes ≡ number
 
--- SetEncodings, section 7.5.2: the head tells how many numbers follow
+-- SetEncodings, section 7.5.2: the head says how many numbers follow
 abbrev pub SpellsEncodingsMessage : List ℤ → List ℕ → Type 0
 SpellsEncodingsMessage encodings bytes = SpellsList SpellsSetEncodings SpellsNumber encodings bytes
 
--- ClientCutText, section 7.5.6: the head tells how many bytes of text follow
+-- ClientCutText, section 7.5.6: the head says how many bytes of text follow
 abbrev pub SpellsTextMessage : List ℕ → List ℕ → Type 0
 SpellsTextMessage text bytes = SpellsText SpellsClientCutText text bytes
 

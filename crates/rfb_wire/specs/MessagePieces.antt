@@ -1,6 +1,6 @@
--- The pieces of messages, RFC 6143 sections 7.5 and 7.6, whose bytes are pending until their last
--- is there: the head with its type byte, and after it each number of SetEncodings, each colour of
--- SetColorMapEntries and each byte of a text.
+-- The pieces of messages, RFC 6143 sections 7.5 and 7.6: the bytes of a piece are pending until
+-- its last is there. Pieces are the head with its type byte, and after it each number of
+-- SetEncodings, each colour of SetColorMapEntries and each byte of a text.
 use Rattle.std.specs.Prelude.{ℕ, ◌==◌, List, if◌then◌else◌}
 use Rattle.rfb_wire.specs.stream.PendingBytes.{after_piece, message_pending}
 use Rattle.rfb_wire.specs.ClientHead.{client_head_size}

@@ -1,5 +1,5 @@
 -- The head of a rectangle in a stream, RFC 6143 section 7.6.1: what bytes begin with where one
--- stands next, on a screen of that size.
+-- is next, on a screen of that size.
 use Rattle.std.specs.Prelude.{◌≡◌, ℕ, zero, suc, ℤ, pos, negsuc, ◌+◌, ◌&&◌, Bool, List, length, Option, Some, None}
 use Rattle.std.specs.Prelude.{nat_le, if◌then◌else◌}
 use Rattle.rfb_picture.specs.declared.rect.Rect.{Rect}

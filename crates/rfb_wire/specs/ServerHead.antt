@@ -1,6 +1,6 @@
 -- The heads of the messages from server to client, RFC 6143 section 7.6, field by field as
--- its tables stand. A head is what comes before the rectangles, the colours or the text
--- that a message ends with.
+-- in its tables. A head is what comes before the rectangles, the colours or the text that a
+-- message ends with.
 use Rattle.std.specs.Prelude.{◌≡◌, ℕ, List, [], ◌∷◌, ◌++◌, length, Option, Some, None, if◌then◌else◌, ◌==◌}
 use Rattle.byteorder.specs.Endian.{big_bytes}
 use Rattle.rfb_wire.specs.declared.server_head.ServerHead.{ServerHead}

@@ -35,12 +35,12 @@ pub record SpellsMapColour (colour : MapColour) (bytes : List ℕ) : Type 0 wher
   pub green_is : u16_at 2 bytes ≡ colour.green
   pub blue_is : u16_at 4 bytes ≡ colour.blue
 
--- SetColorMapEntries, section 7.6.2: the head tells how many colours follow
+-- SetColorMapEntries, section 7.6.2: the head says how many colours follow
 abbrev pub SpellsColoursMessage : ℕ → List MapColour → List ℕ → Type 0
 SpellsColoursMessage first colours bytes =
     SpellsList (SpellsColourMap first) SpellsMapColour colours bytes
 
--- ServerCutText, section 7.6.4: the head tells how many bytes of text follow
+-- ServerCutText, section 7.6.4: the head says how many bytes of text follow
 abbrev pub SpellsServerTextMessage : List ℕ → List ℕ → Type 0
 SpellsServerTextMessage text bytes = SpellsText SpellsServerCutText text bytes
 

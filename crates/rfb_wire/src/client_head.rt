@@ -84,7 +84,7 @@ impl ClientHead {
         Read::Got(ClientHead::of_whole(&bytes[..size]), size)
     }
 
-    // The head that the bytes spell, of which there are as many as their type byte asks for.
+    // The head that the bytes spell, as many as their type byte asks for.
     fn of_whole(bytes: &[u8]) -> ClientHead
         requires some { 0 < length bytes.now }
         requires whole { client_head_size (slice_index bytes.now 0) ≡ Some (length bytes.now) }

@@ -7,8 +7,8 @@ ghost use Rattle.arrayvec.specs.ArrayVec.{array_vec_len};
 use arrayvec::ArrayVec;
 use std::mem;
 
-/// Takes bytes of a piece of `SIZE` bytes, of which a part has come. Returns how many these were,
-/// and the piece, if it is whole now.
+/// Takes further bytes of a piece of `SIZE` bytes. Returns how many it took, and the piece, if it
+/// is whole now.
 pub fn gather<const PART: usize, const SIZE: usize>(
     part: &mut ArrayVec<u8, PART>,
     bytes: &[u8],

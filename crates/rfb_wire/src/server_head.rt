@@ -73,7 +73,7 @@ impl ServerHead {
         Read::Got(ServerHead::of_whole(&bytes[..size]), size)
     }
 
-    // The head that the bytes spell, of which there are as many as their type byte asks for.
+    // The head that the bytes spell, as many as their type byte asks for.
     fn of_whole(bytes: &[u8]) -> ServerHead
         requires some { 0 < length bytes.now }
         requires whole { server_head_size (slice_index bytes.now 0) ≡ Some (length bytes.now) }

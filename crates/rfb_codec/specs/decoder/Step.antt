@@ -79,7 +79,7 @@ PaintsSubs f rect s list old new =
     PaintsOver rect (λ x y. colour_of f
     (pixel_at s.background (subs_in f s.foreground s.colored s.count list) x y)) old new
 
--- how many places stand before the first of a row
+-- how many places come before the first of a row
 abbrev pub first_of_row : ℕ → ℕ → ℕ
 first_of_row width row = row * width + 0
 

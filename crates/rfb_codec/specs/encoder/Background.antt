@@ -28,7 +28,7 @@ abbrev pub IsRun : List ℕ → ℕ → ℕ → Type 0
 IsRun pixels start end =
     (i : ℕ) → start ≤ i → i < end → slice_index pixels i ≡ slice_index pixels start
 
--- at the end of those, if it is a place, stands another
+-- at the end of those, if it is a place, is another
 abbrev pub EndsRun : List ℕ → ℕ → ℕ → Type 0
 EndsRun pixels start end = end < length pixels → slice_index pixels end ≢ slice_index pixels start
 
@@ -36,8 +36,8 @@ EndsRun pixels start end = end < length pixels → slice_index pixels end ≢ sl
 abbrev pub Leads : ℕ → ℕ → ℕ → ℕ → Type 0
 Leads count pixel most better = (most < count) ⊎ ((most ≡ count) × (pixel < better))
 
--- of these places beside a pixel that `most` places have: the pixel that the most have, the least
--- of those
+-- the pixel that the most places have, of these places and of one that `most` places have: the least
+-- among equals
 pub record IsLed (aside : List ℕ) (better most result : ℕ) : Type 0 where
   pub count : ℕ
   pub from : ((result ≡ better) × (count ≡ most)) ⊎ ((0 < count) × (count ≤ places_of result aside))
@@ -65,8 +65,8 @@ hash_of pixel = pixel * 2654435761 % 4294967296 / 65536
 abbrev pub slot_of : ℕ → ℕ → ℕ
 slot_of slots pixel = hash_of pixel % slots
 
--- the slot belongs to the pixel at place `first`, less 1: if it was vacant, from now on to the one at
--- `start`, which was still allowed
+-- the slot belongs to the pixel at place `first` - 1. If it was vacant, that is the one at `start`
+-- from now on, which was still allowed
 abbrev pub Claims : (slot start : ℕ) → List ℕ → List ℕ → ℕ → ℕ → ℕ → Type 0
 Claims slot start firsts firsts' free free' first =
     ((slice_index firsts slot ≡ 0) × (free ≢ 0) × (firsts' ≡ set firsts slot (start + 1))

@@ -15,7 +15,7 @@ abbrev pub held_of : Carried → Held
 held_of carried =
     record { background = carried.background; foreground = carried.foreground }
 
--- the last of the tiles that specify that colour specified this one, and none that stops it stands
+-- the last of the tiles that specify that colour specified this one, and none that stops it comes
 -- after
 pub record IsCarried (colour : Tile → Option ℕ) (stops : Tile → Bool) (before : List Tile)
     (value : ℕ) : Type 0 where

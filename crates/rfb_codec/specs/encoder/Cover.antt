@@ -23,7 +23,7 @@ ArePartsOf width height pixels background [] = Unit {0}
 ArePartsOf width height pixels background (s ∷ subs) =
     IsPartOf width height pixels background s × ArePartsOf width height pixels background subs
 
--- over the background the subrectangles show the pixels, which stand row by row
+-- over the background the subrectangles show the pixels, which are row by row
 pub record IsCover (width height : ℕ) (pixels : List ℕ) (background : ℕ) (subs : List Subrect)
     : Type 0 where
   pub parts : ArePartsOf width height pixels background subs

@@ -17,7 +17,7 @@ abbrev pub HasOther : ℕ → ℕ → List ℕ → Type 0
 HasOther first second pixels = (i : ℕ) × (i < length pixels) ×
     (slice_index pixels i ≢ first) × (slice_index pixels i ≢ second)
 
--- each place has the one pixel, or one of the two, both of which are there, or there are three at
+-- each place has the one pixel, or one of the two, and both are there, or there are three at
 -- least
 abbrev pub HasPalette : Palette → List ℕ → Type 0
 HasPalette (One pixel) pixels = (i : ℕ) → i < length pixels → slice_index pixels i ≡ pixel

@@ -23,7 +23,7 @@ const ASIDE: usize = 64;
 // The slots of the large table.
 const MANY: usize = 4096;
 
-// How many places are looked at to tell noise.
+// How many places are looked at to detect noise.
 const SAMPLE: usize = 64;
 
 // Why a tally has no result.
@@ -39,9 +39,9 @@ enum Stop {
 ///
 /// None comes only where there are more than `most` different pixels.
 ///
-/// It goes by runs of one pixel and counts each in a table on the stack, of which most blocks need
-/// a small one. A slot belongs to the first pixel that comes to it. Others that come to it are put
-/// aside and sorted at the end, so whatever the pixels it takes no more than a sort of them.
+/// It goes by runs of one pixel and counts each in a table on the stack; a small one is enough for
+/// most blocks. A slot belongs to the first pixel that hashes to it. Others that do are put aside
+/// and sorted at the end. So whatever the pixels, it takes no more than a sort of them.
 pub(crate) fn background_of(pixels: &[u32], most: usize) -> Option<u32>
     requires some { 0 < length pixels.now }
     requires few { length pixels.now ≤ PLACES }
@@ -66,16 +66,16 @@ pub(crate) fn background_of(pixels: &[u32], most: usize) -> Option<u32>
     tally::<MANY, PLACES>(pixels, most).ok()
 }
 
-// Whether the pixels come to more slots of a table than `most`, and so are more than that. It may
+// Whether the pixels hash to more slots of a table than `most`, and so are more than that. It may
 // answer false where they are, and does so where pixels come in runs. It costs a quarter of a
-// tally, which a block of noise would take in vain.
+// tally, and a tally of noise would be in vain.
 fn has_more<const SLOTS: usize>(pixels: &[u32], most: usize) -> bool
     requires some { 0 < length pixels.now }
     requires few { length pixels.now ≤ PLACES }
     requires slots { (0 < SLOTS) × (SLOTS ≤ MANY) }
     ensures { OnTrue result (HasMore most pixels.now) }
 {
-    // Some places in the middle tell most blocks that have few pixels.
+    // Some places in the middle reveal most blocks that have few pixels.
     let half = pixels.len() / 2;
     if !is_restless(&pixels[half..pixels.len().min(half + SAMPLE)]) {
         return false;
@@ -122,7 +122,7 @@ fn changes_in(pixels: &[u32]) -> usize
     count as usize
 }
 
-// The most frequent pixel, the least of those. It stops at more pixels than `free`, or at more
+// The most frequent pixel, the least among equals. It stops at more pixels than `free`, or at more
 // places aside than `ROOM`.
 fn tally<const SLOTS: usize, const ROOM: usize>(
     pixels: &[u32],
@@ -135,8 +135,7 @@ fn tally<const SLOTS: usize, const ROOM: usize>(
     ensures found { IfOk result (λ pixel. IsBackground pixels.now pixel) }
     ensures stopped { IfErr result (λ stop. IsStopped stop free ROOM pixels.now) }
 {
-    // Of the pixel that a slot belongs to, the first place and 1, and how many places have it so
-    // far.
+    // For each slot the first place of its pixel, plus 1, and how many places have that so far.
     let mut firsts = [0u16; SLOTS];
     let mut counts = [0u16; SLOTS];
     let mut aside: ArrayVec<u32, ROOM> = ArrayVec::new();
@@ -166,8 +165,8 @@ fn tally<const SLOTS: usize, const ROOM: usize>(
     Ok(with_aside(better, usize::from(most), &mut aside))
 }
 
-// The first place, and 1, of the pixel that a slot belongs to: a vacant one belongs to the pixel at
-// `start` from then on. None where that one is no longer allowed.
+// The first place, plus 1, of the pixel that a slot belongs to. A vacant one belongs to the pixel
+// at `start` from then on. None where no further pixel is allowed.
 #[inline(always)]
 fn claim<const SLOTS: usize>(
     firsts: &mut [u16; SLOTS],

@@ -40,8 +40,8 @@ pub(crate) fn cover<const N: usize>(
         (IsGivenUp width height pixels.now background limit subs.new.items) }
     ensures few { array_vec_len subs.new ≤ limit }
 {
-    // Of each column the first row that no subrectangle taken in it reaches. What lies above the
-    // row that is gone through is never asked again, so it is all that has to be known.
+    // For each column the first row that no subrectangle there reaches. Rows above the one under
+    // way are never asked of again, so this is all that has to be known.
     let mut until = [0; SIDE];
     for y in 0..height {
         let start = first_other(pixels, width, y, background);

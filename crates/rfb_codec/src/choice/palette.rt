@@ -15,7 +15,7 @@ use rfb_pixel::run_of;
 #[derive(Clone, Copy, Debug, PartialEq, Eq)]
 pub enum Palette {
     One(u32),
-    /// Two, of which more places have the background, or as many and it is the lesser value.
+    /// Two. More places have the background, or as many and it is the lesser value.
     Two { background: u32, foreground: u32 },
     More,
 }

@@ -24,8 +24,7 @@ pub fn rre_has_one_choice()
         StandsRreByRule f block bytes → StandsRreByRule f block others → bytes ≡ others }
 {}
 
-/// Data by the rule of their encoding that are shorter than Raw are of a block that this rule does
-/// not give up.
+/// A block whose data by the rule of an encoding are shorter than Raw is not given up by that rule.
 pub fn what_is_sent_shorter_is_not_given_up()
     ensures { (encoding : Encoding) (f : PixelFormat) (block : Grid ℕ) (bytes : List ℕ) →
         StandsIn encoding f block bytes → length bytes < raw_of f block →

@@ -12,7 +12,8 @@ ghost use Rattle.rfb_codec.specs.UpdateStream.{UpdatePoint, UpdateItem, Message,
 ghost use Rattle.rfb_codec.specs.Effect.{effect, effects, IsAlike, Agrees, recorded, IsRecorded};
 ghost use Rattle.rfb_codec.specs.Effect.{noted};
 
-/// The effect of an item: of a rectangle what its data say, where they are some; of a message none.
+/// The effect of an item. That of a rectangle is what its data say, where its bytes stand for data.
+/// A message has none.
 pub fn an_item_has_the_effect_of_its_data()
     ensures painted { (p : UpdatePoint) (head : RectHead) (contents : RectData) (body : List ℕ)
         (picture : Grid Colour) →
@@ -24,7 +25,7 @@ pub fn an_item_has_the_effect_of_its_data()
         effect p (Message message) picture ≡ picture }
 {}
 
-/// The effect of items is that of one after another, wherever in an update they stand.
+/// The effect of items is that of one after another, wherever in an update they are.
 pub fn effects_follow_one_another()
     ensures none { (p : UpdatePoint) (picture : Grid Colour) → effects p [] picture ≡ picture }
     ensures one { (p : UpdatePoint) (item : UpdateItem) (picture : Grid Colour) →
@@ -46,10 +47,10 @@ pub fn effects_keep_the_size()
 
 /// A picture that agrees with what is known goes on to agree:
 ///
-/// - where the pixels of a block are painted and known from then on, as they are put into the
-///   record or as they are found in one,
-/// - where a source on the screen is copied, with what is known of it,
-/// - and so where an item has its effect.
+/// - Where the pixels of a block are painted and known from then on, as put into the record or as
+///   found in one.
+/// - Where a source on the screen is copied, with what is known of it.
+/// - So also where an item has its effect.
 pub fn agreement_is_kept()
     ensures replaced { (f : PixelFormat) (rect : Rect) (block : Grid ℕ)
         (picture : Grid Colour) (known : Grid (Option ℕ)) →

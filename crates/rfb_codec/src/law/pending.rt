@@ -1,5 +1,5 @@
-//! Laws of pending bytes in all that a server sends: those of an item under way that stand after
-//! its last whole piece.
+//! Laws of pending bytes in all that a server sends: those of an item under way after its last
+//! whole piece.
 
 ghost use Rattle.std.specs.Prelude.{◌≡◌, ℕ, ◌+◌, ◌*◌, ◌<◌, ◌≤◌, List, [], ◌∷◌, ◌++◌, length, true};
 ghost use Rattle.std.specs.Prelude.{false};
@@ -20,9 +20,9 @@ ghost use Rattle.rfb_codec.specs.Hextile.{SpellsNextTile, next_tile, tile_count}
 ghost use Rattle.rfb_codec.specs.UpdateStream.{UpdatePoint};
 ghost use Rattle.rfb_codec.specs.PendingBytes.{tile_pending, data_pending, update_pending};
 
-/// Of a rectangle's data a piece is a pixel of Raw; the source of CopyRect; the count with the
-/// background, or a subrectangle, of RRE; and of Hextile what is one of the tile under way. At
-/// most 1,535 bytes are pending, and no more than came.
+/// The pieces of a rectangle's data are a pixel of Raw, the source of CopyRect, RRE's count with
+/// the background, and a subrectangle of RRE. Those of Hextile are the pieces of the tile under
+/// way. At most 1,535 bytes are pending, and no more than came.
 pub fn data_pending_follows_the_last_piece()
     ensures pixel { (f : PixelFormat) (rect : Rect) (count : ℕ) (front rest : List ℕ) →
         length front ≡ count * size_of f → length rest < size_of f →
@@ -57,8 +57,8 @@ pub fn a_tile_is_pending_by_its_mask()
         tile_pending f (mask ∷ rest) ≡ length (mask ∷ rest) }
 {}
 
-/// Where no rectangle is left of an update a message is pending; else a rectangle's head, and
-/// after it what is of its data. At most 1,535 bytes are pending, and no more than came.
+/// Where no rectangle is left of an update, bytes of a message are pending; else those of a
+/// rectangle's head, and after it those of its data. At most 1,535 are, and no more than came.
 pub fn update_pending_follows_the_last_piece()
     ensures message { (p : UpdatePoint) (bytes : List ℕ) →
         p.left ≡ 0 → update_pending p bytes ≡ server_pending bytes }

@@ -1,4 +1,4 @@
-//! What stands next in an update, by what its parts tell, and an update as a whole.
+//! What comes next in an update, as its parts decide, and an update as a whole.
 
 ghost use Rattle.std.specs.Prelude.{◌≡◌, ℕ, ◌-◌, ◌<◌, List, [], ◌++◌, length, map, Option};
 ghost use Rattle.rfb_pixel.specs.declared.colour.Colour.{Colour};
@@ -17,8 +17,8 @@ ghost use Rattle.rfb_codec.specs.WholeUpdate.{SentRect, item_of, SpellsWholeUpda
 ghost use Rattle.rfb_codec.specs.WholeUpdate.{AreNoted};
 ghost use Rattle.rfb_codec.specs.Painter.{data_of, painting_of, AwaitsData};
 
-/// The bytes of an update are read as its head and its rectangles, and bytes that are read so are
-/// such bytes. After an update none of its rectangles is left.
+/// The bytes of an update are read as its head and its rectangles, and no other bytes are. After an
+/// update none of its rectangles is left.
 pub fn an_update_is_its_rectangles()
     ensures read { (p : UpdatePoint) (sent : List SentRect) (bytes : List ℕ) →
         p.left ≡ 0 → SpellsWholeUpdate p sent bytes →
@@ -49,7 +49,7 @@ pub fn rectangles_are_counted_down()
         update_stream.past p (Rectangle head body) ≡ record p { left = p.left - 1 } }
 {}
 
-/// Where no rectangle is left, a message stands next.
+/// Where no rectangle is left, a message comes next.
 pub fn messages_stand_between_updates()
     ensures got { (p : UpdatePoint) (bytes rest : List ℕ) (message : ServerMessage) → p.left ≡ 0 →
         server_message bytes ≡ Got message rest →
@@ -60,8 +60,8 @@ pub fn messages_stand_between_updates()
         server_message bytes ≡ Bad fault → update_stream.next p bytes ≡ Bad (InMessage fault) }
 {}
 
-/// After a rectangle's head, what a painter tells of its data is what the stream says: the
-/// rectangle and its effect where they are all there, nothing where they wait, and their fault.
+/// After a rectangle's head, the stream and a painter say the same of the data: the rectangle and
+/// its effect where they are all there, nothing where they wait, and their fault.
 pub fn a_rectangle_is_decided_by_its_data()
     ensures short { (p : UpdatePoint) (bytes : List ℕ) →
         0 < p.left → length bytes < 12 → update_stream.next p bytes ≡ More }

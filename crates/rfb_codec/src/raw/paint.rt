@@ -116,7 +116,7 @@ pub struct Lines {
     pub count: u16,
 }
 
-/// Paints whole rows of the rectangle, whose pixels stand after those of the rows above.
+/// Paints whole rows of the rectangle, whose pixels follow those of the rows above.
 pub fn paint_lines(
     format: Format,
     rect: Rect,
@@ -154,7 +154,8 @@ fn lines_in(format: Format, rect: Rect, lines: Lines, bytes: &[u8], picture: &mu
 {
     let size = usize::from(rect.w) * format.size();
     'lines: for row in 0..lines.count {
-        // It tells too that the picture has a colour at each place, and numbers these in 16 bits.
+        // This also shows that the picture has a colour at each place, and that places are numbered
+        // in 16 bits.
         prove!(rect.w <= picture.width() && rect.h <= picture.height());
         let at = Place {
             x: 0,
@@ -173,7 +174,7 @@ pub struct Run {
     pub count: u16,
 }
 
-/// Paints pixels of one row of the rectangle, which stand after those of the places before it.
+/// Paints pixels of one row of the rectangle, which follow those of the places before it.
 #[inline(always)]
 pub fn paint_run(format: Format, rect: Rect, run: Run, bytes: &[u8], picture: &mut Picture<Colour>)
     requires place { IsPaintable picture.old rect }

@@ -26,8 +26,8 @@ use rfb_wire::pieces::append_within;
 // Blocks of up to this number of places are encoded with a small list of subrectangles.
 const SMALL: usize = 256;
 
-// A third of the places, and so no fewer than can be shorter than Raw: a subrectangle is at least
-// as long as three pixels, of four bytes.
+// A third of the places of a small block. More subrectangles are no shorter than Raw: each is at
+// least as long as three pixels of four bytes.
 const FEW: usize = 86;
 
 const MANY: usize = 1366;
@@ -81,7 +81,7 @@ fn encode_with<const N: usize>(block: &Block, format: &Format, out: &mut Vec<u8>
     let (width, height) = (usize::from(block.width()), usize::from(block.height()));
     let size = format.size();
     let raw = height * width * size;
-    // More subrectangles than that have as many bytes by themselves, and each pixel but the
+    // More subrectangles than that are as long as Raw by themselves, and each pixel but the
     // background needs one.
     let limit = raw / (size + 8);
     let Some(background) = background_by_palette(pixels, limit + 1) else {

@@ -1,5 +1,5 @@
-//! Both ends are fed their streams whole, byte by byte, in two slices, and damaged: what they tell
-//! doesn't depend on where they are split.
+//! Both ends are fed their streams whole, byte by byte, in two slices, and damaged: what they
+//! report doesn't depend on where the streams are split.
 
 use super::ends::{feed_server, feed_viewer, reason_of, server_of, viewer_of};
 use crate::{Fed, HelloFault, ServerHello, Version, ViewerHello};
@@ -46,8 +46,8 @@ fn note<E: Debug>(alloc: Global, event: &Option<E>, log: &mut String) -> Result<
     Ok(())
 }
 
-// Writes what an end told of bytes, and for a fault the reason. How many bytes it used, if it told
-// no fault.
+// Writes what an end reported of bytes, and for a fault the reason. How many bytes it used, if
+// there was no fault.
 fn note_told<E: Debug + Drop>(
     alloc: Global,
     told: Result<Fed<E>, HelloFault>,
@@ -68,7 +68,7 @@ fn note_told<E: Debug + Drop>(
 }
 
 impl End {
-    // Feeds it bytes and writes what it tells. How many it used, if it told no fault.
+    // Feeds it bytes and writes what it reports. How many it used, if there was no fault.
     fn feed(
         &mut self,
         alloc: Global,
@@ -128,7 +128,7 @@ impl End {
         }
     }
 
-    // Writes all that it tells of a stream in slices: its events, and how many bytes it left, or
+    // Writes all that it reports of a stream in slices: its events, and how many bytes it left, or
     // its fault with the reason.
     fn tell(
         &mut self,
@@ -148,7 +148,7 @@ impl End {
     }
 }
 
-// All that an end tells of a stream, split after its first bytes and then at a fixed size.
+// All that an end reports of a stream, split after its first bytes and then at a fixed size.
 fn told(
     alloc: Global,
     server: bool,
@@ -164,7 +164,7 @@ fn told(
     Ok(log)
 }
 
-// Whether it tells that.
+// Whether it reports that.
 fn tells(
     alloc: Global,
     server: bool,
@@ -177,7 +177,7 @@ fn tells(
     Ok(told.as_str() == wanted)
 }
 
-// Whether it tells byte by byte what it tells of the whole.
+// Whether it reports the same byte by byte as of the whole.
 fn is_same_byte_by_byte(alloc: Global, server: bool, stream: &[u8]) -> Result<bool, AllocError> {
     let whole = told(alloc, server, stream, stream.len(), 1)?;
     tells(alloc, server, stream, 1, 1, &whole)

@@ -1,4 +1,4 @@
-//! A name of all the bytes that a length can tell, and screens at the edge of what is admitted.
+//! A name of the greatest length, and screens at the edge of what is admitted.
 
 use super::ends::{feed_viewer as feed, reason_of, viewer_fault as fault_at, viewer_of};
 use crate::{Fed, HelloFault, Version, ViewerHello, ViewerStep};
@@ -50,7 +50,7 @@ fn is_name_taken(alloc: Global, slice: &[u8]) -> bool {
 
 #[test]
 fn the_longest_name_is_taken_slice_by_slice(rt: HostRuntime) -> Result<(), AllocError> {
-    // 3 MiB of it, of which the first MiB is kept.
+    // 3 MiB of it. The first MiB is kept.
     let mut slice = Vec::new(rt.alloc());
     slice.resize(65_536, b'n')?;
     assert!(rt; is_name_taken(rt.alloc(), &slice));

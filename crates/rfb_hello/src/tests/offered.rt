@@ -4,7 +4,7 @@ use super::ends::{offered_of, viewer_fault, viewer_of};
 use crate::{HelloFault, Offered, Version, ViewerHello};
 use std::alloc::Global;
 
-// A count of 255 types, and then types of which the last alone is another one.
+// A count of 255 types, and then types that are one but for the last.
 fn longest() -> [u8; 256] {
     let mut bytes = [2; 256];
     bytes[0] = 255;
@@ -54,7 +54,7 @@ fn is_nothing(hello: &ViewerHello) -> bool {
     matches!(offered_of(hello), Offered::Nothing)
 }
 
-// Whether a list is lent so after these slices, and nothing before the last of them.
+// Whether the end lends such a list after these slices, and nothing before the last one.
 fn lists(
     alloc: Global,
     front: &[&[u8]],

@@ -56,7 +56,7 @@ fn fails_again(hello: &mut ViewerHello, bytes: &[u8], fault: HelloFault) -> bool
     fault_at(hello, bytes) == Some(fault) && fault_at(hello, &[]) == Some(fault)
 }
 
-// Notes what an end tells of a slice. How many bytes it used, if no fault came.
+// Notes what an end reports of a slice. How many bytes it used, if no fault came.
 fn take(hello: &mut ViewerHello, slice: &[u8], told: &mut Told) -> Option<usize> {
     match feed(hello, slice) {
         Ok(Fed { used, event }) => {
@@ -84,7 +84,7 @@ fn take_all(hello: &mut ViewerHello, server: &[u8], at_a_time: usize, told: &mut
     keep(&mut told.reason, reason_of(hello));
 }
 
-// All that an end tells of bytes that are handed in a few at a time. It shares the screen, and
+// All that an end reports of bytes that are handed in a few at a time. It shares the screen, and
 // admits 64 places.
 fn told_of(
     alloc: Global,

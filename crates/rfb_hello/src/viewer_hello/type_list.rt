@@ -25,7 +25,7 @@ impl Model for TypeList {
 }
 
 impl TypeList {
-    /// A list of `more` types and one, of which none has come.
+    /// A list of `more` types and one. None has come yet.
     pub fn new(more: u8) -> TypeList
         requires { more < 255 }
         ensures { result ≡ record { types = []; more = more } }

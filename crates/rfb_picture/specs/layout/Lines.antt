@@ -4,7 +4,7 @@ use Rattle.std.specs.Prelude.{ℕ, Bool, false, List, ◌≡◌, ◌+◌, ◌*�
 use Rattle.std.specs.Prelude.{nat_eq, if◌then◌else◌}
 use Rattle.rfb_picture.specs.Grid.{Grid, grid, IsGrid, changed}
 
--- where place x of row y stands among the places, in lines of that width
+-- the index of place x of row y among the places, in lines of that width
 abbrev pub place_in : List ℕ → ℕ → ℕ → ℕ → ℕ
 place_in lines width x y = slice_index_or lines y 0 * width + x
 

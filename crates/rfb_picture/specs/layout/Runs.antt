@@ -1,4 +1,4 @@
--- What the functions beneath a `Picture` do to its places, a list, row after row: what stands there
+-- What the functions beneath a `Picture` do to its places, a list, row after row: the value at each
 -- afterwards, or d where there is no such place. No public clause reads these words.
 use Rattle.std.specs.Prelude.{ℕ, List, ◌≡◌, ◌+◌, ◌-◌, ◌*◌, ◌<◌, ◌&&◌, Bool, nat_le, nat_lt, length, slice_index_or}
 use Rattle.std.specs.Prelude.{if◌then◌else◌}

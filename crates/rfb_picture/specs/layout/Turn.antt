@@ -1,5 +1,5 @@
--- Rows that are copied over others by fewer rows than they are: their lines go round, and few places
--- are left to be copied. No public clause reads these words.
+-- Rows that are copied over others by at most their count: their lines go round, and few places are
+-- left to be copied. No public clause reads these words.
 use Rattle.std.specs.Prelude.{ℕ, List, ◌≡◌, ◌+◌, ◌-◌, ◌<◌, ◌&&◌, Bool, nat_le, nat_lt, length}
 use Rattle.std.specs.Prelude.{slice_index_or}
 use Rattle.std.specs.Prelude.{if◌then◌else◌}
@@ -20,8 +20,8 @@ rest_of rows =
     }
     else record { to = rows.from; from = rows.to; count = rows.to - rows.from }
 
--- the row whose line a row has after that: a row that is written that of its source, and those left
--- the lines that are over
+-- the row whose line a row has after that: a row that is written has its source's, and the rows that
+-- are left have the other lines
 abbrev pub line_from : Rows → ℕ → ℕ
 line_from rows y =
     if is_among rows.to rows.count y then rows.from + (y - rows.to)

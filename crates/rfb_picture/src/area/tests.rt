@@ -12,7 +12,7 @@ fn area_of(alloc: Global, width: u16, height: u16) -> Result<Area, AllocError> {
 }
 
 // These look first that the area has those places, so a test need not prove it. They answer whether
-// it has, and whether it then tells this.
+// it has them, and whether it then says so.
 fn add(area: &mut Area, rect: Rect, whole: bool) -> bool {
     if u32::from(area.width()) < u32::from(rect.x) + u32::from(rect.w)
         || u32::from(area.height()) < u32::from(rect.y) + u32::from(rect.h)

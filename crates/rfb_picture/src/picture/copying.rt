@@ -118,7 +118,7 @@ fn shift_right<T: Copy>(places: &mut [T], from: usize, to: usize, count: usize)
     places.copy_within(from..from + left, to);
 }
 
-// Moves a piece, all of which is read before any of it is written.
+// Moves a piece: all of it is read before any of it is written.
 #[inline(always)]
 fn move_piece<T: Copy>(places: &mut [T], from: usize, to: usize)
     requires source { from + PIECE ≤ length places.old }

@@ -7,8 +7,8 @@ ghost use Rattle.rfb_picture.specs.layout.Runs.{RowsFilled, RunFilled};
 use super::lines::line_of;
 use crate::rect::Rect;
 
-// Gives `value` to each place of the rectangle, in lines of `width` places, by pieces of so many,
-// or place by place where a piece has none. Where no row has moved its loop looks up no line.
+// Gives `value` to each place of the rectangle, in lines of `width` places, by pieces of `N`, or
+// place by place where `N` is 0. Where no row has moved its loop looks up no line.
 #[inline(always)]
 pub(super) fn fill_rows<T: Copy, const N: usize>(
     places: &mut [T],

@@ -18,7 +18,7 @@ pub(super) fn lines_of(alloc: Global, height: u16) -> Result<Vec<u16>, AllocErro
     Ok(lines)
 }
 
-// Which line a row is in: where none has moved that of its number, which needs no look.
+// Which line a row is in. Where no row has moved it is that of its number, and is not looked up.
 #[inline]
 pub(super) fn line_of(is_turned: bool, lines: &[u16], row: usize) -> usize
     requires row { row < length lines.now }
@@ -31,7 +31,7 @@ pub(super) fn line_of(is_turned: bool, lines: &[u16], row: usize) -> usize
     row
 }
 
-// Where a place stands among the places, in lines of that width.
+// The index of a place among the places, in lines of that width.
 #[inline]
 pub(super) fn place_of(is_turned: bool, lines: &[u16], width: u16, x: u16, y: u16) -> usize
     requires row { y < length lines.now }
@@ -106,9 +106,9 @@ pub(super) struct Rows {
     pub count: u16,
 }
 
-// Of rows that are copied over others by fewer rows than they are, those go into the lines of their
-// source. It tells which rows are left to be copied: those that are read and not written, since
-// their lines are gone.
+// Rows that move by at most their count: those that are written take over the lines of those that
+// are read. Returns the rows that are left to be copied: those that are read and not written,
+// since their lines are gone.
 pub(super) fn turn(lines: &mut [u16], rows: Rows) -> Rows
     requires target { rows.to + rows.count ≤ length lines.old }
     requires source { rows.from + rows.count ≤ length lines.old }

@@ -1,4 +1,4 @@
--- Eight colours in three vectors, whose components stand one after another.
+-- Eight colours in three vectors, whose components follow one another.
 use Rattle.std.specs.Prelude.{ℕ, ◌≡◌, ◌<◌, ◌*◌, ◌^◌, ◌==◌, if◌then◌else◌, drop, List, []}
 use Rattle.std.specs.Prelude.{◌∷◌, slice_index, slice_index_or}
 use Rattle.rfb_pixel.specs.declared.colour.Colour.{Colour}

@@ -28,7 +28,7 @@ impl Format {
         }
     }
 
-    /// Writes the colour of each pixel of a row, whose bytes stand one after another.
+    /// Writes the colour of each pixel of a row, whose bytes follow one another.
     #[inline(always)]
     pub fn unpack_row(&self, bytes: &[u8], colours: &mut [Colour])
         requires { length bytes.now ≡ length colours.old * size_of self.now }
@@ -48,7 +48,7 @@ impl Format {
         }
     }
 
-    /// Writes the colour of each of sixteen pixels of rgb888, whose bytes stand one after another.
+    /// Writes the colour of each of sixteen pixels of rgb888, whose bytes follow one another.
     #[inline(always)]
     pub fn unpack_sixteen(bytes: &[u8], colours: &mut [Colour])
         requires bytes { length bytes.now ≡ 64 }
@@ -59,8 +59,8 @@ impl Format {
     }
 }
 
-// Writes the pixel value of each colour, by one loop for every format. It stands by itself, so that
-// the loops for the formats that most viewers ask for have all registers to themselves.
+// Writes the pixel value of each colour, by one loop for every format. It is a function by itself,
+// so that the loops for the formats that most viewers ask for have all registers to themselves.
 #[inline(never)]
 fn pack_other(format: Format, colours: &[Colour], pixels: &mut [u32])
     requires { length colours.now ≡ length pixels.old }

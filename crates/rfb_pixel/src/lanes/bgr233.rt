@@ -9,8 +9,8 @@ use crate::colour::Colour;
 use crate::lanes::{read_eight, write_eight};
 use std::simd::{u8x8, u16x8, u32x8};
 
-// What a component is multiplied by to be, in 65,536ths, a field of three or of two bits in the
-// upper bits of a lane.
+// The factors, in 65,536ths, that make a component a field of three or of two bits in the upper
+// bits of a lane.
 const THREE: u32 = 57_345;
 
 const TWO: u32 = 49_153;
@@ -28,7 +28,7 @@ pub fn pack_eight_bgr233(colours: &[Colour]) -> u32x8
     pixels_of(&x, &y, &z)
 }
 
-// The same of eight colours whose components stand one after another.
+// The same of eight colours whose components follow one another.
 #[inline(always)]
 fn pixels_of(x: &[u16], y: &[u16], z: &[u16]) -> u32x8
     requires x { length x.now ≡ 8 }
@@ -60,7 +60,7 @@ fn pixels_of(x: &[u16], y: &[u16], z: &[u16]) -> u32x8
     let blue = x
         .shuffle(y, [8, 0, 2, 11, 0, 5, 14, 0])
         .shuffle(z, [0, 9, 2, 3, 12, 5, 6, 15]);
-    // In order, and where each stands in its pixel.
+    // In order, each at its place in the pixel.
     let red = (red >> u16x8::splat(13)).swizzle([0, 3, 6, 1, 4, 7, 2, 5]);
     let green = ((green >> u16x8::splat(13)) * u16x8::splat(8)).swizzle([1, 4, 7, 2, 5, 0, 3, 6]);
     let blue = ((blue >> u16x8::splat(14)) * u16x8::splat(64)).swizzle([2, 5, 0, 3, 6, 1, 4, 7]);

@@ -11,8 +11,8 @@ use crate::colour::Colour;
 use crate::lanes::{read_eight, write_eight};
 use std::simd::{u8x16, u16x8, u32x8};
 
-// What a component is multiplied by to be, in 65,536ths, a field of five or of six bits in the
-// upper bits of a lane.
+// The factors, in 65,536ths, that make a component a field of five or of six bits in the upper bits
+// of a lane.
 const FIVE: u32 = 63_489;
 
 const SIX: u32 = 64_513;
@@ -30,7 +30,7 @@ pub fn pack_eight_rgb565(colours: &[Colour]) -> u32x8
     pixels_of(&x, &y, &z)
 }
 
-// The same of eight colours whose components stand one after another.
+// The same of eight colours whose components follow one another.
 #[inline(always)]
 fn pixels_of(x: &[u16], y: &[u16], z: &[u16]) -> u32x8
     requires x { length x.now ≡ 8 }
@@ -62,7 +62,7 @@ fn pixels_of(x: &[u16], y: &[u16], z: &[u16]) -> u32x8
     let blue = x
         .shuffle(y, [8, 0, 2, 11, 0, 5, 14, 0])
         .shuffle(z, [0, 9, 2, 3, 12, 5, 6, 15]);
-    // In order, and where each stands in its pixel.
+    // In order, each at its place in the pixel.
     let red = ((red >> u16x8::splat(11)) * u16x8::splat(2048)).swizzle([0, 3, 6, 1, 4, 7, 2, 5]);
     let green = ((green >> u16x8::splat(10)) * u16x8::splat(32)).swizzle([1, 4, 7, 2, 5, 0, 3, 6]);
     let blue = (blue >> u16x8::splat(11)).swizzle([2, 5, 0, 3, 6, 1, 4, 7]);
@@ -81,7 +81,7 @@ pub fn unpack_eight_rgb565(bytes: &[u8], colours: &mut [Colour])
     let x = u16x8::from_array([a, a, a, b, b, b, c, c]);
     let y = u16x8::from_array([c, d, d, d, e, e, e, f]);
     let z = u16x8::from_array([f, f, g, g, g, h, h, h]);
-    // Each field where it stands in its pixel.
+    // Each field at its place in the pixel.
     let x = x & u16x8::from_array([65_535, 2047, 31, 65_535, 2047, 31, 65_535, 2047]);
     let y = y & u16x8::from_array([31, 65_535, 2047, 31, 65_535, 2047, 31, 65_535]);
     let z = z & u16x8::from_array([2047, 31, 65_535, 2047, 31, 65_535, 2047, 31]);

@@ -41,7 +41,7 @@ pub fn pack_eight_rgb888(colours: &[Colour]) -> u32x8
     pixels_of(&x, &y, &z)
 }
 
-// The same of eight colours whose components stand one after another.
+// The same of eight colours whose components follow one another.
 #[inline(always)]
 fn pixels_of(x: &[u16], y: &[u16], z: &[u16]) -> u32x8
     requires x { length x.now ≡ 8 }
@@ -53,7 +53,7 @@ fn pixels_of(x: &[u16], y: &[u16], z: &[u16]) -> u32x8
     let x = u16x8::from_array([x[0], x[1], x[2], x[3], x[4], x[5], x[6], x[7]]).cast::<u32>();
     let y = u16x8::from_array([y[0], y[1], y[2], y[3], y[4], y[5], y[6], y[7]]).cast::<u32>();
     let z = u16x8::from_array([z[0], z[1], z[2], z[3], z[4], z[5], z[6], z[7]]).cast::<u32>();
-    // Of each component, times 65,281 / 65,536, and 128: the upper byte is the nearest one.
+    // Each component times 65,281 / 65,536, plus 128: the upper byte is the nearest one.
     let (factor, down, half) = (u32x8::splat(65_281), u32x8::splat(16), u16x8::splat(128));
     let byte = u16x8::splat(8);
     let x = ((((x * factor) >> down).cast::<u16>() + half) >> byte).cast::<u8>();

@@ -24,7 +24,7 @@ fn tells(a: &[u32], b: &[u32], first: usize, last: usize) -> bool
     first_diff(a, b) == Some(first) && last_diff(a, b) == Some(last)
 }
 
-// Whether the outermost differences of a part of two rows are found, wherever in it they stand.
+// Whether the outermost differences of a part of two rows are found, wherever in it they are.
 fn tells_all(from: usize, to: usize) -> bool
     requires order { from ≤ to }
     requires end { to ≤ 200 }

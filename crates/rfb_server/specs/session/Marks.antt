@@ -16,7 +16,7 @@ pub record AreAlike (known : Grid (Option ℕ)) (area : Places) (marks : Grid Bo
   pub columns : known.width ≤ 4096
   pub rows : known.height ≤ 4096
 
--- of each place of a screen of that size it is not known what its viewer has
+-- at no place of a screen of that size is it known what its viewer has
 abbrev pub none_known : ℕ → ℕ → Grid (Option ℕ)
 none_known width height = uniform width height None
 

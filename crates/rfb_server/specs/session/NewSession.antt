@@ -1,4 +1,5 @@
--- A session that has not the memory of its places yet: nothing is known or asked, each is marked.
+-- A session that does not have the memory of its places yet: nothing is known or asked, each is
+-- marked.
 use Rattle.std.specs.Prelude.{◌≡◌, ◌<◌, ℕ, None}
 use Rattle.rfb_hello.specs.ServerModel.{left_of}
 use Rattle.rfb_server.specs.declared.late.stage.Stage.{Stage}

@@ -19,7 +19,7 @@ use Rattle.rfb_server.specs.declared.session.Session.{Session}
 use Rattle.rfb_server.specs.declared.session.input.progress.Progress.{Progress}
 use Rattle.rfb_server.specs.declared.session.input.progress.Progress.TheVariants.{Handshake, Head, Encodings}
 
--- what the viewer and the owner set, and where the client's bytes stand, is as it was
+-- what the viewer and the owner set, and where the client's bytes are, is as it was
 pub record KeepsSetting (old new : Session) : Type 0 where
   pub hello : new.hello ≡ old.hello
   pub progress : new.progress ≡ old.progress

@@ -28,7 +28,7 @@ AreKnownAlike one other rect = (x y : ℕ) → contains rect x y ≡ true → Is
 abbrev pub AreUnknown : Grid (Option ℕ) → Rect → Type 0
 AreUnknown known rect = (x y : ℕ) → contains rect x y ≡ true → at_or known x y None ≡ None
 
--- of each marked place of the rectangle, in one of both sets, the same is known
+-- the same is known of each place of the rectangle that is marked in one of both sets
 abbrev pub AgreeIn : Session → Session → Rect → Type 0
 AgreeIn one other rect = (x y : ℕ) → contains rect x y ≡ true →
     (is_in one.marks x y || is_in other.marks x y) ≡ true → IsKnownAlike one.known other.known x y
@@ -68,7 +68,8 @@ abbrev pub TakesSome : Grid (Option ℕ) → Grid (Option ℕ) → Grid (Option 
 TakesSome other old new = (x y : ℕ) → x < old.width → y < old.height →
     IsKnownAlike new old x y ⊎ IsKnownAlike new other x y
 
--- of all that the session had asked for it has what the screen shows, and nothing is asked any more
+-- the session knows the wanted pixel at each place, nothing is asked any more, and no hint is
+-- kept
 pub record HasTakenOver (screen : Grid Colour) (old new : Session) : Type 0 where
   pub setting : KeepsSetting old new
   pub width : new.known.width ≡ old.known.width

@@ -46,8 +46,7 @@ pub record IsSettled (old new : Session) : Type 0 where
   pub hints : new.hints.items ≡ []
   pub claim : new.claim ≡ old.claim
 
--- the head of an update without rectangles, which stands at `at`, has become that of an update with
--- `count` rectangles
+-- the head at `at` of an update without rectangles has become that of an update with `count`
 abbrev pub IsCounted : ℕ → ℕ → List ℕ → List ℕ → Type 0
 IsCounted at count old new = (before bytes : List ℕ) → length before ≡ at →
     old ≡ before ++ (0 ∷ 0 ∷ 0 ∷ 0 ∷ bytes) →

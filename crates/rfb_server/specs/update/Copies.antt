@@ -23,8 +23,8 @@ use Rattle.rfb_server.specs.Composition.{Part, Move, sent_as, between, all_moved
 use Rattle.rfb_server.specs.Composition.{HaveTheirData, IsPlace, is_in_some}
 use Rattle.rfb_server.specs.update.Sends.{state_of}
 
--- whether a place of a rectangle has the wanted pixel, if it takes over what is known of the place
--- that lies as far from (sx, sy)
+-- whether a place of a rectangle has the wanted pixel, if it takes over what is known of its place
+-- of the rectangle at (sx, sy)
 abbrev pub is_right_from : Grid Colour → Grid (Option ℕ) → PixelFormat → Rect → ℕ → ℕ → ℕ → ℕ → Bool
 is_right_from screen known form to sx sy x y =
     not (differs (wanted_at screen form x y) (at_or known (sx + (x - to.x)) (sy + (y - to.y)) None))

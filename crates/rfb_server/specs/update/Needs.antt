@@ -75,8 +75,8 @@ pub record SpansRows (p : ℕ → ℕ → Bool) (zone : Rect) (top bottom : ℕ)
   pub first : (y : ℕ) × (top ≤ y) × (y ≤ bottom) × (p columns.first y ≡ true)
   pub last : (y : ℕ) × (top ≤ y) × (y ≤ bottom) × (p (columns.end - 1) y ≡ true)
 
--- bit i says of the place i columns right of the cell of column `from`, if it lies from that column
--- up to another and is known, whether it is known to have another pixel than the wanted one
+-- bit i is for the place i columns right of the cell of column `from`. Where that lies from that
+-- column up to another, and is known, the bit says whether it has another pixel than the wanted one
 abbrev pub TellsOther : (ℕ → ℕ → ℕ) → Grid (Option ℕ) → ℕ → ℕ → ℕ → ℕ → Type 0
 TellsOther wanted known y from to word = (i pixel : ℕ) → i < 64 →
     from ≤ from / 64 * 64 + i → from / 64 * 64 + i < to →

@@ -13,7 +13,7 @@ use rfb_picture::Rect;
 
 impl Claim {
     /// What it says of a copy's source, said of the copy. There is none where it lacks a column of
-    /// the source, or half of its rows; or where the viewer has that at the copy's own place.
+    /// the source or half of its rows, or where the viewer has all of it in its place already.
     pub(crate) fn copied_on(&self, copy: Hint) -> Option<Claim>
         ensures { ForSome result (λ next. IsCopiedOn copy self.now next) }
     {
@@ -41,7 +41,7 @@ impl Claim {
     }
 
     /// What it says once a hint has copied, so that the viewer has something else there. There is
-    /// none where part of the sources is lost, or where they have come to its own places.
+    /// none where part of the sources is lost, or where they are now its own places.
     pub(crate) fn led_on(&self, hint: Hint) -> Option<Claim>
         ensures { ForSome result (λ next. IsLedOn hint self.now next) }
     {

@@ -27,7 +27,7 @@ impl Notice {
     ghost use Rattle.rfb_server.specs.Strokes.{Hint as Hinted, notice_of, area_told, hint_told};
     ghost use Rattle.rfb_server.specs.KnownScreen.{IsSameOutside, IsTold};
 
-    /// That of any change of the screen inside a rectangle. It is for who tells sessions of a
+    /// The notice of any change of the screen inside a rectangle. It is for notifying sessions of a
     /// screen that somebody else draws on, before the change or after. Refused is a rectangle that
     /// leaves the screen.
     pub fn changed(screen: &Picture<Colour>, area: Rect) -> Result<Notice, Outside>
@@ -49,8 +49,8 @@ impl Notice {
         })
     }
 
-    /// That of a hint, which changes no place: a rectangle looks as the one of its size at (`sx`,
-    /// `sy`) did when that was last sent. Nothing rests on it. Refused is one where either
+    /// The notice of a hint, which changes no place: a rectangle looks as the one of its size at
+    /// (`sx`, `sy`) did when that was last sent. Nothing rests on it. Refused is one where either
     /// rectangle leaves the screen.
     pub fn hint(screen: &Picture<Colour>, to: Rect, sx: u16, sy: u16) -> Result<Notice, Outside>
         ensures refused { IsErr result ↔ (HoldsBoth screen.now to sx sy → ⊥) }
@@ -73,8 +73,7 @@ impl Notice {
     }
 }
 
-/// That of a drawing in a rectangle that has `count` values, where each place needs `size` of
-/// these.
+/// The notice of a drawing in a rectangle that has `count` values, where each place needs `size`.
 pub(crate) fn notice_of(
     screen: &Picture<Colour>,
     area: Rect,
@@ -116,7 +115,7 @@ pub(crate) fn notice_in_row(
     })
 }
 
-/// That of a copy to a rectangle from the one of its size at (`sx`, `sy`).
+/// The notice of a copy to a rectangle from the one of its size at (`sx`, `sy`).
 pub(crate) fn notice_of_copy(
     screen: &Picture<Colour>,
     area: Rect,
@@ -141,7 +140,7 @@ pub(crate) fn notice_of_copy(
     })
 }
 
-/// That of a scroll inside a rectangle: what stays of it changes, with the hint for that.
+/// The notice of a scroll inside a rectangle: what stays of it changes, with the hint for that.
 pub(crate) fn notice_of_scroll(
     screen: &Picture<Colour>,
     area: Rect,

@@ -23,7 +23,7 @@ use circular_buffer::HeapCircularBuffer;
 use rfb_hello::{Fed, ServerHello};
 use std::alloc::{AllocError, Global};
 
-/// All of a session in its handshake but what it tracks of places, of which nothing is known or
+/// All of a session in its handshake but what it tracks of places: of none is anything known or
 /// asked yet, and each is marked.
 #[derive(Debug, Drop)]
 pub(crate) struct Entrance {
@@ -68,7 +68,7 @@ impl Entrance {
         })
     }
 
-    /// One that stands where another was taken away.
+    /// One in the place of another that was taken away.
     pub fn blank(alloc: Global) -> Result<Entrance, AllocError> {
         Entrance::new(alloc, ServerSetup::usual(0, 0, b""))
     }

@@ -65,7 +65,7 @@ impl Stage {
         }
     }
 
-    // It takes the memory of its places, if it lacks it. The blank stands where it was meanwhile.
+    // It takes the memory of its places, if it lacks it. The blank takes its place meanwhile.
     fn enter(&mut self, blank: Entrance) -> Result<(), AllocError>
         ensures moved { IsMoved (session_of_stage self.old) (session_of_stage self.new) }
         ensures ready { (count : ℕ) → OnOk result (IsReadyFor count self.new) }

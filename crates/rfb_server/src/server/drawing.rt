@@ -16,8 +16,8 @@ impl Server {
     ghost use Rattle.rfb_server.specs.Strokes.{IsInside, drawn_by, hint_of, stroke, with_hint_of};
 
     /// Draws on the screen, or gives the session a hint. Refused is a drawing that leaves the
-    /// screen, and one that has not one colour for each of its places; then nothing changes. What
-    /// it draws stays the caller's. The calls below are each one of these.
+    /// screen, and one that does not have one colour for each of its places; then nothing changes.
+    /// What it draws stays the caller's. The calls below are each one of these.
     pub fn draw(&mut self, drawing: &Drawing<'_>) -> Result<(), Outside>
         ensures refused { IsErr result
             ↔ (IsInside (screen_of self.old) (stroke drawing.now) → ⊥) }

@@ -49,7 +49,7 @@ impl Server {
         self.session.recorded()
     }
 
-    /// Lends the places of which it is known what the viewer has, as asked ones.
+    /// Lends the places where it is known what the viewer has, as asked ones.
     pub fn known(&self) -> &Area
         ensures value { (serving : Serving) (s : ServerState) (prefix : List ℕ)
             → StandsFor serving self.now s prefix → TellsKnown s.known result.now }

@@ -16,8 +16,8 @@ use rfb_codec::Block;
 use rfb_pixel::Format;
 
 impl Session {
-    /// The session that an entrance is, with memory for its places, of which nothing is known or
-    /// asked yet.
+    /// The session that an entrance is, with memory for its places. Nothing is known or asked of
+    /// them yet.
     pub(crate) fn entering(entrance: Entrance, places: Places) -> Session
         requires { AreUntouched entrance.width entrance.height places.known places.area
             places.marks }

@@ -28,8 +28,8 @@ impl Places {
     }
 }
 
-// An area of which nothing is asked, and the set of all places. Each function here has one thing at
-// most to let go where memory is wanting: of several, its proof would be long.
+// An area where nothing is asked, and the set of all places. Each function here has one thing at
+// most to drop where memory is wanting: with several, its proof would be long.
 fn area_and_marks(alloc: Global, width: u16, height: u16) -> Result<(Area, PlaceSet), AllocError>
     ensures area { IfOk result (λ both. both.0 ≡ no_places width height) }
     ensures columns { IfOk result (λ both. both.0.asked.width ≡ width) }

@@ -29,9 +29,9 @@ use rfb_pixel::Colour;
 
 impl Session {
     /// Whether an update for `other` is one for this session too, to the byte, where both follow
-    /// one screen: both viewers ask for all of it, whole or not, in one format and with the same
-    /// encodings, have the same of it, and the same hints are kept. `other` stands between two
-    /// messages. It may say no where they are twins.
+    /// one screen. So it is where both viewers ask for all of it, whole or not, and have the same
+    /// of it. Their format, their encodings and the kept hints are the same too, and `other` is
+    /// between two messages. The answer may be no where they are twins.
     ///
     /// `knows_same` is whether the caller knows that both viewers are known to have the same of the
     /// screen. Where it does not, what they have is compared wherever something is marked, until
@@ -195,8 +195,8 @@ impl Session {
         }
     }
 
-    // Takes over what a viewer has that was sent all of the screen. Where it is claimed to come by
-    // copies these are made here too, which moves rows and no places.
+    // Takes over what a viewer has that was sent all of the screen. Copies that the session has a
+    // claim of are made here too, which moves rows and no places.
     fn take_shown(&mut self, screen: &Picture<Colour>, sent: &Session)
         requires about { Follows screen.now self.old }
         requires asked { (x y : ℕ) → x < self.old.known.width → y < self.old.known.height

@@ -55,11 +55,11 @@ impl Session {
     /// asked any more, and no hint is kept.
     ///
     /// `out` stays the caller's; what was in it stays in front. Room is asked for once, before
-    /// anything changes: at most 260 bytes, and 12 and its pixels' bytes for each cell of 64 by 64
-    /// places that holds an asked place; or twice the room that there was, if that is more. Where
-    /// there is none it gives the error, if an update is due, and nothing changes.
+    /// anything changes. It is at most 260 bytes, and 12 and its pixels' bytes for each cell of 64
+    /// by 64 places that holds an asked place, or twice the room that there was, if that is more.
+    /// Where there is none it gives the error, if an update is due, and nothing changes.
     ///
-    /// The session has to follow the screen: `drawn` notified it of each drawing.
+    /// The session has to follow the screen: it was `notified` of each drawing.
     pub fn compose(
         &mut self,
         screen: &Picture<Colour>,
@@ -128,8 +128,8 @@ impl Session {
         }
     }
 
-    // Appends the update, if there is one. There is room for it. What it claims is of the record,
-    // which is another after an update.
+    // Appends the update, if there is one. There is room for it. A claim is about the record, so it
+    // goes where an update changes that.
     fn update(&mut self, screen: &Picture<Colour>, room: Room, out: &mut Vec<u8>) -> bool
         requires about { Follows screen.now self.old }
         requires ready { is_ready self.old.progress ≡ true }
@@ -154,7 +154,7 @@ impl Session {
         false
     }
 
-    // The same, where it claims nothing, and claimed that.
+    // The same, where `claim` was taken out of the session.
     fn update_by(
         &mut self,
         screen: &Picture<Colour>,
@@ -202,7 +202,7 @@ impl Session {
     }
 }
 
-// Writes into the head of an update, which stands at `at`, how many rectangles the update has.
+// Writes into the head of an update, at `at`, how many rectangles the update has.
 fn put_count(out: &mut Vec<u8>, at: usize, count: u16)
     requires { at + 4 ≤ vec_len out.old }
     ensures counted { IsCounted at count out.old.items out.new.items }

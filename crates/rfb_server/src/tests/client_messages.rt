@@ -158,8 +158,8 @@ fn a_format_is_set_at_its_last_byte(rt: HostRuntime) -> Result<(), AllocError> {
     Ok(())
 }
 
-// The format that ServerInit announces, RFC 6143 section 7.4: 32 bits of which 24 are used, the
-// lowest byte first, and maxima of 255 at the shifts 16, 8 and 0.
+// The format that ServerInit announces, RFC 6143 section 7.4: 24 bits of 32, the lowest byte first,
+// and maxima of 255 at the shifts 16, 8 and 0.
 const ANNOUNCED: &[u8] = b"\x20\x18\0\x01\0\xFF\0\xFF\0\xFF\x10\x08\0\0\0\0";
 
 // Whether one of 16 bits, whose green maximum is no power of two less one, is refused, and the

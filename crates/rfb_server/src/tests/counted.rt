@@ -1,6 +1,6 @@
 //! With which byte a server's client fails, and how many bytes it has used then. The numbers were
 //! counted by hand in the tables of RFC 6143: a client's handshake of 3.8 has 14 bytes, a
-//! SetPixelFormat 20, a FramebufferUpdateRequest 10. Bytes stand after each fault.
+//! SetPixelFormat 20, a FramebufferUpdateRequest 10. Bytes follow each fault.
 
 use crate::{Server, ServerFault, ServerSetup};
 use std::test::Fail;

@@ -1,5 +1,5 @@
 //! A server is fed its clients' bytes whole, byte by byte, in two slices, and damaged: what it
-//! tells and where it stands does not depend on where they are split.
+//! reports and the state it is in do not depend on where they are split.
 
 use crate::{Server, ServerEvent, ServerFault};
 use rfb_hello::{Fed, Version};
@@ -7,8 +7,8 @@ use std::alloc::{AllocError, Global};
 use std::fmt::Debug;
 
 // Each message in turn, after the handshakes of 3.8, 3.7 and 3.3: a format of 16 bits, a list with
-// unknown encodings, a request, a key, the pointer, a text above its limit and one without bytes;
-// and a format whose green maximum is no power of two less one.
+// unknown encodings, a request, a key, the pointer, a text above its limit and one without bytes.
+// The last is a format whose green maximum is no power of two less one.
 const CLIENTS: &[&[u8]] = &[
     b"RFB 003.008\n\x01\x01\0\0\0\0\x10\x10\0\x01\0\x1F\0\x3F\0\x1F\x0B\x05\0\0\0\0\x02\0\0\x04\0\0\0\x10\0\0\0\x05\0\0\0\x01\xFF\xFF\xFF\x21\x03\0\0\x01\0\0\xFF\xFF\xFF\xFF\x04\x01\0\0\0\0\0A",
     b"RFB 003.007\n\x01\0\x05\x02\0\x07\0\x08\x06\0\0\0\0\0\0\x05ABCDE\x06\0\0\0\0\0\0\0\x04\0\0\0\0\0\0B",
@@ -43,7 +43,7 @@ fn note_told(
     }
 }
 
-// Feeds it all of a slice, and tells whether it goes on.
+// Feeds it all of a slice. Whether it goes on.
 fn goes_on(server: &mut Server, alloc: Global, slice: &[u8], log: &mut String) -> bool {
     let mut rest = slice;
     for _ in 0..8 {
@@ -55,7 +55,7 @@ fn goes_on(server: &mut Server, alloc: Global, slice: &[u8], log: &mut String) -
     true
 }
 
-// Writes where it stands to the log, and what it composes.
+// Writes its state to the log, and what it composes.
 fn note_state(server: &mut Server, alloc: Global, log: &mut String) {
     note(alloc, &server.format(), log);
     note(alloc, &server.pending(), log);
@@ -88,7 +88,7 @@ fn new_server(alloc: Global) -> Result<Server, AllocError> {
     Server::new(alloc, 2, 1, name, Version::V38, 4)
 }
 
-// Writes to the log all that a new server tells of such a stream, and where it stands then.
+// Writes to the log all that a new server reports of such a stream, and its state then.
 fn note_all(
     alloc: Global,
     stream: &[u8],

@@ -1,5 +1,5 @@
 //! A session whose memory is refused at the end of its handshake: the same byte, fed again, ends
-//! it. Where each allocation fails in turn, the tests pass all the same.
+//! it. They pass too where each allocation fails in turn.
 
 use crate::{LateFault, LateSession, ServerEvent, ServerSetup};
 use rfb_hello::Fed;

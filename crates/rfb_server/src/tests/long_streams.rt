@@ -1,5 +1,5 @@
-//! Long messages, slice by slice, in constant memory: a text of all the bytes that a length can
-//! tell, and a list of all the numbers that a count can tell.
+//! Long messages, slice by slice, in constant memory: a text of the greatest length, and a list of
+//! the greatest count of numbers.
 
 use crate::{Server, ServerEvent};
 use rfb_hello::{Fed, Version};
@@ -28,7 +28,7 @@ fn waits(server: &mut Server, bytes: &[u8]) -> bool {
     }
 }
 
-// Whether the bytes end the longest text, of which the first MiB is kept.
+// Whether the bytes end the longest text, with its first MiB kept.
 fn ends_the_longest(server: &mut Server, bytes: &[u8]) -> bool {
     match server.feed(bytes) {
         Ok(

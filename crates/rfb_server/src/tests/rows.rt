@@ -1,4 +1,5 @@
-//! What lies on a screen of three by two places, and what has not a colour for each of its places.
+//! What lies on a screen of three by two places, and what does not have a colour for each of its
+//! places.
 
 use super::places::{BLACK, GREEN, ORANGE, VIOLET};
 use crate::Drawing;

@@ -180,7 +180,7 @@ pub(super) fn first_wrong_of(
     }
 }
 
-/// The number of the first step that is wrong of a server that is then let go.
+/// The number of the first step that is wrong of a server that is then dropped.
 pub(super) fn first_wrong_then_drop(
     server: Server,
     alloc: Global,

@@ -21,7 +21,7 @@ pub(super) fn sends(
     session.compose(screen, &mut out) == Ok(true) && out.as_slice() == bytes
 }
 
-// Whether it composes exactly these bytes, of which a twin of it knows then. Neither asks for
+// Whether it composes exactly these bytes, and a twin of it takes them over. Neither asks for
 // anything any more, so they are no twins though both know the same.
 pub(super) fn sends_both(
     one: &mut Session,
@@ -48,8 +48,8 @@ pub(super) fn sends_both(
     }
 }
 
-// Whether an update for the one is one for the other too: found by what both know, and then by
-// being told that it is the same.
+// Whether an update for the one is one for the other too: found by what both know, and then by the
+// word that it is the same.
 pub(super) fn are_twins(one: &Session, twin: &Session, screen: &Picture<Colour>) -> bool
     requires follows { Follows screen.now one.now }
     requires follows_too { Follows screen.now twin.now }

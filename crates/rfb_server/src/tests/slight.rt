@@ -9,7 +9,7 @@ const ASKS_TWO: &[u8] = b"\x03\0\0\0\0\0\0\x80\0\x40";
 
 const ASKS_A_THIRD: &[u8] = b"\x03\0\0\x7F\0\x40\0\x01\0\x01";
 
-// What it tells before its viewer asks, and after each request.
+// What it answers before its viewer asks, and after each request.
 fn told_of_cells(alloc: Global) -> Result<[bool; 3], AllocError> {
     let mut session = Session::new(alloc, 128, 65, b"t".as_slice(), Version::V38, 4)?;
     let before = session.is_slight();

@@ -20,8 +20,9 @@ const SIX_PLACES: &[u8] =
     b"\0\0\0\x01\0\0\0\0\0\x03\0\x02\0\0\0\0\x64\xC8\x10\0\x64\xC8\x10\0\x64\xC8\x10\0\x64\xC8\x10\0\x64\xC8\x10\0\x08\x80\xFF\0";
 
 // The same in Hextile at rgb565, least byte first. The mask of the one tile says that a background,
-// a foreground and subrectangles follow: green, 2 * 2048 + 49 * 32 + 12; orange, 31 * 2048 +
-// 32 * 32 + 1; one, at column 2 of row 1, of one place.
+// a foreground and subrectangles follow. The background is green, 2 * 2048 + 49 * 32 + 12. The
+// foreground is orange, 31 * 2048 + 32 * 32 + 1. One subrectangle of one place is at column 2 of
+// row 1.
 const ONE_TILE: &[u8] = b"\0\0\0\x01\0\0\0\0\0\x03\0\x02\0\0\0\x05\x0E\x2C\x16\x01\xFC\x01\x21\0";
 
 // The second place in Raw, violet: at rgb565 6 * 2048 + 4 * 32 + 29.

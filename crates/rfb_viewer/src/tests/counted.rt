@@ -1,6 +1,6 @@
 //! With which byte a viewer fails, and how many bytes it has used then. The numbers were counted by
 //! hand in the tables of RFC 6143: the handshake has 40 bytes, the head of an update 4, that of a
-//! rectangle 12. Bytes stand after each fault.
+//! rectangle 12. Bytes follow each fault.
 
 use super::*;
 use crate::ViewerFault;

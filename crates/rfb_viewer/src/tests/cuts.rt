@@ -7,8 +7,8 @@ use crate::ViewerFault;
 use std::fmt::Debug;
 
 // Handshakes of each version and messages after them, of a viewer that is at bgr233: updates of
-// each encoding, a text above its limit and one of no bytes, colours, bells; refusals; faults in an
-// update.
+// each encoding, a text above its limit and one of no bytes, colours and bells. Then refusals, and
+// faults in an update.
 const SERVERS: &[&[u8]] = &[
     b"RFB 003.008\n\x03\x10\x02\x01\0\0\0\0\0\x02\0\x01\x20\x18\0\x01\0\xFF\0\xFF\0\xFF\x10\x08\0\0\0\0\0\0\0\x01t\0\0\0\x01\0\0\0\0\0\x02\0\x01\0\0\0\0\x27\x10\x02",
     b"RFB 003.007\n\x01\x01\0\x02\0\x01\x20\x18\0\x01\0\xFF\0\xFF\0\xFF\x10\x08\0\0\0\0\0\0\0\0\x03\0\0\0\0\0\0\x05ABCDE\x02\x03\0\0\0\0\0\0\0\x01\0\0\x05\0\x01\x01\x02\x03\x04\x05\x06",
@@ -75,7 +75,7 @@ fn note_told(
     }
 }
 
-// Feeds a rest that stands after a number of bytes, up to the next event.
+// Feeds a rest that comes after a number of bytes, up to the next event.
 fn feed_next(
     viewer: &mut Viewer,
     rest: &[u8],
@@ -86,7 +86,7 @@ fn feed_next(
     note_told(before, &told, log)
 }
 
-// Feeds a slice that stands after a number of bytes: writes each event with the number of bytes up
+// Feeds a slice that comes after a number of bytes: writes each event with the number of bytes up
 // to it, and a fault. Whether no fault came.
 fn feed_all(
     viewer: &mut Viewer,
@@ -138,7 +138,7 @@ fn show(viewer: &Viewer, log: &mut String) -> Result<(), AllocError> {
     Ok(())
 }
 
-// Writes what a viewer that begins in this format tells of a stream, and shows at its end.
+// Writes what a viewer that begins in this format reports of a stream, and shows at its end.
 fn note_all(
     alloc: Global,
     format: Format,

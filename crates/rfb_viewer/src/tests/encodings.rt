@@ -78,8 +78,8 @@ struct Case<'a> {
     bytes: &'a [u8],
 }
 
-// Whether the bytes between two places are taken, and end the update where they are its last; and
-// whether the viewer shows then what the plain decoder makes of all up to there.
+// Whether the bytes between two places are taken, and end the update where they are its last. The
+// viewer then has to show what the plain decoder makes of all up to there.
 fn shows_slice(
     viewer: &mut Viewer,
     alloc: Global,

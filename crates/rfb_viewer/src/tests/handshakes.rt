@@ -7,8 +7,8 @@ use crate::ViewerFault;
 // What a server of a screen of 2 by 1 with the name `t` sends in ServerInit, its format rgb888.
 const INIT: &[u8] = b"\0\x02\0\x01\x20\x18\0\x01\0\xFF\0\xFF\0\xFF\x10\x08\0\0\0\0\0\0\0\x01t";
 
-// All of that up to the last byte but two, up to the length of the name, and after the size of the
-// screen up to the last byte but two.
+// Parts of that: up to the last byte but two, up to the length of the name, and from the screen's
+// size to the last byte but two.
 const INIT_FRONT: &[u8] = b"\0\x02\0\x01\x20\x18\0\x01\0\xFF\0\xFF\0\xFF\x10\x08\0\0\0\0\0\0\0";
 
 const INIT_SCREEN: &[u8] = b"\0\x02\0\x01\x20\x18\0\x01\0\xFF\0\xFF\0\xFF\x10\x08\0\0\0\0";
@@ -164,7 +164,7 @@ fn a_screen_is_judged_at_its_last_byte_before_the_name(rt: HostRuntime) {
     assert_eq!(rt; first_wrong_greeting(rt.alloc(), SCREENS), None);
 }
 
-// Whether a screen of the most places that a server can tell is refused, where 4,096 by 4,096 are
+// Whether a screen of the most places that ServerInit can have is refused, where 4,096 by 4,096 are
 // admitted.
 fn is_too_large(alloc: Global) -> bool {
     let (format, limit) = (Format::rgb888(), Version::V38);

@@ -1,5 +1,4 @@
-//! A name and a text of all the bytes that a length can tell: their first MiB is kept, the rest
-//! taken.
+//! A name and a text of the greatest length: their first MiB is kept, the rest taken.
 
 use super::play::{Step, Told, are_right, fault_at, tells};
 use super::*;

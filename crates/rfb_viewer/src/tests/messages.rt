@@ -9,7 +9,7 @@ fn plays_2_by_1(alloc: Global, steps: &[Step<'_>]) -> bool {
     plays_at_rgb888(alloc, HELLO_2_BY_1, steps)
 }
 
-// A bell after a text of five bytes, of which four are kept; and the text but its last byte.
+// A bell after a text of five bytes, where four are kept; and the text but its last byte.
 const TEXT: &[u8] = b"\x03\0\0\0\0\0\0\x05ABCDE\x02";
 
 const TEXT_FRONT: &[u8] = b"\x03\0\0\0\0\0\0\x05ABCD";
@@ -63,7 +63,7 @@ fn skips_the_longest(alloc: Global) -> bool {
     tells(&mut viewer, b"\x01\0\0\0\xFF\xFF", 6, Told::Nothing) && skips_slices(&mut viewer)
 }
 
-// A colour map of all the colours that a count can tell.
+// A colour map of the greatest count of colours.
 #[test]
 fn the_longest_colour_map_is_skipped_slice_by_slice(rt: HostRuntime) {
     assert!(rt; skips_the_longest(rt.alloc()));

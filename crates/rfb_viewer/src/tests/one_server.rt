@@ -23,8 +23,8 @@ const CAME: &[&[u8]] = &[
     b"\xFF\0",
 ];
 
-// What it is sent: the version, None, the shared-flag; SetPixelFormat to rgb888, SetEncodings with
-// CopyRect, Hextile, RRE and Raw; a request for all, and one for what changed.
+// What it is sent: the version, None and the shared-flag. Then SetPixelFormat to rgb888,
+// SetEncodings with CopyRect, Hextile, RRE and Raw, a request for all, and one for what changed.
 const SENT: &[u8] =
     b"RFB 003.008\n\x01\x01\0\0\0\0\x20\x18\0\x01\0\xFF\0\xFF\0\xFF\x10\x08\0\0\0\0\x02\0\0\x04\0\0\0\x01\0\0\0\x05\0\0\0\x02\0\0\0\0\x03\0\0\0\0\0\0\x02\0\x01\x03\x01\0\0\0\0\0\x02\0\x01";
 

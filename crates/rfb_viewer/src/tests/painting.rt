@@ -125,8 +125,8 @@ fn paints_a_million(alloc: Global, parts: &[u8]) -> bool {
         && are_right(&mut viewer, &[Step::Shows(PAINTED)])
 }
 
-// Of the most subrectangles that a count can tell, the first million. Slices of 4,000 bytes split
-// them at each of their nine bytes.
+// The first million of the greatest count of subrectangles. Slices of 4,000 bytes split them at
+// each of their nine bytes.
 #[test]
 fn a_million_subrectangles_are_taken_as_they_come(rt: HostRuntime) -> Result<(), AllocError> {
     let parts = subrects(rt.alloc(), 450)?;

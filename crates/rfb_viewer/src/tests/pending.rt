@@ -51,7 +51,7 @@ const HEADS: &[usize] = &[1, 2, 3, 0, 1, 2, 3, 4, 5, 6, 7, 8, 9, 10, 11, 0];
 
 const HEAD: &[usize] = &[1, 2, 3, 4, 5, 6, 7, 8, 9, 10, 11, 0];
 
-// A tile of six bytes, of which five are kept; a head of RRE, and a subrectangle.
+// A tile of six bytes, which keeps up to five; a head of RRE, and a subrectangle.
 const RECTANGLES: &[Step<'static>] = &[
     Step::Keep(b"\0\0\0\x02\0\0\0\0\0\x11\0\x01\0\0\0\x05", HEADS),
     Step::Keep(b"\x1A\x10\x01\x20\0\0", &[1, 2, 3, 4, 5, 0]),

@@ -1,4 +1,4 @@
-//! A viewer played step by step: what it is fed or asked, and what it then has to tell or show.
+//! A viewer played step by step: what it is fed or asked, and what it then has to report or show.
 
 use super::*;
 use crate::{CallFault, Move, ViewerFault};
@@ -28,19 +28,19 @@ pub enum Told<'a> {
 /// What a viewer is fed or asked, or what holds of it. A step that goes another way is wrong.
 #[derive(Clone, Copy)]
 pub enum Step<'a> {
-    /// It takes that number of these bytes, and then tells that.
+    /// It takes that number of these bytes, with that event.
     Feed(&'a [u8], usize, Told<'a>),
     /// These bytes end in that fault.
     Fail(&'a [u8], ViewerFault),
-    /// It takes all of these bytes but the last, and tells nothing. That one ends in that fault,
-    /// and so does all that comes then, also when it is fed nothing.
+    /// It takes all of these bytes but the last, without an event. That one ends in that fault, and
+    /// so does all that comes then, also when it is fed nothing.
     Break(&'a [u8], ViewerFault),
     /// It takes each byte by itself, and after each that number of bytes is pending.
     Keep(&'a [u8], &'a [usize]),
-    /// It takes each byte by itself, tells nothing, and shows one row of these colours after it.
+    /// It takes each byte by itself, without an event, and shows one row of these colours after it.
     Still(&'a [u8], &'a [Colour]),
-    /// It takes each byte by itself, tells nothing, and after it stands inside a message, where
-    /// another format is refused so, or set.
+    /// It takes each byte by itself, without an event, and is inside a message after it. Another
+    /// format is then refused so, or set.
     Inside(&'a [u8], Option<CallFault>),
     /// The same, where a format and a request for that area are refused as busy.
     Busy(&'a [u8], Rect),
@@ -111,7 +111,7 @@ fn is_ready(event: &ViewerEvent, size: (u16, u16), wanted: &[u8], length: u32) -
     }
 }
 
-/// Whether it takes `wanted` of the bytes, and then tells that.
+/// Whether it takes `wanted` of the bytes, with that event.
 pub fn tells(viewer: &mut Viewer, bytes: &[u8], wanted: usize, told: Told<'_>) -> bool {
     match viewer.feed(bytes) {
         Ok(Fed { used, event }) => used == wanted && is_event(&event, told),

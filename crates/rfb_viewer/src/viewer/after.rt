@@ -1,5 +1,5 @@
 //! What a viewer goes on with after a message's head, and after a rectangle. How far the bytes have
-//! come is changed where it stands: it has room for a painter, which a move would copy.
+//! come is changed in place: it has room for a painter, which a move would copy.
 
 ghost use Rattle.std.specs.Prelude.{◌≡◌, ◌<◌, ℕ, IfOk, IfErr};
 ghost use Rattle.rfb_wire.specs.declared.server_head.ServerHead.TheVariants.{ColourMap, CutText};

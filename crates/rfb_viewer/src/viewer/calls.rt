@@ -80,11 +80,11 @@ impl Viewer {
     }
 
     /// Makes a call, and gives its message, without memory. A text has at most 1,048,576 bytes.
-    /// `NotReady` before the handshake is done and once the viewer has failed. Else
+    /// `NotReady` before the handshake is done and once the viewer has failed. Else:
     ///
-    /// - for a request `Busy` where one is outstanding, and then `AreaOutside` where the area has no
-    ///   place or leaves the screen,
-    /// - for a format `Busy` where a request is outstanding or the server's bytes stand inside an
+    /// - For a request `Busy` where one is outstanding, and then `AreaOutside` where the area has
+    ///   no place or leaves the screen.
+    /// - For a format `Busy` where a request is outstanding or the server's bytes are inside an
     ///   update, from its type byte to its last.
     ///
     /// A refusal changes nothing. A request is outstanding until the next `UpdateDone`, and the
@@ -159,7 +159,7 @@ impl Viewer {
 
     /// SetPixelFormat, section 7.5.1: asks for updates in this format. The viewer reads the next
     /// update in it. `NotReady` as for `request`; else `Busy` where a request is outstanding or the
-    /// server's bytes stand inside an update, from its type byte to its last. A refusal changes
+    /// server's bytes are inside an update, from its type byte to its last. A refusal changes
     /// nothing.
     pub fn set_format(&mut self, format: Format) -> Result<[u8; 20], CallFault>
         // Which message it is.
@@ -351,7 +351,7 @@ impl Viewer {
         !matches!(self.progress, Progress::Handshake | Progress::Failed(_))
     }
 
-    // Whether the server's bytes stand inside an update, from its type byte on.
+    // Whether the server's bytes are inside an update, from its type byte on.
     fn is_updating(&self) -> bool
         ensures { result ≡ is_updating self.now.progress }
     {

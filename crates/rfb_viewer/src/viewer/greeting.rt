@@ -23,7 +23,7 @@ impl Viewer {
     ghost use Rattle.rfb_viewer.specs.declared.viewer.progress.Progress.{Progress};
     ghost use Rattle.rfb_viewer.specs.steps.StepPromises.{Steps};
 
-    // Takes a byte of the server's handshake, and makes the screen where a step tells its size. By
+    // Takes a byte of the server's handshake, and makes the screen where a step gives its size. By
     // single bytes a fault comes with the one that is taken.
     pub(super) fn greet(&mut self, bytes: &[u8]) -> Result<Fed<ViewerEvent>, Failure>
         requires one { length bytes.now ≡ 1 }
@@ -75,7 +75,7 @@ impl Viewer {
     }
 }
 
-// Makes the screen where a step tells its size, black, unless there is one. All of it is damage,
+// Makes the screen, black, where a step gives its size, unless there is one. All of it is damage,
 // since all of it is new.
 fn make_screen(
     alloc: Global,

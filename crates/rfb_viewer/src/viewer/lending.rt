@@ -1,5 +1,5 @@
-//! What a viewer lends and tells: its picture, the server's reason and security types, and how far
-//! the bytes have come.
+//! What a viewer lends and answers: its picture, the server's reason and security types, and how
+//! far the bytes have come.
 
 ghost use Rattle.std.specs.Prelude.{◌≡◌, ◌≢◌, ◌<◌, ℕ, List, [], false, None, option_copied};
 ghost use Rattle.rfb_viewer.specs.ServerBytes.{is_between, server_bytes_pending};
@@ -59,8 +59,8 @@ impl Viewer {
         self.is_idle()
     }
 
-    /// How many bytes are pending: those of the server's item under way that stand after its last
-    /// whole piece. It holds no others, but security types and the first bytes of a text.
+    /// How many bytes are pending: those of the server's item under way after its last whole piece.
+    /// It holds no others, but security types and the first bytes of a text.
     pub fn pending(&self) -> usize
         ensures value { (viewing : Viewing) (s : ViewerState) (prefix : List ℕ)
             → StandsFor viewing self.now s prefix

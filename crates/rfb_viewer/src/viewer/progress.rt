@@ -75,8 +75,8 @@ impl Request {
 }
 
 impl Progress {
-    /// Comes to a message's head. This and the next one are calls of their own, so each writes
-    /// where the progress stands, and makes no value that is moved there.
+    /// Comes to a message's head. This and the next one are calls of their own, so each writes the
+    /// progress in place, and makes no value that is moved there.
     #[inline(never)]
     pub(crate) fn begin_message(&mut self)
         ensures { self.new ≡ at_message }

@@ -97,7 +97,7 @@ module _ {S R K H E A P I F D : Type 0} {m : Machine S R K H E} {a : Machine A P
       subst (λ (zs : List ℕ). m.grammar.next (m.point t) zs ≡ More) (sym whole)
       (is.laws.empty (m.point t))
 
-  -- what the other takes, the end takes, and what is so wherever that comes to is so
+  -- the end takes what the other takes; what holds wherever that leads holds then
   pub takes_as : (IsSo : S → A → Type 0) →
       ((told : Option D) (t : S) (v : A) → ComesTo m a shows item told t v → IsSo t v) →
       (s : S) (u v : A) (prefix bytes rest : List ℕ) (told : Option D) → shows s ≡ Some u →
@@ -188,7 +188,7 @@ module _ {S P I F Q J G H E : Type 0} {two : Two P I F Q J G H} {m : Machine S (
       goes_on = λ s u j shown quiet. goes.stays s u j shown;
     }
 
-    -- after an item of the first the end shows what that comes to, or stands at the second
+    -- after an item of the first the end shows the state it leaves, or is in the second
     pub lands : {A D : Type 0} {a : Machine A P I F D} {shows : S → Option A} {event : D → Option E} →
         GoesAsFirst two m a shows event → IsMachine m → (told : Option D) (t : S) (v : A) →
         ComesTo m a shows (λ i. First i) told t v → LandsAs two m a shows t v
@@ -213,7 +213,7 @@ module _ {S P I F Q J G H E : Type 0} {two : Two P I F Q J G H} {m : Machine S (
               ∙ ap (λ (over : Option Q). turn over (two.first.past (a.point u) i)) e;
         })
 
-    -- after an item of the second it goes on showing what that comes to
+    -- after an item of the second it goes on showing the state it leaves
     pub second_stays : {B C : Type 0} {b : Machine B Q J G C} {shows : S → Option B} {event : C → Option E} →
         GoesAsSecond two m b shows event → (told : Option C) (t : S) (v : B) →
         ComesTo m b shows (λ j. Second j) told t v → shows t ≡ Some v
@@ -227,9 +227,9 @@ first_is {P = P} (First q) p e = let same : q ≡ p = cc in ap (λ (k : P). Firs
 first_is (Second q) p e = absurd cc
 
 module _ {S P I F Q J G H D E : Type 0} where
-  -- where the first's end is but a point, an end of both does as it does while it stands at
-  -- one of the first, if it tells of each item what is named of what that tells, and that
-  -- tells of each which leads over
+  -- where the first's end is but a point, an end of both does as it does at the points of the
+  -- first. Its event of an item must be the name of the first's event, which each item that
+  -- leads over has
   pub at_first : (two : Two P I F Q J G H) (m : Machine S (Stage P Q) (Stage I J) H E)
       (tells : P → I → Option D) (event : D → Option E) → IsMachine m → m.grammar ≡ sequel two →
       ((s : S) (p : P) (i : I) → m.point s ≡ First p →

@@ -17,7 +17,7 @@ module _ {S P I F E : Type 0} where
   acts_append m s [] ys = refl
   acts_append m s (i ∷ xs) ys = acts_append m (m.act s i) xs ys
 
-  -- a state stands after its items
+  -- the point of a state is the one after its items
   pub point_acts : (m : Machine S P I F E) → IsMachine m → (s : S) (items : List I) →
       m.point (acts m s items) ≡ past_all m.grammar (m.point s) items
   point_acts m is s [] = refl
@@ -262,7 +262,7 @@ module _ {S P I F E : Type 0} where
       in_front None one two = refl
       in_front (Some e) one two = refl
 
-  -- what a call tells is what its items tell
+  -- what a call reports is what its items report
   pub told_ends : (m : Machine S P I F E) (s : S) (items : List I) (event : Option E) →
       EndsWith m s items event → told m s items ≡ with_event event []
   told_ends m s [] event ends = rw ends refl
@@ -349,8 +349,8 @@ module _ {S P I F E : Type 0} where
       in_front None events = refl
       in_front (Some e) events = refl
 
-  -- calls over the same bytes, however these are split, tell the same events and leave the same
-  -- state
+  -- calls over the same bytes, however these are split, report the same events and leave the
+  -- same state
   pub calls_agree : (m : Machine S P I F E) → IsMachine m →
       (s t u : S) (prefix mid rest : List ℕ) (one two : List (Call E)) →
       m.grammar.next (m.point s) prefix ≡ More → bytes_of one ≡ bytes_of two →

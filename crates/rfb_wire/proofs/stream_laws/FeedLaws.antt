@@ -97,7 +97,7 @@ module _ {S P I F E V : Type 0} where
       (refused_more m is stands old (take n bytes) (drop n bytes) fault
       (step_refuses m stands old new (take n bytes) fault steps))
 
-  -- ---- a slice, of which i bytes are taken, and now n more
+  -- ---- i bytes of a slice are taken, and now n more
 
   -- the same where what comes next was fed as a call
   pub fed_more : (m : Machine S P I F E) → IsMachine m →

@@ -52,7 +52,7 @@ module _ {P I F : Type 0} where
           let one = (spelled.reads p).blamed [] f e in
           absurd (none one.0 one.1 one.2 (spelled.some_fault p f one.0 one.3))
 
-  -- further bytes stand after the rest
+  -- further bytes after the rest
   pub all_more : (g : Grammar P I F) → IsGrammar g →
       (p : P) (bytes tail : List ℕ) (items : List I) (rest : List ℕ) →
       ReadsAll g p bytes items rest → ReadsAll g p (bytes ++ tail) items (rest ++ tail)
@@ -249,7 +249,7 @@ module _ {P I F : Type 0} where
       ap length one.1 ∙ length-append one.0 rest in
       omega (arith, less, size, one.3)
 
-  -- bytes that are not yet all of the first item are not when further items stand after
+  -- bytes that are not yet all of the first item are not so either when further items follow
   pub within_append : (g : Grammar P I F) → IsGrammar g →
       (n : ℕ) (p : P) (bytes : List ℕ) (xs ys : List I) (rest : List ℕ) → IsWithinFirst g n xs →
       ReadsAll g p bytes ys rest → IsWithinFirst g n (xs ++ ys)

@@ -184,10 +184,10 @@ module _ {A F : Type 0} where
       (valued_reads 1 (λ bytes. slice_index bytes 0))
       (λ first. rest_reads unknown head_in first (size first)))
 
--- ---- what stands after a head
+-- ---- what comes after a head
 
 module _ {A B F : Type 0} where
-  -- a message is a head and what stands after it, or a byte that begins no head
+  -- a message is a head and what comes after it, or a byte that begins no head
   pub message_reads : {Spells : A → List ℕ → Type 0} {size : ℕ → Option ℕ} {head_in : List ℕ → A}
       {unknown : ℕ → F} {body : A → Reading B F} {after : A → Says B F} {s : Says B F} →
       IsHeaded Spells size head_in → ((head : A) → Reads (body head) (after head)) →
@@ -218,7 +218,7 @@ module _ {A B F : Type 0} where
       faults f bytes (inr (head, front, back, e, h, w)) = fault head f bytes front back e h w
 
 module _ {A : Type 0} where
-  -- a list after the head that tells how many items it has
+  -- a list after the head that says how many items it has
   pub list_follows : (Head : ℕ → List ℕ → Type 0) (R : A → List ℕ → Type 0) (count : ℕ) (items : List A)
       (bytes front back : List ℕ) → bytes ≡ front ++ back → Head count front →
       (length items ≡ count) × Listed R items back → SpellsList Head R items bytes
@@ -238,7 +238,7 @@ module _ {A : Type 0} where
       ap length s.whole ∙ length-append s.head s.list in
       (omega (arith, head, list, all), omega (arith, some, head, all))
 
--- a text after the head that tells how many bytes it has
+-- a text after the head that says how many bytes it has
 pub text_follows : (Head : ℕ → List ℕ → Type 0) (count : ℕ) (text bytes front back : List ℕ) →
     bytes ≡ front ++ back → Head count front → (back ≡ text) × (length back ≡ count) →
     SpellsText Head text bytes

@@ -22,7 +22,7 @@ length-pieces R size sized (a ∷ items) bytes (front, back, e, s, more) =
     let all : length bytes ≡ length front + length back = ap length e ∙ length-append front back in
     omega (arith, sized a front s, others, all)
 
--- what stands after whole pieces is pending, where it is less than a piece
+-- what comes after whole pieces is pending, where it is less than a piece
 pub counted_pending : (size count : ℕ) (front rest : List ℕ) → length front ≡ count * size →
     length rest < size → in_pieces size (front ++ rest) ≡ length rest
 counted_pending size count front rest whole less =
@@ -106,7 +106,7 @@ module _ (head : ℕ → Option ℕ) (size : ℕ → ℕ) where
       head_pending first (length (first ∷ (rest ++ missing))) rest
       (only v (first ∷ (rest ++ missing)) s).1 (omega (arith, length-append rest missing, some))
 
-  -- after a head and whole items it is what stands after these
+  -- after a head and whole items it is what comes after these
   pub items_pending : {A : Type 0} (R : A → List ℕ → Type 0) (kind n : ℕ) → 0 < n → head kind ≡ Some n →
       ((a : A) (bytes : List ℕ) → R a bytes → length bytes ≡ size kind) →
       (items : List A) (front list rest : List ℕ) → length front ≡ n → slice_index front 0 ≡ kind →

@@ -1,4 +1,4 @@
--- Where a fault comes in a slice of which a part was taken before.
+-- Where a fault comes in a slice whose first part was taken before.
 use Rattle.std.proofs.Common.{◌≡◌, ℕ, ◌+◌, ◌-◌, ◌<◌, List, [], ◌++◌, None, length, take, drop, sym, subst}
 use Rattle.std.proofs.Common.{arith, append-nil}
 use Rattle.std.proofs.lemmas.List.{take_all}

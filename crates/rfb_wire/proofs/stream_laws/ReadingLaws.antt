@@ -40,7 +40,7 @@ module _ {A F : Type 0} where
       subst (λ (zs : List ℕ). p zs ≡ Got b []) (append-nil (xs ++ ys)) second in
       (cc, cc)
 
-  -- bytes of which no front says anything are too few
+  -- bytes are too few where no front of them says anything
   pub reads_waits : (p : Reading A F) (s : Says A F) → Reads p s → (bytes : List ℕ) →
       ((a : A) (front rest : List ℕ) → bytes ≡ front ++ rest → s.item a front → ⊥) →
       ((f : F) (front rest : List ℕ) → bytes ≡ front ++ rest → s.fault f front → ⊥) →

@@ -84,7 +84,7 @@ module _ {P I F Q J G H : Type 0} where
   all_second two q bytes (j ∷ items) rest h =
       (h.0, rw h.1 refl, all_second two (two.second.past q j) h.0 items rest h.2)
 
-  -- items of the first, of which none but the last leads over, are read as it reads them
+  -- items of the first are read as it reads them, where none but the last leads over
   pub all_first : (two : Two P I F Q J G H) (p : P) (bytes : List ℕ) (items : List I)
       (rest : List ℕ) → StaysFirst two p items → ReadsAll two.first p bytes items rest →
       ReadsAll (sequel two) (First p) bytes (map (λ i. First i) items) rest

@@ -38,7 +38,7 @@ module _ {S P I F E : Type 0} where
         (ap m.point run.state ∙ point_acts m is s run.items) run.partial;
   }
 
-  -- items without an event after a run tell nothing more
+  -- items without an event after a run report nothing more
   quiet_told : (m : Machine S P I F E) (s t : S) (prefix bytes rest : List ℕ) (events : List E)
       (run : Runs m s prefix bytes events t rest) (items : List I) → told m t items ≡ [] →
       events ≡ told m s (run.items ++ items)
@@ -116,8 +116,8 @@ module _ {S P I F E : Type 0} where
             ∙ ap (λ (es : List E). es ++ later) (sym told_is),
       )
 
-  -- sessions over the same bytes, however these are split, tell the same events and then the same
-  -- fault
+  -- sessions over the same bytes, however these are split, report the same events and then the
+  -- same fault
   pub sessions_agree : (m : Machine S P I F E) (s : S) (prefix xs ys : List ℕ)
       (one two : List (Call E)) (v w : Option F) → IsMachine m →
       Waits m s prefix → bytes_of one ++ xs ≡ bytes_of two ++ ys →
@@ -142,7 +142,7 @@ module _ {S P I F E : Type 0} where
       makes_one m s prefix (bytes_of two ++ ys) (events_of one) (events_of two) (Some f) w
       (subst (λ (zs : List ℕ). Makes m s prefix zs (events_of one) (Some f)) same first) second
 
-  -- fewer bytes tell the first of the events
+  -- fewer bytes give the first of the events
   pub fronts_tell_first : (m : Machine S P I F E) (s t : S) (prefix ys more rest : List ℕ)
       (one two : List (Call E)) (w : Option F) → IsMachine m →
       Waits m s prefix → bytes_of one ++ more ≡ bytes_of two ++ ys →

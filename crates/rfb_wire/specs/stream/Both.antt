@@ -16,14 +16,14 @@ abbrev pub first_point : {P Q : Type 0} → Stage P Q → Option P
 first_point (First p) = Some p
 first_point (Second q) = None
 
--- an end whose state is no more than where it stands
+-- an end whose state is no more than its point
 abbrev pub end_at : {P I F D : Type 0} → Grammar P I F → (P → I → Option D) → Machine P P I F D
 end_at g tells = record { grammar = g; point = λ p. p; act = g.past; tells = tells }
 
 module _ {S R K H E A P I F D : Type 0} where
-  -- an end does what another does, as long as its state shows one of the other's: it reads the same
-  -- items and faults under other names, tells of an item what is named of what the other tells, and
-  -- goes on showing the other's state after an item of which that tells nothing
+  -- an end does what another does, as long as its state shows one of the other's. It reads the same
+  -- items and faults, under other names. Its event of an item is the name of the other's event. After
+  -- an item without an event it goes on showing the other's state
   pub record DoesAs (m : Machine S R K H E) (a : Machine A P I F D) (shows : S → Option A)
       (item : I → K) (fault : F → H) (event : D → Option E) : Type 0 where
     pub reads : (s : S) (u : A) (bytes : List ℕ) → shows s ≡ Some u →
@@ -51,9 +51,9 @@ module _ {S R K H E A P I F D : Type 0} where
       RunsOut m (λ t front. (v : A) × (shows t ≡ Some v) × IsTrue (wants v front)) s prefix bytes
 
 module _ {S A P I F Q J G H D E : Type 0} where
-  -- an end of both is an end of the first as long as its state shows one of that: it stands at the
-  -- same point, tells what is named of what that tells, and shows the next state after an item
-  -- that does not lead over; of one that leads over the first's end tells something
+  -- an end of both is an end of the first as long as its state shows one of that. It is at the same
+  -- point. Its event of an item is the name of the first's event. After an item that does not lead
+  -- over it shows the next state. The first's end has an event for each item that leads over
   pub record GoesAsFirst (two : Two P I F Q J G H) (m : Machine S (Stage P Q) (Stage I J) H E)
       (a : Machine A P I F D) (shows : S → Option A) (event : D → Option E) : Type 0 where
     pub both : m.grammar ≡ sequel two
@@ -65,8 +65,8 @@ module _ {S A P I F Q J G H D E : Type 0} where
         shows (m.act s (First i)) ≡ Some (a.act u i)
     pub told_over : (u : A) (i : I) → a.tells u i ≡ None → two.leads (a.point u) i ≡ None
 
-  -- an item led over: the state before it showed one of the first's end, and the one after it
-  -- stands at the point of the second that the item leads to
+  -- an item led over: the state before it showed one of the first's end, and the one after it is at
+  -- the point of the second that the item leads to
   pub record LedOver (two : Two P I F Q J G H) (m : Machine S (Stage P Q) (Stage I J) H E)
       (a : Machine A P I F D) (shows : S → Option A) (t : S) (v : A) : Type 0 where
     pub before : S
@@ -114,7 +114,7 @@ module _ {S B P I F Q J G H C E : Type 0} where
         shows (m.act s (Second j)) ≡ Some (b.act u j)
 
 module _ {S B P I Q J G H C E : Type 0} where
-  -- what the second's end takes, the end of both takes, and goes on showing where that stands
+  -- what the second's end takes, the end of both takes, and goes on showing that end's state
   abbrev pub TakesAsSecond : Machine S (Stage P Q) (Stage I J) H E → Machine B Q J G C →
       (S → Option B) → (C → Option E) → Type 0
   TakesAsSecond m b shows event =

@@ -3,8 +3,8 @@ use Rattle.std.specs.Prelude.{ℕ, List, [], ◌∷◌, ◌++◌, ◌≡◌, ◌
 use Rattle.rfb_wire.specs.stream.Prefix.{Next, More, Got, Bad}
 use Rattle.rfb_wire.specs.stream.Grammar.{Grammar, IsGrammar, ReadsAll, sizes, IsWithinFirst}
 
--- a machine over a grammar: where in its stream a state stands, what an item makes of it, and what
--- event an item is, if it is one
+-- a machine over a grammar: the point in its stream that a state is at, what an item makes of it,
+-- and the event that an item is, if it is one
 pub record Machine (S P I F E : Type 0) : Type 0 where
   pub grammar : Grammar P I F
   pub point : S → P
@@ -21,7 +21,7 @@ pub record Call (E : Type 0) : Type 0 where
   pub bytes : List ℕ
   pub event : Option E
 
--- the bytes that calls used, and the events that they told
+-- the bytes that calls used, and the events that they reported
 abbrev pub bytes_of : {E : Type 0} → List (Call E) → List ℕ
 bytes_of [] = []
 bytes_of (call ∷ calls) = call.bytes ++ bytes_of calls
@@ -53,9 +53,8 @@ module _ {S P I F E : Type 0} where
   told m s [] = []
   told m s (i ∷ items) = with_event (m.tells s i) (told m (m.act s i) items)
 
-  -- what it takes of the bytes that follow a prefix: whole items up to the first that makes
-  -- an event, or as far as the bytes go, and then what is too few for another; nothing is
-  -- left over after an event
+  -- what it takes of the bytes that follow a prefix: whole items up to the first that makes an
+  -- event, or as far as the bytes go; then bytes too few for another, and none after an event
   pub record Takes (m : Machine S P I F E) (old : S) (prefix bytes : List ℕ) (event : Option E)
       (new : S) (rest : List ℕ) : Type 0 where
     pub items : List I
@@ -102,9 +101,8 @@ module _ {S P I F E : Type 0} where
       (mid : S) × (left : List ℕ) × Takes m old prefix call.bytes call.event mid left
       × CallsTo m mid left calls new rest
 
-  -- bytes that were delivered of those in flight to it, where all in flight are the items of a
-  -- queue: some items are done, of which something is so, and what is left of the queue is what
-  -- is left of the bytes
+  -- some bytes in flight to it were delivered, where all in flight are the items of a queue: some
+  -- items are done, and something holds of these; the bytes left are the items left
   pub record DeliversItems (m : Machine S P I F E) (old : S) (prefix : List ℕ) (queue : List I)
       (bytes later : List ℕ) (IsSo : List I → Type 0) (new : S) (rest : List ℕ) : Type 0 where
     pub done : List I
@@ -124,7 +122,7 @@ module _ {S P I F E : Type 0} where
 
 module _ {S P I F E V : Type 0} where
   -- what a call leaves: an end that stood for a state and a prefix takes the bytes from there, and
-  -- stands for the state and the prefix that this leaves
+  -- then stands for the state and the prefix that this leaves
   abbrev pub FedBy : Machine S P I F E → (V → S → List ℕ → Type 0) → V → List ℕ → Option E → V →
       Type 0
   FedBy m stands old bytes event new =

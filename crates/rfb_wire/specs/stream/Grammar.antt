@@ -2,7 +2,7 @@
 use Rattle.std.specs.Prelude.{ℕ, List, [], ◌∷◌, ◌++◌, ◌≡◌, ◌+◌, ◌<◌, Option, Some, None, length}
 use Rattle.rfb_wire.specs.stream.Prefix.{Next, More, Got, Bad, Reading, Says, Reads}
 
--- what stands next at each point of a stream, the point after an item, and how many bytes it has
+-- what comes next at each point of a stream, the point after an item, and its size in bytes
 pub record Grammar (P I F : Type 0) : Type 0 where
   pub next : P → Reading I F
   pub past : P → I → P

@@ -1,5 +1,5 @@
--- Heads, of which the first byte decides the rest: what bytes that are no whole head are, by the
--- relation between heads and their bytes; and what a head has after it that tells how much follows.
+-- Heads, whose first byte decides the rest. What bytes that are no whole head are, by the relation
+-- between heads and their bytes. What follows a head that says how much follows.
 use Rattle.std.specs.Prelude.{◌≡◌, ℕ, ◌<◌, List, [], ◌∷◌, ◌++◌, length}
 use Rattle.rfb_wire.specs.stream.Prefix.{Listed}
 
@@ -20,7 +20,7 @@ module _ {V : Type 0} where
       (0 < n) × ((missing : List ℕ) → length missing ≡ n →
       (v : V) × Spells v (first ∷ rest ++ missing))
 
--- a list, after a head that tells how many items it has
+-- a list, after a head that says how many items it has
 pub record SpellsList {A : Type 0} (SpellsHead : ℕ → List ℕ → Type 0) (SpellsItem : A → List ℕ → Type 0)
     (items : List A) (bytes : List ℕ) : Type 0 where
   pub head : List ℕ
@@ -29,7 +29,7 @@ pub record SpellsList {A : Type 0} (SpellsHead : ℕ → List ℕ → Type 0) (S
   pub head_is : SpellsHead (length items) head
   pub listed : Listed SpellsItem items list
 
--- a text, after a head that tells how many bytes it has
+-- a text, after a head that says how many bytes it has
 pub record SpellsText (SpellsHead : ℕ → List ℕ → Type 0) (text bytes : List ℕ) : Type 0 where
   pub head : List ℕ
   pub whole : bytes ≡ head ++ text

@@ -60,7 +60,7 @@ module _ {A F : Type 0} where
   optional false p = done None
   optional true p = and_then p (λ a. done (Some a))
 
-  -- n parts, each named by the items before it, of which the list's come first
+  -- n parts, each named by the items before it; those of the list come first
   abbrev pub each : ℕ → (List A → Reading A F) → List A → Reading (List A) F
   each zero p before = done []
   each (suc n) p before =

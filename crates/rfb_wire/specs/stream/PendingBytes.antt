@@ -1,9 +1,9 @@
--- Pending bytes: those of an item under way that stand after its last whole piece. A piece is what
+-- Pending bytes: those of an item under way that come after its last whole piece. A piece is what
 -- is judged at once, when its last byte is there.
 use Rattle.std.specs.Prelude.{ℕ, ◌%◌, List, [], ◌∷◌, Option, Some, None, nat_lt, length, drop, if◌then◌else◌}
 use Rattle.rfb_wire.specs.stream.Sequel.{Stage, First, Second}
 
--- how many bytes are pending where pieces of one size stand one after another
+-- how many bytes are pending where pieces of one size follow one another
 abbrev pub in_pieces : ℕ → List ℕ → ℕ
 in_pieces size bytes = length bytes % size
 
@@ -13,7 +13,7 @@ abbrev pub after_piece : ℕ → (List ℕ → ℕ) → List ℕ → ℕ
 after_piece size pending bytes =
     if nat_lt (length bytes) size then length bytes else pending (drop size bytes)
 
--- how many are pending where pieces of one size stand after a head
+-- how many are pending where pieces of one size follow a head
 abbrev pub after_pieces : ℕ → ℕ → List ℕ → ℕ
 after_pieces head size bytes = after_piece head (in_pieces size) bytes
 

@@ -1,7 +1,7 @@
 -- What a list of bytes begins with, and the readings that a grammar is built of.
 use Rattle.std.specs.Prelude.{ℕ, Bool, true, false, List, [], ◌∷◌, ◌++◌, ◌≡◌, Option, Some, None}
 
--- bytes begin with an item and the rest after it, or show a fault, or are too few to tell
+-- bytes begin with an item and the rest after it, or show a fault, or are too few to show either
 pub data Next (A F : Type 0) : Type 0 where
   More : Next A F
   Got : (item : A) → (rest : List ℕ) → Next A F
@@ -17,7 +17,7 @@ pub record Says (A F : Type 0) : Type 1 where
   pub fault : F → List ℕ → Type 0
 
 module _ {A F : Type 0} where
-  -- the reading gives exactly the items and the faults that bytes say, whatever stands after them
+  -- the reading gives exactly the items and the faults that bytes say, whatever follows them
   pub record Reads (p : Reading A F) (s : Says A F) : Type 0 where
     pub found : (bytes : List ℕ) (a : A) (rest : List ℕ) → p bytes ≡ Got a rest →
         (front : List ℕ) × (bytes ≡ front ++ rest) × s.item a front

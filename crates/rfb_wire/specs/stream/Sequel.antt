@@ -33,12 +33,12 @@ pub record Two (P I F Q J G H : Type 0) : Type 0 where
   pub second_fault : G → H
 
 module _ {P I F Q J G H : Type 0} where
-  -- what stands next: an item of the grammar that the point belongs to
+  -- what comes next: an item of the grammar that the point belongs to
   abbrev pub next_in : Two P I F Q J G H → Stage P Q → Reading (Stage I J) H
   next_in two (First p) = renamed (λ i. First i) two.first_fault (two.first.next p)
   next_in two (Second q) = renamed (λ j. Second j) two.second_fault (two.second.next q)
 
-  -- the point after an item; one of the other grammar stands at no point
+  -- the point after an item; one of the other grammar is at no point
   abbrev pub past_in : Two P I F Q J G H → Stage P Q → Stage I J → Stage P Q
   past_in two (First p) (First i) = turn (two.leads p i) (two.first.past p i)
   past_in two (First p) (Second j) = First p

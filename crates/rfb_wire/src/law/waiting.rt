@@ -11,8 +11,8 @@ ghost use Rattle.rfb_wire.specs.ServerHead.{SpellsServerHead, SpellsColourMap, S
 ghost use Rattle.rfb_wire.specs.ServerMessage.{UnknownType as UnknownServerType, server_message};
 ghost use Rattle.rfb_wire.specs.RectStream.{rect_head};
 
-/// A client message waits for the bytes that its head misses, for each number that its head tells
-/// of, and for all of its text. A type that no client message has is a fault at once.
+/// A client message waits for the bytes that its head misses, for each number that its head
+/// counts, and for all of its text. A type that no client message has is a fault at once.
 pub fn client_messages_wait_for_their_last_byte()
     ensures head { (n : ℕ) (bytes : List ℕ) →
         Misses SpellsClientHead n bytes → client_message bytes ≡ More }
@@ -24,8 +24,8 @@ pub fn client_messages_wait_for_their_last_byte()
         client_message (first ∷ rest) ≡ Bad (UnknownType first) }
 {}
 
-/// A server message waits for the bytes that its head misses, for each colour that its head tells
-/// of, and for all of its text. A type that no server message has is a fault at once.
+/// A server message waits for the bytes that its head misses, for each colour that its head
+/// counts, and for all of its text. A type that no server message has is a fault at once.
 pub fn server_messages_wait_for_their_last_byte()
     ensures head { (n : ℕ) (bytes : List ℕ) →
         Misses SpellsServerHead n bytes → server_message bytes ≡ More }

@@ -46,8 +46,8 @@ pub fn items_are_apart<P, I, F>()
         g.next p front ≡ Got i [] → g.next p (front ++ rest) ≡ Got j [] → (i ≡ j) × (rest ≡ []) }
 {}
 
-/// An end makes the same of the same bytes however calls split them: its events and the state and
-/// the prefix that it comes to.
+/// An end makes the same of the same bytes however calls split them: the same events, and the same
+/// state and prefix at the end.
 pub fn calls_agree<S, P, I, F, E>()
     ensures { (m : Machine S P I F E) (s t u : S) (prefix mid rest : List ℕ) →
         (one two : List (Call E)) → IsMachine m → m.grammar.next (m.point s) prefix ≡ More →

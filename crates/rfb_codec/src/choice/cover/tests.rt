@@ -45,7 +45,7 @@ fn a_run_of_two_columns_goes_down_two_rows(rt: HostRuntime) {
     assert!(rt; are_covered_by(&pixels, &wanted));
 }
 
-// Whether a row of five places, of which every second one has pixel A, is covered.
+// Whether a row of five places is covered where every second one has pixel A.
 fn is_row_covered(background: u32, limit: usize) -> bool {
     let mut subs: ArrayVec<Subrect, 8> = ArrayVec::new();
     cover(&[A, B, A, B, A], 5, 1, background, limit.min(8), &mut subs)

@@ -22,7 +22,7 @@ use rfb_pixel::Format;
 /// The most subrectangles of a tile: a byte counts them.
 pub const MAX_SUBRECTS: usize = 255;
 
-/// Room for the subrectangles of a tile, of which fewer are enough than it has places.
+/// Room for the subrectangles of a tile: fewer are enough than it has places.
 pub type TileSubrects = ArrayVec<Subrect, MAX_SUBRECTS>;
 
 // How a tile is sent over a background, and what it leaves to the next one.

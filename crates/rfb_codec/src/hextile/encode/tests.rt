@@ -10,7 +10,7 @@ use std::alloc::Global;
 use std::process::Abort;
 use std::test::Fail;
 
-// Two pixels, of which tiles at one byte a pixel are made by hand.
+// Two pixels for tiles at one byte a pixel, made by hand.
 const A: u32 = 0x10;
 
 const B: u32 = 0x20;

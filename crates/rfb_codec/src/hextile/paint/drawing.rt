@@ -73,8 +73,8 @@ struct TileSubs {
 }
 
 // Paints the background over the rectangle, and then the subrectangles, which lie inside it. There
-// is a loop for those of one colour, and one for those that have pixels of their own; of these,
-// another for the format that this project announces, which is known before it runs.
+// is a loop for those of one colour, and one for those that have pixels of their own. The format
+// that this project announces has one of its own for these, since it is known before it runs.
 #[inline(never)]
 fn draw_subs(format: Format, rect: Rect, subs: TileSubs, list: &[u8], picture: &mut Picture<Colour>)
     requires place { IsPaintable picture.old rect }

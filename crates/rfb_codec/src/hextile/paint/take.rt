@@ -128,8 +128,8 @@ fn take_front(tile: usize, seen: Seen, pending: &mut Pending, bytes: &[u8]) -> S
     }
 }
 
-// Takes bytes more of a tile that is not raw: all but the last of those that it has at least, or
-// that one.
+// Takes further bytes of a tile that is not raw, up to the fewest that it has: all but the last of
+// these, or that one.
 #[inline(never)]
 fn take_more(
     rectangle: &Rectangle,

@@ -291,7 +291,7 @@ fn a_tile_is_shown_at_its_last_byte(rt: HostRuntime) -> Result<(), Fail> {
     at_every_cut(&rt, rt.alloc(), scene)
 }
 
-// One of two colours in sixteen places, and a raw one of one place, each pixel of which shows at
+// A tile of two colours in sixteen places, and a raw one of two places, whose pixels each show at
 // once.
 #[test]
 fn a_pixel_of_a_raw_tile_is_shown_at_once(rt: HostRuntime) -> Result<(), Fail> {
@@ -307,7 +307,7 @@ fn a_pixel_of_a_raw_tile_is_shown_at_once(rt: HostRuntime) -> Result<(), Fail> {
     at_every_cut(&rt, rt.alloc(), scene)
 }
 
-// Pixels of four bytes: of two rows of Raw, of RRE, and of tiles, the second of which is raw.
+// Pixels of four bytes: of two rows of Raw, of RRE, and of tiles, where the second is raw.
 #[test]
 fn raw_shows_each_pixel_of_four_bytes_of_two_rows(rt: HostRuntime) -> Result<(), Fail> {
     let pieces = [

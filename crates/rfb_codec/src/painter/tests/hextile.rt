@@ -89,7 +89,7 @@ fn a_tile_of_its_mask_alone_is_whole(rt: HostRuntime) -> Result<(), Fail> {
     shows(&rt, rt.alloc(), Format::rgb888(), &data, &[(17, colour)])
 }
 
-// The bytes of a raw tile of sixteen pixels between two of one colour, the third of which has these
+// The bytes of a raw tile of sixteen pixels between two of one colour; the third tile has these
 // bytes.
 fn around_raw(alloc: Global, last: &[u8]) -> Result<Vec<u8>, Fail> {
     let mut data = Vec::new(alloc);
@@ -120,7 +120,7 @@ fn shown_around_raw(alloc: Global) -> Result<Vec<Colour>, Fail> {
     Ok(want)
 }
 
-// After the raw tile stands this one, of the background.
+// After the raw tile comes this one, of the background.
 fn shows_around_raw(rt: &impl Abort, alloc: Global, last: &[u8]) -> Result<(), Fail> {
     let data = around_raw(alloc, last)?;
     let want = shown_around_raw(alloc)?;

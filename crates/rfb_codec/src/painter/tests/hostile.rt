@@ -139,7 +139,7 @@ fn is_corner_refused(alloc: Global, source: &[u8]) -> Result<bool, Fail> {
     )
 }
 
-// By its corner, which may stand at the edges and not beyond them.
+// By its corner, which may be at the edges and not beyond them.
 #[test]
 fn the_source_of_an_empty_rectangle_is_judged(rt: HostRuntime) -> Result<(), Fail> {
     let column = is_corner_refused(rt.alloc(), &[0, 3, 0, 0])?;

@@ -6,7 +6,7 @@ use std::alloc::Global;
 use std::process::Abort;
 use std::test::Fail;
 
-// Of a block of that width and height Raw appends these bytes, the first of which stood there.
+// For a block of that width and height, the output is these bytes; the first was there before.
 fn sends(
     rt: &impl Abort,
     alloc: Global,

@@ -56,7 +56,7 @@ fn a_big_endian_format_has_the_high_byte_first(rt: HostRuntime) -> Result<(), Fa
     Ok(())
 }
 
-// Whether a row of this length, of which the last place alone differs, is taken.
+// Whether a row of this length is taken where the last place alone differs.
 fn is_row_taken(alloc: Global, format: &Format, length: u16) -> Result<bool, Fail> {
     let mut pixels = Vec::new(alloc);
     pixels.resize(usize::from(length), 3)?;
@@ -212,7 +212,7 @@ fn it_keeps_the_rule_at_larger_blocks(rt: HostRuntime) -> Result<(), Fail> {
     Ok(())
 }
 
-// Agreement at a block of pixels without order, of which a number in 24 are others than 9.
+// Agreement at a block of pixels without order, where `others` in 24 are others than 9.
 fn agrees_where_mixed(
     rt: &impl Abort,
     alloc: Global,

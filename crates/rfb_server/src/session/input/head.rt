@@ -12,8 +12,8 @@ use arrayvec::ArrayVec;
 use rfb_wire::pieces::append;
 use rfb_wire::{ClientHead, Read};
 
-// Takes bytes of a message's head, of which a part has come: how many these were, and the head, if
-// it is whole now, or its fault. The part is the longer for them where it is not.
+// Takes further bytes of a message's head. Returns how many it took, and the head, if it is whole
+// now, or its fault. Where it is not whole, the bytes are added to the part.
 pub(super) fn gather_head(
     part: &mut ArrayVec<u8, MAX_HEAD>,
     bytes: &[u8],

@@ -91,7 +91,7 @@ impl Session {
         }
     }
 
-    // A message comes next, of which nothing came.
+    // A message comes next, and nothing of it has come.
     pub(super) fn begin_message(&mut self)
         ensures { BeginsMessage self.old self.new }
     {

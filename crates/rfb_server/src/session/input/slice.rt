@@ -75,7 +75,8 @@ impl Session {
         }
     }
 
-    /// As `feed`, and a fault says with which byte of the slice it came; one of before, with none.
+    /// As `feed`, and a fault says with which byte of the slice it came. One of an earlier call
+    /// came with none.
     pub fn feed_placed(&mut self, bytes: &[u8]) -> Result<Fed<ServerEvent>, Flaw>
         // What was taken, what it was, and what is left, over whatever screen.
         ensures used { IfOk result (λ fed. fed.used ≤ length bytes.now) }
@@ -116,8 +117,8 @@ impl Session {
         self.take_items(bytes)
     }
 
-    // The same of a session that has not failed. Most slices are one request. It tells nothing, so
-    // it is taken where no room for an event is cleared or moved.
+    // The same of a session that has not failed. Most slices are one request. That makes no event,
+    // so it is taken where no room for one is cleared or moved.
     fn take_items(&mut self, bytes: &[u8]) -> Result<Fed<ServerEvent>, Flaw>
         requires going { fault_in self.old.progress ≡ None }
         ensures used { IfOk result (λ fed. fed.used ≤ length bytes.now) }
@@ -263,7 +264,7 @@ impl Session {
         self.is_idle()
     }
 
-    // Whether it waits for a message, of which no byte has come.
+    // Whether it waits for a message, and no byte of it has come.
     pub(crate) fn is_idle(&self) -> bool
         ensures { result ≡ is_idle self.now.progress }
     {
@@ -273,8 +274,8 @@ impl Session {
         }
     }
 
-    /// How many bytes are pending: those of the client's item under way that stand after its last
-    /// whole piece. It keeps no others, but the first bytes of a text.
+    /// How many bytes are pending: those of the client's item under way after its last whole piece.
+    /// It keeps no others, but the first bytes of a text.
     pub fn pending(&self) -> usize
         ensures value { (serving : Serving) (screen : Grid Colour) (s : ServerState)
             (prefix : List ℕ) → SessionStandsFor serving screen self.now s prefix

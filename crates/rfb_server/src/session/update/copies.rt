@@ -66,9 +66,9 @@ impl Session {
         }
     }
 
-    /// Tells the viewer to copy by each hint that is of use, the oldest first, and tells how many
-    /// rectangles that makes. There is room for them. `claim` is what it claimed of the screen.
-    /// `quiet` becomes places that need no sending, as the last copies leave them.
+    /// Appends a CopyRect for each hint that is of use, the oldest first. Returns how many it
+    /// appended. There is room for them. `claim` is what it claimed of the screen. `quiet` becomes
+    /// places that need no sending, as the last copies leave them.
     pub(crate) fn send_copies(
         &mut self,
         screen: &Picture<Colour>,
@@ -100,7 +100,7 @@ impl Session {
             let hint = *hint;
             let sent = self.send_copy(screen, hint, claim, useless, out, quiet);
             if sent {
-                // It spoke of the record, which is another now.
+                // It spoke of the record, which has changed.
                 claim = led_on(claim, hint);
             }
             useless = if sent { None } else { Some(hint) };
@@ -109,8 +109,8 @@ impl Session {
         count
     }
 
-    // Tells the viewer to copy by a hint, if that is of use. There is room for it. One that is
-    // known to be of no use is not judged again.
+    // Appends the CopyRect of a hint, if that is of use. There is room for it. One that is known to
+    // be of no use is not judged again.
     fn send_copy(
         &mut self,
         screen: &Picture<Colour>,
@@ -168,9 +168,8 @@ impl Session {
         judged.gain
     }
 
-    /// Records what the viewer has by the copies of its hints, of those by which the session claims
-    /// that it has the screen's pixels then; of others that is not looked for. It gives places that
-    /// need no sending after that.
+    /// Records what the viewer has by copies of its hints, where they are useful and the claim is
+    /// of them. Others are not looked at. Returns places that need no sending after that.
     pub(crate) fn follow_hints(
         &mut self,
         screen: &Picture<Colour>,

@@ -29,7 +29,7 @@ pub(super) struct Judged {
     pub right: Quiet,
 }
 
-// It is not to, and of no place it is known.
+// It is not to copy, and nothing is known of its places.
 const USELESS: Judged = Judged {
     gain: false,
     right: NOWHERE,
@@ -64,7 +64,7 @@ impl Session {
         }
     }
 
-    // The same of a copy of which the session has no claim, or only one of other sources.
+    // The same of a copy that the session has no claim of, or only one of other sources.
     fn judge_all(&self, screen: &Picture<Colour>, hint: Hint, claim: Option<Claim>) -> Judged
         requires about { Follows screen.now self.now }
         requires claimed { IsClaimed screen.now self.now.known self.now.format claim }

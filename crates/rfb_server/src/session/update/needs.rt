@@ -284,7 +284,7 @@ impl Session {
         let wanted = &mut room[..usize::from(to - from)];
         self.format.pack_row(screen.row(from, y, to - from), wanted);
         let known = self.known.pixels().row(from, y, to - from);
-        // Mostly none is another, which one compare tells.
+        // Mostly none is another, as one compare shows.
         if first_diff(known, wanted).is_none() {
             return 0;
         }

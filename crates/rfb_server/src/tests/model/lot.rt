@@ -46,7 +46,7 @@ impl Lot {
         Rect { x, y, w, h }
     }
 
-    /// A colour, mostly one of four, the last two of which are the same pixel in each format.
+    /// A colour, mostly one of four; the last two are the same pixel in each format.
     pub(super) fn colour(&mut self) -> Colour {
         match self.up_to(7) {
             0 => Colour {

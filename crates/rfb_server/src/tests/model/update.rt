@@ -9,7 +9,7 @@ use rfb_picture::{Picture, Rect};
 use rfb_pixel::Colour;
 use std::alloc::Global;
 
-// Sends what a cell needs, and tells whether it did.
+// Sends what a cell needs. Whether it did.
 fn sent_cell(plain: &mut Plain, screen: &Picture<Colour>, cell: Rect, out: &mut Vec<u8>) -> bool {
     let Some(rect) = box_in(plain, screen, cell) else {
         return false;

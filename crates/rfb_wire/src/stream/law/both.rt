@@ -6,10 +6,10 @@ ghost use Rattle.rfb_wire.specs.stream.Sequel.{Stage, Two};
 ghost use Rattle.rfb_wire.specs.stream.Both.{StarvesAs, GoesAsFirst, TakesAsFirst, RefusesAsFirst};
 ghost use Rattle.rfb_wire.specs.stream.Both.{GoesAsSecond, TakesAsSecond, RefusesAsSecond};
 
-/// While an end of both shows a state of the first's end, calls of that are calls of it: it takes
-/// the same bytes, with the event that this is of the whole, and refuses the same, with the fault
-/// that this is of the whole, and it wants memory where that does. After a call it shows where
-/// the first's end stands, or an item led over.
+/// While an end of both shows a state of the first's end, calls of that are calls of it. It takes
+/// the same bytes, with the event that this is of the whole. It refuses the same bytes, with the
+/// fault that this is of the whole. It wants memory where the first's end does. After a call it
+/// shows the state of the first's end, or an item led over.
 pub fn the_first_part_is_fed_as_its_end<S, A, P, I, F, Q, J, G, H, D, E>()
     ensures takes { (two : Two P I F Q J G H) (m : Machine S (Stage P Q) (Stage I J) H E) →
         (a : Machine A P I F D) (shows : S → Option A) (event : D → Option E) →

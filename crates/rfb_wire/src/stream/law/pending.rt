@@ -1,4 +1,4 @@
-//! Laws of pending bytes, those of an item under way that stand after its last whole piece.
+//! Laws of pending bytes, those of an item under way after its last whole piece.
 
 ghost use Rattle.std.specs.Prelude.{ℕ, List, ◌++◌, ◌≡◌, ◌*◌, ◌<◌, ◌≤◌, length};
 ghost use Rattle.rfb_wire.specs.stream.PendingBytes.{in_pieces, after_piece};

@@ -4,9 +4,8 @@ ghost use Rattle.std.specs.Prelude.{ℕ, List, [], ◌∷◌, ◌++◌, ◌≡�
 ghost use Rattle.rfb_wire.specs.stream.Grammar.{ReadsAll, past_all};
 ghost use Rattle.rfb_wire.specs.stream.Sequel.{First, Second, Two, sequel, StaysFirst, in_both};
 
-/// In the stream of both, items are read as the grammar that they are of reads them: of the first
-/// where none but the last leads over, of the second once a point of it is reached, and both
-/// after one another.
+/// In the stream of both, items are read as their own grammar reads them. So are those of the first
+/// where none but the last leads over, those of the second once it is reached, and both in turn.
 pub fn both_are_read_as_each<P, I, F, Q, J, G, H>()
     ensures first { (two : Two P I F Q J G H) (p : P) (bytes rest : List ℕ) (items : List I) →
         StaysFirst two p items → ReadsAll two.first p bytes items rest →

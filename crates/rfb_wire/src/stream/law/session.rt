@@ -7,9 +7,9 @@ ghost use Rattle.rfb_wire.specs.stream.End.{Delivers};
 ghost use Rattle.rfb_wire.specs.stream.End.{with_event};
 ghost use Rattle.rfb_wire.specs.stream.Session.{Waits, IsSession, IsStarved, DeliversAll};
 
-/// Calls over the same bytes, however these are split, tell the same events and then the same
-/// fault, or none of them a fault. Once all bytes of a fault are there it stays one, whatever
-/// follows. Over fewer bytes, or where memory is wanted, they tell the first of the events.
+/// Calls over the same bytes, however these are split, report the same events and then the same
+/// fault, or none. Once all bytes of a fault are there it stays one, whatever follows. Over fewer
+/// bytes, or where memory is wanted, they report the first of the events.
 pub fn sessions_agree<S, P, I, F, E>()
     ensures same { (m : Machine S P I F E) (s : S) (prefix xs ys : List ℕ) →
         (one two : List (Call E)) →

@@ -43,7 +43,7 @@ fn is_read_as(
     }
 }
 
-// Bytes that stand before those of a block.
+// Bytes before those of a block.
 const BEFORE: [u8; 2] = [9, 8];
 
 fn after_those_before(alloc: Global, tiles: &[u8]) -> Result<Vec<u8>, AllocError> {
@@ -53,7 +53,7 @@ fn after_those_before(alloc: Global, tiles: &[u8]) -> Result<Vec<u8>, AllocError
     Ok(bytes)
 }
 
-// Whether a block is sent as these bytes, after those that stood there.
+// Whether a block is sent as these bytes, after those that were there.
 fn is_sent(
     alloc: Global,
     format: &Format,
@@ -65,7 +65,7 @@ fn is_sent(
     is_sent_as::<Hextile>(alloc, format, size, pixels, &BEFORE, &wanted)
 }
 
-// Whether the encoder does what the rule's plain form does, after bytes that stood there, and what
+// Whether the encoder does what the rule's plain form does, after bytes that were there, and what
 // it appends is read back.
 fn keeps_the_rule(
     alloc: Global,

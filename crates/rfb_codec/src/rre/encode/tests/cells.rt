@@ -12,7 +12,7 @@ const DARK: u32 = 0x30;
 
 const LIGHT: u32 = 0x90;
 
-// Agreement in each size of pixel, of which the low bits of these serve.
+// Agreement in each size of pixel, by the low bits of these.
 fn agrees_in_each_size(rt: &impl Abort, alloc: Global, pixels: &[u32; 4096]) -> Result<(), Fail> {
     let mut narrow = *pixels;
     agrees(rt, alloc, &Format::rgb888(), 64, 64, &narrow)?;

@@ -23,7 +23,7 @@ fn is_open(pixels: &[u32], marks: &[bool], at: usize, pixel: u32) -> bool {
     pixels.get(at) == Some(&pixel) && marks.get(at) == Some(&false)
 }
 
-// How many open places of the pixel stand to the right, from (x, y) on.
+// How many open places of the pixel follow to the right, from (x, y) on.
 fn run_of(pixels: &[u32], marks: &[bool], width: usize, x: usize, y: usize, pixel: u32) -> usize {
     let mut run = 0usize;
     for i in x..width {

@@ -1,4 +1,4 @@
--- The rows so far have what stood at their source at first, and the other places are as they were.
+-- The rows so far have what their source had at first, and the other places are as they were.
 use Rattle.std.proofs.Common.{◌≡◌, ℕ, ◌+◌, ◌-◌, ◌<◌, length, slice_index_or, if◌then◌else◌}
 use Rattle.rfb_picture.specs.Rect.{contains}
 use Rattle.rfb_picture.specs.layout.Lines.{place_in}

@@ -2,7 +2,7 @@ use Rattle.std.proofs.Common.{◌≡◌, ◌+◌, ◌-◌, ◌≤◌, length}
 use Rattle.rfb_picture.specs.layout.Runs.{RunCopied}
 use Rattle.rfb_picture.proofs.picture.copying.shift_right.Given as goal
 
--- all but the first of the places have what stood at their source at first
+-- all but the first of the places have what their source had at first
 abbrev pub invariant-loop-left : goal.invariant-loop-left
 invariant-loop-left g l = record {
   within : l.left ≤ l.count;

@@ -4,7 +4,7 @@ use Rattle.rfb_server.proofs.NeededLemmas.{AreWords, row_words, none_judged, jud
 use Rattle.rfb_server.proofs.session.Session.needed_between.Goals.{After-row_bits-2}
 use Rattle.rfb_server.proofs.session.Session.needed_between.Goals as goal
 
--- what the sets and the record tell of the row
+-- the words of the sets and of the record for the row
 words : (c : After-row_bits-2) → AreWords c.args.self.now c.args.y c.args.from c.args.to c.row_bits_between.result
     c.row_bits.result c.row_bits-known.result c.row_bits-2.result
 words c =

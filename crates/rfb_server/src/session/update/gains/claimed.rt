@@ -1,4 +1,4 @@
-//! What the viewer gains by a copy of which the session has a claim.
+//! What the viewer gains by a copy that the session has a claim of.
 
 ghost use Rattle.std.specs.Prelude.{◌≡◌, ◌+◌, ◌*◌, ◌≤◌, ℕ, not, true};
 ghost use Rattle.rfb_picture.specs.Rect.{contains};
@@ -22,8 +22,8 @@ use rfb_pixel::Colour;
 
 impl Session {
     /// Whether more places of the rectangle have the wanted pixel after the copy than before. Each
-    /// place of a row that is claimed has it after the copy: so of these only those count that do
-    /// not have it as they are, which the record alone tells.
+    /// place of a row that is claimed has it after the copy. So of these only those count that do
+    /// not have it yet, and the record alone says which.
     pub(super) fn judge_claimed(
         &self,
         screen: &Picture<Colour>,

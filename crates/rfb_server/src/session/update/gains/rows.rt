@@ -95,7 +95,7 @@ impl Session {
     {
         let to = part.to;
         let source = self.known.pixels().row(part.sx, part.sy, to.w);
-        // Mostly all are the same, which one compare tells.
+        // Mostly all are the same, as one compare shows.
         if first_diff(wanted, source).is_none() {
             return u32::from(to.w);
         }
