@@ -334,8 +334,8 @@ class Relay(Share):
 
     command = "relay"
 
-    def __init__(self, port, *words, host="127.0.0.1", **more):
-        super().__init__(f"{host}::{port}", *words, owner=subprocess.DEVNULL, **more)
+    def __init__(self, port, *words, host="127.0.0.1", owner=subprocess.DEVNULL, **more):
+        super().__init__(f"{host}::{port}", *words, owner=owner, **more)
 
     def ends(self, status=1):
         super().ends(status)

@@ -17,6 +17,7 @@ import socket
 import struct
 import subprocess
 import sys
+import tempfile
 import threading
 import time
 
@@ -760,6 +761,18 @@ def it_ends_with_the_last_viewer_where_that_is_said():
     screen.is_right()
 
 
+def standard_input_is_not_read():
+    screen = Screen()
+    with tempfile.TemporaryFile() as given:
+        given.write(b"quit\n")
+        given.seek(0)
+        relay = Relay(screen.port, owner=given)
+        assert Seer(relay).hello().begins().shows(screen.picture)
+        screen.closes()
+        relay.ends()
+        assert os.lseek(given.fileno(), 0, os.SEEK_CUR) == 0
+
+
 def no_sentence_is_said_where_none_is_wanted():
     for words, is_said in ((), True), (("--quiet",), False):
         screen, relay, (viewer,) = relayed(words=words)
@@ -1066,7 +1079,8 @@ ROWS = [what_the_server_draws_is_what_each_viewer_sees,
         an_address_is_listened_on, a_handshake_has_its_time,
         who_takes_nothing_of_what_waits_is_let_go,
         who_wants_the_screen_alone_has_it_unless_all_share,
-        it_ends_with_the_last_viewer_where_that_is_said, no_sentence_is_said_where_none_is_wanted]
+        it_ends_with_the_last_viewer_where_that_is_said, standard_input_is_not_read,
+        no_sentence_is_said_where_none_is_wanted]
 
 # Rows of `--retry`.
 RETRY = [a_server_that_comes_back_is_relayed_again, one_of_another_size_has_viewers_of_its_own,

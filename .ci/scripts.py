@@ -8,10 +8,11 @@ out by hand. `.ci/language.py` has tables of shorter ones, and `.ci/memory.sh` t
 last line is 'N passed, M failed'.
 """
 
+import os
 import sys
 
 from calls import Call, judged
-from pictures import AT_RGB101010, AT_RGB565, FILLED, NO_COLOUR, ORANGE, SCRIPT, drawn, ppm
+from pictures import AT_RGB101010, AT_RGB565, BLACK, FILLED, NO_COLOUR, ORANGE, SCRIPT, drawn, ppm
 
 LEFT_AT_RGB565 = ppm(2, 1, AT_RGB565, NO_COLOUR)
 
@@ -135,6 +136,32 @@ settle
            b"line 2: refused 25 NotReady\nfault 25 NotReady\n", 1, "loop"),
 ]
 
+# ---- the example of a scroll, over a connection too
+
+def scroll():
+    here = os.path.dirname(os.path.abspath(__file__))
+    with open(os.path.join(here, "../examples/scroll.script"), "rb") as text:
+        return text.read()
+
+
+def scrolled():
+    """At rgb565: bars came up by eight rows, the first of them out of the screen but for two rows,
+    and one more was drawn."""
+    grey = "BDEFBEFBBDEF"
+    rows = [["210841046318"] * 64 for _ in range(48)]
+    for top, height, width, colour in ((0, 2, 40, "EF7BEFBEEF7B"), (6, 4, 56, grey),
+                                       (14, 4, 48, grey), (22, 4, 52, grey), (30, 4, 24, grey),
+                                       (38, 4, 56, "F7BDAEBA318C")):
+        for row in rows[top:top + height]:
+            row[4:4 + width] = [colour] * width
+    return ppm(64, 48, *(place for row in rows for place in row))
+
+
+EXAMPLES = [
+    script("example_of_a_scroll", scroll(), scrolled(), b"line 24: refused 26 Busy\n"),
+    script("loop_of_the_example", scroll(), scrolled(), b"line 24: refused 26 Busy\n", 0, "loop"),
+]
+
 # ---- hubs
 
 HUBS = [
@@ -166,6 +193,49 @@ show 1
            b"fault 32 NoSuchSlot\n", 1),
 ]
 
+# ---- lines that are refused, each after a sentence
+
+def refused(line, refusal, cause):
+    return b"rfb: line %d of the script %b\nline %d: refused %b\n" % (line, cause, line, refusal)
+
+
+OUTSIDE = b"24 Outside", b"leaves the screen, so it changes nothing"
+NOT_READY = b"25 NotReady", b"needs a viewer whose handshake is done, which `settle` delivers"
+
+FOUR_REFUSED = b"""screen 2 1
+request full 0 0 2 1
+fill 0 0 1 1 FF8001
+fill 1 0 2 1 0000FF
+settle
+request full 1 0 2 1
+request full 0 0 2 1
+request full 0 0 2 1
+settle
+compose
+settle
+"""
+TOLD_OF_FOUR = (
+    refused(2, *NOT_READY) + refused(4, *OUTSIDE)
+    + refused(6, b"27 AreaOutside", b"asks for no place, or for places beside the screen")
+    + refused(8, b"26 Busy", b"comes while a request is not answered, or an update is under way"))
+
+REFUSED = [
+    script("explained_refusals", FOUR_REFUSED, FILLED, TOLD_OF_FOUR, words="script --explain"),
+    script("explained_refusals_of_a_loop", FOUR_REFUSED, FILLED, TOLD_OF_FOUR,
+           words="loop --explain"),
+    script("explained_refusals_of_a_hub", b"""hub 2 1
+join 0 shared rgb888 raw
+join 0 shared rgb888 raw
+leave 1
+hint 0 0 1 2 0 0
+at 0 request full 0 0 2 1
+at 0 settle
+show 0
+""", BLACK, refused(3, b"31 SlotTaken", b"lets a viewer join where there is one")
+           + refused(4, b"32 NoSuchSlot", b"names a slot that has no viewer")
+           + refused(5, *OUTSIDE) + refused(6, *NOT_READY), words="script --explain"),
+]
+
 # ---- lines that are bad
 
 BAD = [
@@ -188,8 +258,8 @@ BAD = [
               b": the script ends before it, and none says `show S`"),
 ]
 
-CALLS = DRAWN + LOOPS + HUBS + BAD
+CALLS = DRAWN + LOOPS + HUBS + REFUSED + BAD
 
 
 if __name__ == "__main__":
-    sys.exit(judged(CALLS, sys.argv[1:]))
+    sys.exit(judged(CALLS + EXAMPLES, sys.argv[1:]))

@@ -14,7 +14,8 @@ import socket
 import struct
 import sys
 
-from calls import DEVICE, UNWRITTEN, Run, closed_after, ends, failing, folder, judged, limited
+from calls import (DEVICE, UNWRITTEN, Run, closed_after, ends, failing, folder, judged, limited,
+                   that_is_at)
 from messages import (CLIENT, HELLO, SERVER, VERSION, client_init, hextile, message, rectangle, rre,
                       security, security_of_33, security_result, server_init, set_pixel_format,
                       texted)
@@ -180,6 +181,21 @@ def what_a_script_lacks_is_said():
     ends(["script", "--explain"], JOINED + b"show 1\n", 1, b"", NO_SUCH_SLOT)
 
 
+# ---- what asks for sentences
+
+def the_environment_asks_for_them_by_1_alone():
+    """As the word does, and not against it nor against `--quiet`."""
+    came = security(0)
+    said = b"rfb: %b0 (Invalid)\n" % NO_NONE.encode() + that_is_at(len(came))
+    for value, words, told in (
+            ("1", [], said), ("", [], b""), ("0", [], b""), ("11", [], b""), ("yes", [], b""),
+            ("1", ["--explain"], said), ("0", ["--explain"], said)):
+        Run(["play", *words], came, before=lambda: os.environ.update(RFB_EXPLAIN=value)).ends(
+            1, b"", told + b"fault 18 NoneNotOffered\n")
+    Run(["share", "--quiet", f"--port={PORT}"], b"screen 2 1\nquit\n",
+        before=lambda: os.environ.update(RFB_EXPLAIN="1")).ends(0, b"", b"")
+
+
 # ---- viewers that are served
 
 FORMAT_THAT_CANNOT_BE = "the viewer asked for a pixel format that cannot be: "
@@ -243,6 +259,7 @@ ROWS = [
     what_a_view_fails_at_is_said,
     a_loop_without_a_connection_is_said,
     what_a_script_lacks_is_said,
+    the_environment_asks_for_them_by_1_alone,
     what_a_client_does_wrong_is_said_and_the_next_has_its_turn,
     a_screen_for_a_viewer_without_memory_is_said,
     a_viewer_that_cannot_be_answered_is_said,

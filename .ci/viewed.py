@@ -12,6 +12,7 @@ import contextlib
 import os
 import resource
 import signal
+import socket
 import sys
 import tempfile
 import time
@@ -31,13 +32,16 @@ def a_server_is_named_by_a_word_or_by_its_host_and_its_port():
             ([OTHER], 5900),
             ([OTHER + ":0"], 5900),
             ([OTHER + ":99"], 5999),
+            ([OTHER + ":5900"], 5900),
+            ([OTHER + ":65535"], 65535),
             ([OTHER + "::65535"], 65535),
             (["--host", OTHER], 5900)):
         Server(host=OTHER, port=port).shows(words)
     server = Server(host=OTHER)
     server.shows(["--host=" + OTHER, f"--port={server.port}"])
-    server = Server()
-    server.shows([f"::{server.port}"])
+    for colons in ":", "::":
+        server = Server()
+        server.shows([f"{colons}{server.port}"])
     server = Server()
     server.shows(["--port", str(server.port)])
     for display in range(10, 100):
@@ -65,6 +69,33 @@ def a_view_asks_for_what_its_words_say():
     four = bytes.fromhex("02000004 00000005 00000000 00000005 00000001")
     came = server.shows(words, 1, HELLO, TRUNCATED)
     assert came == hello + bgr233 + four + request, came
+
+
+def a_recording_is_played_as_it_was_viewed():
+    """In the format that it was asked for, up to its last update or another one."""
+    for name in "rgb565", "bgr233":
+        port = free_port()
+        run = Run(["serve", f"--port={port}", "--width=9", "--height=5"])
+        waits_for(port)
+        view = Run(["view", f":{port}", "--record", "--updates=3", "--format", name])
+        view.ends(0, None, b"")
+        run.ends(0, b"ok 3\n", b"")
+        for words, steps in ([], 2), (["--updates=1"], 0):
+            ends(["play", "--format", name, *words], view.told(1), 0, scene(9, 5, steps, name))
+
+
+def an_address_of_ipv6_is_a_host():
+    try:
+        listener = socket.create_server(("::1", 0), family=socket.AF_INET6)
+    except OSError:
+        print("no IPv6: nothing listens at ::1")
+        return
+    with listener:
+        listener.settimeout(20)
+        run = Run(["view", "--host=::1", f"--port={listener.getsockname()[1]}"])
+        with listener.accept()[0] as line:
+            line.sendall(SERVER)
+            run.ends(0, SHOWN, b"")
 
 
 def a_view_that_is_cut_short_shows_nothing():
@@ -160,6 +191,15 @@ CALLS = [
          DEVICE),
     Call("drive_where_nothing_listens", ["drive", "127.0.0.1::1", "--timeout", "1"], b"", 1, b"",
          NOBODY + DEVICE),
+]
+
+# Nor does anybody run that of port 100. After one colon 99 is the last display.
+NOBODY_AT_100 = NOBODY.replace(b" 1:", b" 100:")
+PORTS = [
+    Call("view_of_the_first_port_after_one_colon", ["view", "127.0.0.1:100", "--explain"], b"", 1,
+         b"", NOBODY_AT_100 + DEVICE),
+    Call("relay_of_the_first_port_after_one_colon", ["relay", ":100", "--port", "9"], b"", 1, b"",
+         NOBODY_AT_100 + DEVICE),
 ]
 
 # ---- servers that end, fail or are silent
@@ -336,12 +376,17 @@ def changes_that_come_faster_than_a_film_are_one_picture():
 
 
 def a_film_waits_between_its_pictures_and_not_after_the_last():
-    for updates, rate, least, most in (2, 2, 0.5, 2), (11, 20, 0.5, 2), (1, 1, 0, 0.9):
-        server, begun = Server(SERVER + 10 * MORE), time.time()
-        server.shows([f"::{server.port}", "--follow", f"--fps={rate}", f"--updates={updates}"], 0,
+    for updates, words, least, most in (
+            (2, ["--fps=2"], 0.5, 2),
+            (11, ["--fps=20"], 0.5, 2),
+            # Thirty a second.
+            (16, [], 0.5, 2),
+            (1, ["--fps=1"], 0, 0.9)):
+        server, begun = Server(SERVER + 15 * MORE), time.time()
+        server.shows([f"::{server.port}", "--follow", f"--updates={updates}", *words], 0,
                      SHOWN + (updates - 1) * SHOWN_LATER)
         lasts = time.time() - begun
-        assert least <= lasts < most, (updates, rate, lasts)
+        assert least <= lasts < most, (updates, words, lasts)
 
 
 def a_film_of_which_nobody_reads_on_ends():
@@ -379,8 +424,11 @@ def a_film_in_a_file_is_there_once_it_is_whole():
 ROWS = [
     *VIEWS,
     *CALLS,
+    *PORTS,
     a_server_is_named_by_a_word_or_by_its_host_and_its_port,
     a_view_asks_for_what_its_words_say,
+    a_recording_is_played_as_it_was_viewed,
+    an_address_of_ipv6_is_a_host,
     a_view_that_is_cut_short_shows_nothing,
     a_server_that_ends_is_explained,
     an_answer_that_cannot_be_sent_is_explained,

@@ -66,6 +66,8 @@ view a --follow --fps 0
 view a --follow --fps 1001
 view a --follow --updates 0
 view a --fps
+view a --version
+play -V
 faults
 help fault
 help faults 1
@@ -170,6 +172,7 @@ def faults():
 
 CALLS = [
     Call("version", ["--version"], output=b"rfb 0.2.0\n"),
+    Call("version_by_its_letter", ["-V"], output=b"rfb 0.2.0\n"),
     Call("help_on_faults", ["help", "faults"], output=faults()),
     Call("help_to_a_terminal", ["help", "faults"], device="/dev/ptmx"),
     bad_words("no_command", "", b"""error: 'rfb' requires a subcommand but one was not provided
