@@ -4,6 +4,7 @@ ghost use Rattle.std.specs.Prelude.{◌≡◌, ◌≤◌, ◌++◌, ℕ, List, [
 ghost use Rattle.std.specs.Prelude.{◌≢◌, ◌+◌, true, false, None, Ok, IfOk, OnOk, OnErr};
 ghost use Rattle.std.specs.Vec.{vec_capacity};
 
+use crate::front::bring_to_front;
 use crate::share::Share;
 use rfb_picture::Picture;
 use rfb_pixel::Colour;
@@ -165,7 +166,6 @@ fn let_go(alloc: Global, bytes: &mut Vec<u8>, arrived: usize) -> usize
     if arrived < in_flight {
         return arrived;
     }
-    bytes.copy_within(arrived.., 0);
-    bytes.truncate(in_flight);
+    bring_to_front(bytes, arrived);
     0
 }

@@ -36,6 +36,7 @@ pub mod doors;
 pub mod drive;
 mod engine;
 mod event;
+mod front;
 mod hub;
 pub mod language;
 mod latest;

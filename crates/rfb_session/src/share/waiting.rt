@@ -2,6 +2,7 @@
 
 ghost use Rattle.std.specs.Prelude.{◌≡◌, ◌≤◌, length, drop};
 
+use crate::front::bring_to_front;
 use arrayvec::ArrayVec;
 use std::alloc::Global;
 use std::mem;
@@ -58,13 +59,11 @@ impl Waiting {
         let Waiting::Update(bytes) = self else {
             return written;
         };
-        let len = bytes.len();
-        if written < len / 2 {
+        if written < bytes.len() - written {
             bytes.shrink_to_fit();
             return written;
         }
-        bytes.copy_within(written.., 0);
-        bytes.truncate(len - written);
+        bring_to_front(bytes, written);
         bytes.shrink_to_fit();
         0
     }
