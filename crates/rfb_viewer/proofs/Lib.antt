@@ -24,4 +24,6 @@ pub mod TakingLemmas
 pub mod MovedLemmas
 pub mod GreetStepLemmas
 pub mod TakeAllLemmas
+pub mod WholeDataLemmas
 pub mod RectStepLemmas
+pub mod WholeUpdateLemmas

@@ -53,7 +53,7 @@ pub begun_by : (old : Viewer) (bytes : List ℕ) (front : ℕ) {more m n used w 
     (used ≤ length slice) × SpellsRectHead head (take used slice) × IsOnScreen w h head.rect →
     Data m made ≡ Data n painter →
     painting made ≡ record { rect = head.rect; encoding = head.encoding; form = old.format } →
-    ((g : Grid Colour) → PainterStandsFor made g g []) →
+    PainterStandsFor made picture picture [] →
     IsBegun old bytes front more part whole head picture painter
 begun_by old bytes front {more} {m} {n} {used} {w} {h} {part} {whole} {slice} {head} {picture} {made} {painter} some
     was gathered shown slice_is w_is h_is got data_is painted fresh =
@@ -69,7 +69,7 @@ begun_by old bytes front {more} {m} {n} {used} {w} {h} {part} {whole} {slice} {h
         spelled = head_all whole used head gathered.1 told.0 told.1;
         on_screen = told.2;
         painting_is = ap painting (sym same) ∙ painted;
-        fresh = subst (λ (p : UnderWay). PainterStandsFor p picture picture []) same (fresh picture);
+        fresh = subst (λ (p : UnderWay). PainterStandsFor p picture picture []) same fresh;
       };
     }
 

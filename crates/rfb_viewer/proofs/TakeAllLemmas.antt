@@ -1,10 +1,12 @@
 -- What a call makes of a slice: it takes step after step, up to one with an event or a fault.
 use Rattle.std.proofs.Common.{◌≡◌, ℕ, ◌+◌, ◌<◌, ◌≤◌, List, length, take, drop, length-drop}
-use Rattle.std.proofs.Common.{Option, None, Ok, Err}
-use Rattle.std.proofs.Common.{refl, subst, ◌∙◌, arith}
+use Rattle.std.proofs.Common.{Option, Some, None, Ok, Err}
+use Rattle.std.proofs.Common.{refl, subst, ◌∙◌, ap, arith}
+use Rattle.std.proofs.lemmas.List.{drop-drop}
 use Rattle.rfb_wire.specs.stream.End.{FedBy}
 use Rattle.rfb_wire.proofs.stream_laws.FeedLaws.{fed_step}
 use Rattle.rfb_viewer.specs.declared.event.ViewerEvent.{ViewerEvent}
+use Rattle.rfb_viewer.specs.declared.event.ViewerEvent.TheVariants.{UpdateDone}
 use Rattle.rfb_viewer.specs.declared.fault.ViewerFault.{ViewerFault}
 use Rattle.rfb_viewer.specs.declared.viewer.Viewer.{Viewer}
 use Rattle.rfb_viewer.specs.Damage.{damaging, IsDamaged}
@@ -14,7 +16,7 @@ use Rattle.rfb_viewer.specs.Offer.{TakesOffer}
 use Rattle.rfb_viewer.specs.Told.{seen}
 use Rattle.rfb_viewer.specs.Viewer.{Viewing, ViewerState, viewer}
 use Rattle.rfb_viewer.specs.steps.ItemDamage.{KeepsOutside}
-use Rattle.rfb_viewer.specs.steps.StepPromises.{Fails, HasTaken, Takes, TakesAll}
+use Rattle.rfb_viewer.specs.steps.StepPromises.{Fails, HasTaken, Takes, TakesAll, TakesUpdate}
 use Rattle.rfb_viewer.proofs.DamageFeedLemmas.{damage_starts, outside_starts, outside_same, damage_on}
 use Rattle.rfb_viewer.proofs.DamageFeedLemmas.{outside_on, outside_fault, damages_later}
 use Rattle.rfb_viewer.proofs.FailLemmas.{ends_later, kept_later, offer_later, taken_later}
@@ -151,3 +153,18 @@ module _ (old mid new : Viewer) (bytes : List ℕ) (i : ℕ) (known : HasTaken o
         place = placed;
         kept = f.taken ∙ known.taken;
       }
+
+-- an update of one rectangle more
+pub takes_update : (old mid new : Viewer) (bytes : List ℕ) (i : ℕ) → HasTaken old bytes i mid →
+    (slice : List ℕ) → slice ≡ drop i bytes → (n : ℕ) → TakesUpdate mid slice n new →
+    TakesAll old bytes (i + n) (Ok (record { used = i + n; event = Some UpdateDone })) new
+takes_update old mid new bytes i known slice rest n update =
+    let u = update in
+    let left : drop u.front slice ≡ drop (i + u.front) bytes =
+    ap (drop u.front) rest ∙ drop-drop u.front i bytes in
+    let used_is = u.used_is in
+    let count : i + u.front + u.back ≡ i + n = omega (arith, used_is) in
+    subst (λ (k : ℕ). TakesAll old bytes k (Ok (record { used = k; event = Some UpdateDone })) new) count
+    (takes_last old u.mid new bytes (i + u.front)
+    (takes_on old mid u.mid bytes i known slice rest u.front None refl u.head) (drop u.front slice) left u.back
+    (Some UpdateDone) (λ none. absurd cc) u.rectangle)

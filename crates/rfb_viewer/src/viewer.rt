@@ -208,6 +208,12 @@ impl Viewer {
                         event: Some(ViewerEvent::UpdateDone),
                     });
                 }
+            } else if let Some(whole) = self.take_update(&bytes[*used..]) {
+                *used += whole;
+                return Ok(Fed {
+                    used: *used,
+                    event: Some(ViewerEvent::UpdateDone),
+                });
             } else {
                 let fed = match self.take(&bytes[*used..]) {
                     Ok(fed) => fed,

@@ -1,9 +1,10 @@
 -- What each step of a viewer promises, whichever item its bytes are of, and what a call of such steps does.
-use Rattle.std.specs.Prelude.{◌≡◌, ℕ, ◌<◌, ◌≤◌, List, length, take, Option, Some, None, Result, Ok, Err}
+use Rattle.std.specs.Prelude.{◌≡◌, ℕ, ◌+◌, ◌<◌, ◌≤◌, List, length, take, drop, Option, Some, None, Result, Ok, Err}
 use Rattle.std.specs.Prelude.{IfOk, IfErr}
 use Rattle.rfb_wire.specs.stream.End.{FedBy}
 use Rattle.rfb_hello.specs.declared.fed.Fed.{Fed}
 use Rattle.rfb_viewer.specs.declared.event.ViewerEvent.{ViewerEvent}
+use Rattle.rfb_viewer.specs.declared.event.ViewerEvent.TheVariants.{UpdateDone}
 use Rattle.rfb_viewer.specs.declared.fault.ViewerFault.{ViewerFault}
 use Rattle.rfb_viewer.specs.declared.viewer.Viewer.{Viewer}
 use Rattle.rfb_viewer.specs.declared.viewer.progress.Failure.{Failure}
@@ -32,6 +33,16 @@ pub record Takes (old : Viewer) (bytes : List ℕ) (used : ℕ) (event : Option 
   pub going : fault_of new ≡ None
   pub made : making_of new ≡ making_of old
   pub taken : taken_of new ≡ taken_of old
+
+-- it takes all of an update of one rectangle: its head, after which it stands as `mid`, and the
+-- rectangle
+pub record TakesUpdate (old : Viewer) (bytes : List ℕ) (used : ℕ) (new : Viewer) : Type 0 where
+  pub mid : Viewer
+  pub front : ℕ
+  pub back : ℕ
+  pub used_is : used ≡ front + back
+  pub head : Takes old bytes front None mid
+  pub rectangle : Takes mid (drop front bytes) back (Some UpdateDone) new
 
 -- the bytes are at fault, or memory is wanting where they lead, with that byte of them, and it has
 -- failed

@@ -1,25 +1,26 @@
 //! What a viewer takes of messages: their heads, colours and texts.
 
-ghost use Rattle.std.specs.Prelude.{◌≡◌, ◌<◌, ℕ, length};
+ghost use Rattle.std.specs.Prelude.{◌≡◌, ◌<◌, ◌≤◌, ℕ, [], length, take, IfSome};
 ghost use Rattle.arrayvec.specs.ArrayVec.{ArrayVec as Items};
+ghost use Rattle.rfb_wire.specs.ServerHead.{SpellsUpdate};
 ghost use Rattle.rfb_hello.specs.KeptText.{KeptText};
 
 use crate::event::ViewerEvent;
 use crate::fault::ViewerFault;
 use crate::gather::read_head;
 use crate::viewer::Viewer;
-use crate::viewer::after::go_on_after;
-use crate::viewer::progress::{Failure, Progress};
+use crate::viewer::after::{end_of, go_on, go_on_after};
+use crate::viewer::progress::{Failure, HEAD_PART, Progress};
 use arrayvec::ArrayVec;
 use rfb_hello::Fed;
-use rfb_wire::Read;
+use rfb_wire::{Read, ServerHead};
 use std::mem;
 
 impl Viewer {
     ghost use Rattle.rfb_viewer.specs.declared.viewer.progress.Progress.{Progress};
     ghost use Rattle.rfb_viewer.specs.steps.StepPromises.{Steps, Takes};
 
-    // Takes a byte of a message's head.
+    // Takes a byte of a message's head, or all of that of an update.
     pub(super) fn take_head(&mut self, bytes: &[u8]) -> Result<Fed<ViewerEvent>, Failure>
         requires some { 0 < length bytes.now }
         requires head { (part : Items ℕ) × (self.old.progress ≡ Progress.Head part) }
@@ -28,6 +29,13 @@ impl Viewer {
         let Progress::Head(part) = &mut self.progress else {
             unreachable!()
         };
+        if let Some((count, used)) = whole_update(part, bytes) {
+            let ends_update = go_on(&mut self.progress, &mut self.request, count);
+            return Ok(Fed {
+                used,
+                event: end_of(ends_update),
+            });
+        }
         let head = match read_head(part, bytes[0]) {
             Read::More(_) => {
                 return Ok(Fed {
@@ -111,5 +119,21 @@ impl Viewer {
                 length,
             }),
         }
+    }
+}
+
+/// The head of an update that the bytes begin with, if nothing came of a head: how many rectangles
+/// follow, and how many bytes it has. Most messages are updates, whose heads come in one slice.
+pub(crate) fn whole_update(part: &ArrayVec<u8, HEAD_PART>, bytes: &[u8]) -> Option<(u16, usize)>
+    ensures none { IfSome result (λ head. part.now.items ≡ []) }
+    ensures within { IfSome result (λ head. head.1 ≤ length bytes.now) }
+    ensures spelled { IfSome result (λ head. SpellsUpdate head.0 (take head.1 bytes.now)) }
+{
+    if !part.is_empty() {
+        return None;
+    }
+    match ServerHead::read(bytes) {
+        Read::Got(ServerHead::Update(count), used) => Some((count, used)),
+        _ => None,
     }
 }

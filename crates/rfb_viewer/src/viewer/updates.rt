@@ -1,7 +1,10 @@
 //! What a viewer takes of an update's rectangles: their heads and their data.
 
-ghost use Rattle.std.specs.Prelude.{◌≡◌, ◌<◌, ℕ, length};
+ghost use Rattle.std.specs.Prelude.{◌≡◌, ◌<◌, ◌≤◌, ℕ, length, IfSome, None};
 ghost use Rattle.arrayvec.specs.ArrayVec.{ArrayVec as Items};
+ghost use Rattle.rfb_pixel.specs.Format.{size_of};
+ghost use Rattle.rfb_wire.specs.declared.encoding.Encoding.TheVariants.{Raw};
+ghost use Rattle.rfb_codec.specs.Raw.{raw_length};
 ghost use Rattle.rfb_codec.specs.UnderWay.{UnderWay};
 
 use crate::event::ViewerEvent;
@@ -9,12 +12,14 @@ use crate::fault::ViewerFault;
 use crate::viewer::Viewer;
 use crate::viewer::after::{end_of, go_on};
 use crate::viewer::damage::join;
+use crate::viewer::messages::whole_update;
 use crate::viewer::moved::keep_move;
-use crate::viewer::progress::{Failure, Progress, RECT_HEAD_PART};
-use rfb_codec::Painter;
+use crate::viewer::progress::{Failure, Progress, RECT_HEAD_PART, Request};
+use rfb_codec::{Painter, paint_pixels};
 use rfb_hello::Fed;
+use rfb_pixel::Format;
 use rfb_wire::pieces::gather;
-use rfb_wire::{Read, RectHead};
+use rfb_wire::{Encoding, Read, RectHead};
 
 // How many bytes a rectangle's head has, RFC 6143 section 7.6.1.
 const RECT_HEAD_SIZE: usize = 12;
@@ -30,7 +35,41 @@ pub(crate) struct Taken {
 
 impl Viewer {
     ghost use Rattle.rfb_viewer.specs.declared.viewer.progress.Progress.{Progress};
-    ghost use Rattle.rfb_viewer.specs.steps.StepPromises.{Steps, StepsInData};
+    ghost use Rattle.rfb_viewer.specs.steps.StepPromises.{Steps, StepsInData, TakesUpdate};
+
+    // Takes an update of one rectangle of Raw, where all of it is there and nothing came of it yet:
+    // how many bytes it has. The next bytes are of a message's head then, as these were, so how far
+    // they have come is not written. Else it does nothing.
+    pub(super) fn take_update(&mut self, bytes: &[u8]) -> Option<usize>
+        ensures whole { IfSome result (λ used. TakesUpdate self.old bytes.now used self.new) }
+        ensures kept { result ≡ None → self.new ≡ self.old }
+    {
+        let Progress::Head(part) = &self.progress else {
+            return None;
+        };
+        let Some((1, front)) = whole_update(part, bytes) else {
+            return None;
+        };
+        let Some(picture) = &self.picture else {
+            return None;
+        };
+        let (width, height) = (picture.width(), picture.height());
+        let rest = &bytes[front..];
+        let Read::Got(head, middle) = RectHead::read(rest, width, height) else {
+            return None;
+        };
+        let data = &rest[middle..];
+        let Some(size) = whole_size(head, self.format, data) else {
+            return None;
+        };
+        let Some(picture) = &mut self.picture else {
+            unreachable!()
+        };
+        paint_pixels(self.format, head.rect, &data[..size], picture);
+        join(&mut self.damage, head.rect, picture);
+        self.request = Request::Answered;
+        Some(front + middle + size)
+    }
 
     // Takes bytes of a rectangle's head, and after it those of its data.
     pub(super) fn take_rect_head(&mut self, bytes: &[u8]) -> Result<Fed<ViewerEvent>, Failure>
@@ -62,6 +101,17 @@ impl Viewer {
             }
             Read::More(_) => unreachable!(),
         };
+        // Raw whose data are all there is painted at once, and needs no painter.
+        let data = &bytes[front..];
+        if let Some(size) = whole_size(head, self.format, data) {
+            paint_pixels(self.format, head.rect, &data[..size], picture);
+            join(&mut self.damage, head.rect, picture);
+            let ends_update = go_on(&mut self.progress, &mut self.request, more);
+            return Ok(Fed {
+                used: front + size,
+                event: end_of(ends_update),
+            });
+        }
         self.progress = Progress::Data {
             more,
             painter: Painter::new(head.rect, head.encoding, self.format),
@@ -70,7 +120,7 @@ impl Viewer {
             unreachable!()
         };
         // A rectangle may have no data, and is then whole with its head.
-        let painted = match painter.take(&bytes[front..], picture) {
+        let painted = match painter.take(data, picture) {
             Ok(painted) => painted,
             Err(flaw) => {
                 join(&mut self.damage, painter.rect(), picture);
@@ -129,4 +179,21 @@ impl Viewer {
         let ends_update = go_on(&mut self.progress, &mut self.request, more);
         Ok(Taken { used, ends_update })
     }
+}
+
+// How many bytes the data of a rectangle of Raw have, if all of them are there.
+fn whole_size(head: RectHead, format: Format, bytes: &[u8]) -> Option<usize>
+    ensures raw { IfSome result (λ size. head.encoding ≡ Raw) }
+    ensures size { IfSome result (λ size. size ≡ raw_length format head.rect.w head.rect.h) }
+    ensures some { IfSome result (λ size. 0 < size_of format) }
+    ensures within { IfSome result (λ size. size ≤ length bytes.now) }
+{
+    if head.encoding != Encoding::Raw {
+        return None;
+    }
+    let size = usize::from(head.rect.h) * usize::from(head.rect.w) * format.size();
+    if bytes.len() < size {
+        return None;
+    }
+    Some(size)
 }

@@ -1,10 +1,13 @@
-use Rattle.std.proofs.Common.{◌∙◌, ℕ, List, ◌++◌, None, take, slice_index, ap, sym, subst, refl, arith}
+use Rattle.std.proofs.Common.{◌≡◌, ◌∙◌, ℕ, List, ◌++◌, None, length, take, slice_index, ap, sym, subst, refl, arith}
+use Rattle.std.proofs.lemmas.List.{length-take-le}
 use Rattle.rfb_wire.specs.Heads.{IsUnknown}
-use Rattle.rfb_wire.specs.ServerHead.{SpellsServerHead}
+use Rattle.rfb_wire.specs.declared.server_head.ServerHead.TheVariants.{Update}
+use Rattle.rfb_wire.specs.ServerHead.{SpellsServerHead, SpellsUpdate}
 use Rattle.rfb_wire.proofs.stream_laws.FeedLaws.{step_refuses}
 use Rattle.rfb_viewer.specs.declared.fault.ViewerFault.{ViewerFault}
 use Rattle.rfb_viewer.specs.declared.viewer.progress.Progress.TheVariants.{Head, Failed}
 use Rattle.rfb_viewer.specs.Fault.{fault_of_wire}
+use Rattle.rfb_viewer.specs.Told.{seen}
 use Rattle.rfb_viewer.specs.Viewer.{viewer}
 use Rattle.rfb_viewer.specs.Progress.{IsHeadBegun}
 use Rattle.rfb_viewer.specs.Model.{StandsFor}
@@ -12,10 +15,31 @@ use Rattle.rfb_viewer.proofs.StepLemmas.{made_so}
 use Rattle.rfb_viewer.proofs.HeadLemmas.{misses_begun, one_byte, head_whole}
 use Rattle.rfb_viewer.proofs.MessageLemmas.{head_part, head_bad, head_got, head_asks}
 use Rattle.rfb_viewer.proofs.FailLemmas.{head_ends, head_memory, none_at, wire_other}
+use Rattle.rfb_viewer.proofs.RectLemmas.{past_going}
 use Rattle.rfb_viewer.proofs.PlaceLemmas.{first_bad_placed, first_memory_placed}
-use Rattle.rfb_viewer.proofs.TakingLemmas.{damages_at, after_going, head_keeps, wire_fails, memory_fails}
+use Rattle.rfb_viewer.proofs.TakingLemmas.{damages_at, after_going, head_keeps, past_keeps, wire_fails, memory_fails}
 use Rattle.rfb_viewer.proofs.MovedLemmas.{quiet_takes}
 use Rattle.rfb_viewer.proofs.viewer.Viewer.take_head.Goals as goal
+
+pub returns-in-Some : goal.returns-in-Some
+returns-in-Some c =
+    let old = c.args.self.now in
+    let bytes = c.args.bytes.now in
+    let part = c.in-Head.part in
+    let used = c.in-Some.used in
+    let count = c.in-Some.count in
+    let within = c.in-Some.ensures.within in
+    let size = c.in-Some.ensures.spelled.size in
+    let long : length (take used bytes) ≡ used = length-take-le used bytes within in
+    let after = c.go_on-ends_update.ensures in
+    let told = ap seen c.end_of.ensures ∙ after.told in
+    quiet_takes old _ bytes used _ (Head part) c.in-Head.is tt refl (omega (arith, size, long)) within
+    (λ viewing. rw told (head_got viewing old _ part (take used bytes) (Update count) c.in-Head.is
+    (λ begun. subst (λ (ys : List ℕ). SpellsUpdate count (ys ++ take used bytes)) (sym c.in-Some.ensures.none)
+    c.in-Some.ensures.spelled)
+    (made_so refl after.progress after.request refl)))
+    (rw told (past_keeps old _ bytes refl count))
+    (rw after.progress (past_going count)) refl refl refl
 
 pub returns-in-More : goal.returns-in-More
 returns-in-More c =

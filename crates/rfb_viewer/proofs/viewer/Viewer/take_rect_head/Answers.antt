@@ -1,6 +1,7 @@
-use Rattle.std.proofs.Common.{◌≡◌, ◌∙◌, ℕ, take, refl, sym, ap, arith}
+use Rattle.std.proofs.Common.{◌≡◌, ◌∙◌, ℕ, ◌-◌, length, take, drop, refl, sym, ap, arith}
 use Rattle.std.proofs.lemmas.Grind.{common_steps}
-use Rattle.std.proofs.lemmas.List.{take_rest}
+use Rattle.std.proofs.lemmas.List.{length-take-le, take_rest}
+use Rattle.rfb_wire.specs.declared.encoding.Encoding.{Encoding}
 use Rattle.rfb_wire.proofs.stream_laws.FeedLaws.{step_refuses}
 use Rattle.rfb_viewer.specs.declared.fault.ViewerFault.{ViewerFault}
 use Rattle.rfb_viewer.specs.declared.viewer.progress.Progress.TheVariants.{Data, Failed}
@@ -16,6 +17,7 @@ use Rattle.rfb_viewer.proofs.RectLemmas.{rect_part, rect_bad, same_count, painti
 use Rattle.rfb_viewer.proofs.RectStepLemmas.{begun_by, begun_fails, begun_goes_on, begun_ends}
 use Rattle.rfb_viewer.proofs.StepLemmas.{made_so}
 use Rattle.rfb_viewer.proofs.TakingLemmas.{wire_fails}
+use Rattle.rfb_viewer.proofs.WholeDataLemmas.{raw_begun, raw_fresh, raw_paints}
 use Rattle.rfb_viewer.proofs.viewer.Viewer.take_rect_head.Goals as goal
 
 pub returns-in_default-whole : goal.returns-in_default-whole
@@ -61,6 +63,34 @@ returns-in-Bad c =
     gathered.1 c.in-Some-picture.is told))
     refl (c.fail-fault.ensures.after ∙ ap (λ (f : ViewerFault). Failed f) c.of_wire.ensures))
 
+pub returns-in-Some-whole_size : goal.returns-in-Some-whole_size
+returns-in-Some-whole_size c =
+    let old = c.args.self.now in
+    let bytes = c.args.bytes.now in
+    let picture = c.in-Some-picture.picture in
+    let head = c.in-Got.head in
+    let size = c.in-Some-whole_size.size in
+    let whole = c.width-width.ensures.whole in
+    let after = c.go_on-ends_update.ensures in
+    let painter = raw_begun old.format head.rect in
+    let slice = take (length bytes - c.gather-front.result.0) (drop c.gather-front.result.0 bytes) in
+    let long = length-take-le size slice c.in-Some-whole_size.ensures.within ∙ c.in-Some-whole_size.ensures.size in
+    begun_ends old _ bytes c.gather-front.result.0 c.in-RectHead.more c.in-RectHead.head
+    c.in-Some.whole.items head picture c.paint_pixels.new.picture painter
+    (begun_by old bytes c.gather-front.result.0 {m = 0} {n = 0} {made = painter} c.gather-front.ensures.used
+    c.in-RectHead.is (rw c.in-Some.is at c.gather-front.ensures.whole) c.in-Some-picture.is c.as_slice.ensures.value
+    c.width-width.ensures.value c.height-height.ensures c.in-Got.ensures.got refl
+    (ap (λ (e : Encoding). record { rect = head.rect; encoding = e; form = old.format })
+    (sym c.in-Some-whole_size.ensures.raw))
+    (raw_fresh old.format head.rect picture c.in-Some-whole_size.ensures.some whole))
+    slice (take_rest bytes c.gather-front.result.0) refl refl refl size painter _ head.rect head.rect
+    c.in-Some-whole_size.ensures.within
+    (raw_paints old.format head.rect (take size slice) picture c.paint_pixels.new.picture whole long
+    c.paint_pixels.ensures.value)
+    (λ before body stands. refl)
+    (ap seen c.end_of.ensures ∙ after.told) (made_so refl after.progress after.request refl) c.join.ensures refl
+    refl refl
+
 pub returns-in-Err : goal.returns-in-Err
 returns-in-Err c =
     rw (c.fail.ensures.value, c.of_paint.ensures)
@@ -69,9 +99,9 @@ returns-in-Err c =
     (begun_by c.args.self.now c.args.bytes.now c.gather-front.result.0 c.gather-front.ensures.used c.in-RectHead.is
     (rw c.in-Some.is at c.gather-front.ensures.whole) c.in-Some-picture.is c.as_slice.ensures.value
     c.width-width.ensures.value c.height-height.ensures c.in-Got.ensures.got c.in-Data.is c.new.ensures.value
-    c.new.ensures.stands)
+    (c.new.ensures.stands c.in-Some-picture.picture))
     _ (take_rest c.args.bytes.now c.gather-front.result.0) refl refl refl c.in-Err.flaw _ c.in-Err.ensures.fault
-    c.in-Err.ensures.begun c.in-Err.ensures.within c.in-Err.ensures.with refl c.join.ensures
+    c.in-Err.ensures.begun c.in-Err.ensures.within c.in-Err.ensures.with refl c.join-in-Err.ensures
     (c.rect.ensures ∙ c.take.ensures.rect)
     (c.fail.ensures.after ∙ ap (λ (f : ViewerFault). Failed f) c.of_paint.ensures) refl refl)
 
@@ -85,7 +115,7 @@ returns-then-not-painted c =
     (begun_by c.args.self.now c.args.bytes.now c.gather-front.result.0 c.gather-front.ensures.used c.in-RectHead.is
     (rw c.in-Some.is at c.gather-front.ensures.whole) c.in-Some-picture.is c.as_slice.ensures.value
     c.width-width.ensures.value c.height-height.ensures c.in-Got.ensures.got c.in-Data.is c.new.ensures.value
-    c.new.ensures.stands)
+    (c.new.ensures.stands c.in-Some-picture.picture))
     _ (take_rest c.args.bytes.now c.gather-front.result.0) refl refl refl c.in-Ok.painted.used c.take.new.self
     (c.in-Ok.ensures.all more) (c.in-Ok.ensures.more more)
     (painting_same painter c.take.new.self same.rect same.form same.encoding)
@@ -95,16 +125,16 @@ returns-then-not-painted c =
 pub returns : goal.returns
 returns c =
     let done = not_true c.in-Ok.painted.done c.if-not-painted.false in
-    let after = c.go_on-ends_update.ensures in
+    let after = c.go_on-ends_update-2.ensures in
     begun_ends c.args.self.now _ c.args.bytes.now c.gather-front.result.0 c.in-RectHead.more c.in-RectHead.head
     c.in-Some.whole.items c.in-Got.head c.in-Some-picture.picture c.take.new.picture c.in-Data.painter
     (begun_by c.args.self.now c.args.bytes.now c.gather-front.result.0 c.gather-front.ensures.used c.in-RectHead.is
     (rw c.in-Some.is at c.gather-front.ensures.whole) c.in-Some-picture.is c.as_slice.ensures.value
     c.width-width.ensures.value c.height-height.ensures c.in-Got.ensures.got c.in-Data.is c.new.ensures.value
-    c.new.ensures.stands)
+    (c.new.ensures.stands c.in-Some-picture.picture))
     _ (take_rest c.args.bytes.now c.gather-front.result.0) refl refl refl c.in-Ok.painted.used c.take.new.self _ _ _
     c.in-Ok.ensures.used (c.in-Ok.ensures.done done) (c.in-Ok.ensures.copied done)
-    (ap seen c.end_of.ensures ∙ after.told) (made_so refl after.progress after.request refl) c.join-2.ensures
+    (ap seen c.end_of-2.ensures ∙ after.told) (made_so refl after.progress after.request refl) c.join-2.ensures
     (c.rect-2.ensures ∙ c.take.ensures.rect) c.keep_move.ensures c.take.ensures.rect
 
 pub invariant_of-self-then-not-painted : goal.invariant_of-self-then-not-painted
@@ -113,5 +143,5 @@ invariant_of-self-then-not-painted c = grind (arith, common_steps)
 pub invariant_of-self-2 : goal.invariant_of-self-2
 invariant_of-self-2 c = record {
   sound = past_sound c.args.self.now.hello c.in-RectHead.more
-      c.go_on-ends_update.new.progress c.take.new.picture c.go_on-ends_update.ensures.progress;
+      c.go_on-ends_update-2.new.progress c.take.new.picture c.go_on-ends_update-2.ensures.progress;
 }
