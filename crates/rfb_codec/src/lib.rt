@@ -46,5 +46,5 @@ pub use fault::{Flaw, PaintFault};
 pub use hextile::Hextile;
 pub use painter::{Painted, Painter};
 pub use pixels::{paint_bytes, paint_pixels};
-pub use raw::Raw;
+pub use raw::{Raw, put_pixels};
 pub use rre::Rre;

@@ -17,6 +17,7 @@ pub mod GreetLemmas
 pub mod AskingLemmas
 pub mod EncodingLemmas
 pub mod SendingLemmas
+pub mod RawSentLemmas
 pub mod CellLemmas
 pub mod NeedingLemmas
 pub mod BoxesLemmas

@@ -2,6 +2,7 @@
 
 ghost use Rattle.std.specs.Prelude.{◌≡◌, None, IfOk};
 
+mod sending;
 mod taking;
 
 use rfb_picture::{Area, Picture, Rect};

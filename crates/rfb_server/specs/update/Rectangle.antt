@@ -1,5 +1,6 @@
 -- A rectangle of an update that brings pixels, as it is appended.
 use Rattle.std.specs.Prelude.{◌≡◌, ℕ, ◌+◌, ◌≤◌, List, ◌++◌, length, ◌⊎◌}
+use Rattle.rfb_pixel.specs.declared.colour.Colour.{Colour}
 use Rattle.rfb_pixel.specs.Format.{PixelFormat}
 use Rattle.rfb_picture.specs.declared.rect.Rect.{Rect}
 use Rattle.rfb_picture.specs.Grid.{Grid}
@@ -7,7 +8,9 @@ use Rattle.rfb_wire.specs.declared.encoding.Encoding.{Encoding}
 use Rattle.rfb_wire.specs.declared.encoding.Encoding.TheVariants.{Raw}
 use Rattle.rfb_wire.specs.RectHead.{SpellsRectHead}
 use Rattle.rfb_codec.specs.RectData.{Pixels, SpellsData}
-use Rattle.rfb_codec.specs.Codec.{raw_of}
+use Rattle.rfb_codec.specs.Codec.{raw_of, PacksRect, Appends}
+use Rattle.rfb_codec.specs.Pixels.{IsSized}
+use Rattle.rfb_codec.specs.Raw.{StandsRaw}
 use Rattle.rfb_codec.specs.ByRule.{StandsIn, GivesUp}
 
 -- the bytes are a rectangle in that encoding, whose data are the block's pixels, on a screen of any
@@ -35,3 +38,10 @@ abbrev pub SendsRect : PixelFormat → Rect → Encoding → Grid ℕ → List �
 SendsRect f rect encoding block old new =
     ((GivesUp encoding f block → ⊥) × AppendsIn f rect encoding block old new) ⊎
     (GivesUp encoding f block × AppendsIn f rect Raw block old new)
+
+-- the block has the pixels of the rectangle of the screen, and their bytes in Raw were appended
+pub record AppendsRaw (f : PixelFormat) (screen : Grid Colour) (rect : Rect) (block : Grid ℕ)
+    (old new : List ℕ) : Type 0 where
+  pub sized : IsSized rect.w rect.h block
+  pub packed : PacksRect f screen rect block
+  pub appended : Appends StandsRaw f block old new

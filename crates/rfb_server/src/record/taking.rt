@@ -108,7 +108,7 @@ impl Record {
 }
 
 // The places of the rectangle are known from here on. Mostly they were, and nothing is written.
-fn learn(known: &mut Area, rect: Rect)
+pub(super) fn learn(known: &mut Area, rect: Rect)
     requires { Holds known.old.asked rect }
     ensures value { known.new ≡ added rect false known.old }
     ensures width { known.new.asked.width ≡ known.old.asked.width }

@@ -5,7 +5,9 @@ ghost use Rattle.std.specs.Prelude.{vec_len, None};
 ghost use Rattle.std.specs.Int.{div_ceil};
 ghost use Rattle.std.specs.Vec.{vec_capacity};
 ghost use Rattle.rfb_picture.specs.Grid.{Holds};
+ghost use Rattle.rfb_wire.specs.declared.encoding.Encoding.TheVariants.{Raw as RawEncoding};
 ghost use Rattle.rfb_codec.specs.Raw.{raw_length};
+ghost use Rattle.rfb_server.specs.Encodings.{preferred};
 ghost use Rattle.rfb_server.specs.update.Needs.{IsQuiet};
 ghost use Rattle.rfb_server.specs.KnownScreen.{Follows};
 ghost use Rattle.rfb_server.specs.update.Sends.{IsKept, AppendsPixels, SendsCell, AppendsCells};
@@ -18,6 +20,12 @@ use crate::session::update::quiet::Quiet;
 use crate::session::update::room::Room;
 use rfb_picture::{Picture, Rect};
 use rfb_pixel::Colour;
+use rfb_wire::pieces::append_within;
+use rfb_wire::{Encoding, RectHead};
+
+// How many columns a rectangle has at least that is sent without a block. To append each row by
+// itself costs more than to copy a narrower one.
+const WIDE: u16 = 48;
 
 impl Session {
     /// Sends what of each cell needs sending, and tells how many rectangles that makes. There is
@@ -105,7 +113,36 @@ impl Session {
         ensures room { vec_capacity out.new ≡ vec_capacity out.old }
     {
         let encoding = self.encodings.preferred();
+        if matches!(encoding, Encoding::Raw) && rect.w >= WIDE {
+            self.send_raw(screen, rect, out);
+            return;
+        }
         self.known.take(screen, &self.format, rect, &mut self.block);
         append_rect(encoding, rect, &self.block, &self.format, out);
+    }
+
+    // The same in Raw, row by row. Nothing but the record and `out` needs the pixels, so they are
+    // put into no block.
+    fn send_raw(&mut self, screen: &Picture<Colour>, rect: Rect, out: &mut Vec<u8>)
+        requires about { Follows screen.now self.old }
+        requires unclaimed { self.old.claim ≡ None }
+        requires encoding { preferred self.old.encodings ≡ RawEncoding }
+        requires held { Holds self.old.known rect }
+        requires columns { rect.w ≤ 64 }
+        requires rows { rect.h ≤ 64 }
+        requires room { vec_len out.old + 12 + raw_length self.old.format rect.w rect.h
+            ≤ vec_capacity out.old }
+        ensures kept { IsKept self.old self.new }
+        ensures about { Follows screen.now self.new }
+        ensures sent { AppendsPixels screen.now rect self.old self.new
+            out.old.items out.new.items }
+        ensures room { vec_capacity out.new ≡ vec_capacity out.old }
+    {
+        let head = RectHead {
+            rect,
+            encoding: Encoding::Raw,
+        };
+        append_within(out, head.spell().as_slice());
+        self.known.take_raw(screen, &self.format, rect, out);
     }
 }
