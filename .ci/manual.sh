@@ -71,11 +71,9 @@ facts() { { defaults <<< "$1"; ranges <<< "$1"; numbers <<< "$1"; } | sort -u; }
 # Those lines of $1 that $2 does not have.
 lacking() { comm -23 <(sort -u <<< "$1") <(sort -u <<< "$2") | sed '/^$/d'; }
 
-# What the command $1 says of itself, but for examples. The range of displays stands in the refusal
-# of one alone.
+# What the command $1 says of itself, but for examples.
 told_by() {
     "$program" help "$1" | sed '/^Example/,$d'
-    if [ "$1" = view ]; then "$program" view :100 2>&1; fi
 }
 
 # Compares what the page says of $1, which is $2, with its line of the help, which is $3. All facts
