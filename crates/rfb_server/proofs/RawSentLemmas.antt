@@ -1,5 +1,6 @@
 -- Rows of a screen that are packed, put over a picture of pixels and appended, one after another.
-use Rattle.std.proofs.Common.{◌≡◌, ℕ, ◌+◌, ◌-◌, ◌*◌, ◌<◌, List, [], ◌++◌, length, map, get_or, take}
+use Rattle.std.proofs.Common.{◌≡◌, ℕ, ◌+◌, ◌-◌, ◌*◌, ◌<◌}
+use Rattle.std.proofs.Common.{List, [], ◌++◌, length, map, get_or, take}
 use Rattle.std.proofs.Common.{Bool, true, false, if◌then◌else◌, refl, ap, sym, ◌∙◌, arith, append_assoc}
 use Rattle.std.proofs.Common.{append-nil, length-append}
 use Rattle.std.proofs.lemmas.List.{get_or-map, length-map, take_at}
@@ -42,8 +43,10 @@ none_sent f screen rect first before whole = record {
 }
 
 -- the pixels of a row of the screen
-row_packed : (f : PixelFormat) (screen : Grid Colour) (rect : Rect) (n : ℕ) (row : List ℕ) (colours : List Colour) →
-    length colours ≡ rect.w → colours ≡ row_of screen rect.x (rect.y + n) rect.w → row ≡ map (pixel_of f) colours →
+row_packed : (f : PixelFormat) (screen : Grid Colour) (rect : Rect) (n : ℕ) (row : List ℕ)
+    (colours : List Colour) →
+    length colours ≡ rect.w → colours ≡ row_of screen rect.x (rect.y + n) rect.w →
+    row ≡ map (pixel_of f) colours →
     IsRowOf rect (wanted_at screen f) n row
 row_packed f screen rect n row colours wide are is = λ x d left right.
     let within : x - rect.x < length colours = omega (arith, wide, right) in
@@ -77,7 +80,8 @@ fronts f columns size row after bytes beyond colours wide is sized spelled =
 -- one row more
 pub row_sent : (f : PixelFormat) (screen : Grid Colour) (rect : Rect) (n : ℕ) (first now : Grid ℕ)
     (before mid after row : List ℕ) (colours : List Colour) →
-    length colours ≡ rect.w → colours ≡ row_of screen rect.x (rect.y + n) rect.w → row ≡ map (pixel_of f) colours →
+    length colours ≡ rect.w → colours ≡ row_of screen rect.x (rect.y + n) rect.w →
+    row ≡ map (pixel_of f) colours →
     ArePixels f row → after ≡ mid ++ flat_map (pixel_bytes f) row →
     AreSent f screen rect n first now before mid →
     AreSent f screen rect (n + 1) first (with_row rect.x (rect.y + n) row now) before after
@@ -97,7 +101,8 @@ row_sent f screen rect n first now before mid after row colours wide are is fit 
     }
 
 -- what all rows of the rectangle make
-pub rows_sent : (f : PixelFormat) (screen : Grid Colour) (rect : Rect) (first now : Grid ℕ) (before after : List ℕ) →
+pub rows_sent : (f : PixelFormat) (screen : Grid Colour) (rect : Rect) (first now : Grid ℕ)
+    (before after : List ℕ) →
     AreSent f screen rect rect.h first now before after →
     (block : Grid ℕ) × AppendsRaw f screen rect block before after
     × ((x y : ℕ) → x < first.width → y < first.height →

@@ -1,5 +1,6 @@
 -- What a viewer promises of an update of one rectangle of Raw, all of which is there.
-use Rattle.std.proofs.Common.{◌≡◌, ℕ, ◌+◌, ◌<◌, ◌≤◌, List, [], ◌++◌, Some, None, length, take, drop}
+use Rattle.std.proofs.Common.{◌≡◌, ℕ, ◌+◌, ◌<◌, ◌≤◌, List}
+use Rattle.std.proofs.Common.{[], ◌++◌, Some, None, length, take, drop}
 use Rattle.std.proofs.Common.{true, refl, sym, subst, ◌∙◌, ap, arith}
 use Rattle.std.proofs.lemmas.List.{length-take-le}
 use Rattle.arrayvec.specs.ArrayVec.{ArrayVec}
@@ -50,7 +51,8 @@ pub record IsWhole (old : Viewer) (bytes rest body : List ℕ) (front middle siz
   pub size_in : size ≤ length body
 
 -- a head has bytes
-some_bytes : (n size : ℕ) (bytes : List ℕ) → n ≤ length bytes → length (take n bytes) ≡ size → 0 < size → 0 < n
+some_bytes : (n size : ℕ) (bytes : List ℕ) → n ≤ length bytes → length (take n bytes) ≡ size → 0 < size →
+    0 < n
 some_bytes n size bytes within long some =
     let taken : length (take n bytes) ≡ n = length-take-le n bytes within in omega (arith, long, some, taken)
 
@@ -91,7 +93,8 @@ module _ (old : Viewer) (bytes rest body : List ℕ) (front middle size : ℕ) (
   pub update_taken : (new : Viewer) (now : Grid Colour) →
       now ≡ over head.rect (λ x y. colour_of old.format (raw_pixel old.format head.rect.w (take size body) x y))
       picture → lasting new ≡ lasting old → new.progress ≡ old.progress → new.request ≡ Answered →
-      new.picture ≡ Some now → ended_of new ≡ joined (ended_of old) head.rect → moved_of new ≡ moved_of old →
+      new.picture ≡ Some now → ended_of new ≡ joined (ended_of old) head.rect →
+      moved_of new ≡ moved_of old →
       making_of new ≡ making_of old → offered_of new ≡ offered_of old → taken_of new ≡ taken_of old →
       TakesUpdate old bytes (front + middle + size) new
   update_taken new now value same progress request stored ended moved made offered taken =

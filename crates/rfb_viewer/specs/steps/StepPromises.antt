@@ -1,5 +1,6 @@
 -- What each step of a viewer promises, whichever item its bytes are of, and what a call of such steps does.
-use Rattle.std.specs.Prelude.{◌≡◌, ℕ, ◌+◌, ◌<◌, ◌≤◌, List, length, take, drop, Option, Some, None, Result, Ok, Err}
+use Rattle.std.specs.Prelude.{◌≡◌, ℕ, ◌+◌, ◌<◌, ◌≤◌, List, length}
+use Rattle.std.specs.Prelude.{take, drop, Option, Some, None, Result, Ok, Err}
 use Rattle.std.specs.Prelude.{IfOk, IfErr}
 use Rattle.rfb_wire.specs.stream.End.{FedBy}
 use Rattle.rfb_hello.specs.declared.fed.Fed.{Fed}

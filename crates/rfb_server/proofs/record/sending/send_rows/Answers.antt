@@ -1,4 +1,5 @@
-use Rattle.std.proofs.Common.{◌≡◌, ◌≤◌, ◌+◌, ◌*◌, ◌++◌, ◌∙◌, List, ℕ, arith, refl, ap, sym, drop}
+use Rattle.std.proofs.Common.{◌≡◌, ◌≤◌, ◌+◌, ◌*◌, ◌++◌, ◌∙◌}
+use Rattle.std.proofs.Common.{List, ℕ, arith, refl, ap, sym, drop}
 use Rattle.std.proofs.Math.Nat.{mul-le-mul_right}
 use Rattle.rfb_pixel.specs.Format.{size_of}
 use Rattle.rfb_picture.specs.Grid.{with_row}

@@ -1,4 +1,5 @@
-use Rattle.std.proofs.Common.{◌≡◌, ◌∙◌, ℕ, List, ◌++◌, None, length, take, slice_index, ap, sym, subst, refl, arith}
+use Rattle.std.proofs.Common.{◌≡◌, ◌∙◌, ℕ, List, ◌++◌, None, length}
+use Rattle.std.proofs.Common.{take, slice_index, ap, sym, subst, refl, arith}
 use Rattle.std.proofs.lemmas.List.{length-take-le}
 use Rattle.rfb_wire.specs.Heads.{IsUnknown}
 use Rattle.rfb_wire.specs.declared.server_head.ServerHead.TheVariants.{Update}
