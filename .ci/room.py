@@ -51,9 +51,10 @@ def picture(w, h, size):
 
 
 def place_set(w, h):
-    """A bit for each place, and two for each cell of 64 by 64, rows of them in words of 64 bits."""
+    """A bit for each place, and two for each cell of 64 by 64, rows of them in words of 64 bits. And
+    a word for each cell, in which each of its rows has a bit."""
     across, down = up(w, 64), up(h, 64)
-    return [8 * across * h] + [8 * up(across, 64) * down] * 2
+    return [8 * across * h] + [8 * up(across, 64) * down] * 2 + [8 * across * down]
 
 
 def area(w, h):

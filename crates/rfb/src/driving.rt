@@ -16,7 +16,6 @@ mod rig;
 mod sentences;
 
 use crate::context::Context;
-use crate::disposal::dispose;
 use crate::driving::driver_setup::setup_of;
 use crate::driving::result::drive_result;
 use crate::driving::rig::FileRig;
@@ -28,6 +27,7 @@ use crate::sharing::shell::{Front, Shell};
 use crate::sharing::standard::{Streams, streams_for};
 use crate::sharing::tenant::{Tenant, doors_of};
 pub use drive_words::{DRIVE, DriveOptions, drive_options_in};
+use rfb_session::dispose;
 use rfb_session::doors::live;
 use rfb_session::drive::{Driver, ORDERS};
 use std::alloc::Global;

@@ -13,7 +13,6 @@ mod link;
 mod sent;
 
 use crate::context::Context;
-use crate::disposal::dispose;
 use crate::explain::{Notes, tell_unlinked};
 use crate::fault::{Failure, Fault};
 use crate::help::Topic;
@@ -25,7 +24,7 @@ use crate::play::write_picture;
 use crate::script::run::tell_step;
 use crate::script::steps::{ALL, TURNS};
 use crate::script::{Numbered, Script, Step, read_explained};
-use rfb_session::{Event, Refused};
+use rfb_session::{Event, Refused, dispose};
 use std::io;
 use std::io::{LineWriter, Read, Write};
 use std::net::Net;

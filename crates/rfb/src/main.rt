@@ -9,7 +9,6 @@ mod command_line;
 mod commands;
 mod context;
 mod defaults;
-mod disposal;
 mod driving;
 mod explain;
 mod fault;

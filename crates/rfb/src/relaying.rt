@@ -12,7 +12,6 @@ mod relay_setup;
 mod relay_words;
 
 use crate::context::Context;
-use crate::disposal::dispose;
 use crate::explain::{Notes, tell_unreached};
 use crate::fault::Failure;
 use crate::reaching::connect_once;
@@ -26,6 +25,7 @@ use crate::sharing::speaker::Reporter;
 use crate::sharing::standard::{Streams, streams_for};
 use crate::sharing::tenant::{Tenant, doors_of};
 pub use relay_words::{RELAY, RelayOptions, relay_options_in};
+use rfb_session::dispose;
 use rfb_session::doors::live;
 use rfb_session::relay::Relay;
 use std::alloc::Global;

@@ -20,7 +20,6 @@ pub mod standard;
 pub mod tenant;
 
 use crate::context::Context;
-use crate::disposal::dispose;
 use crate::explain::Notes;
 use crate::fault::Failure;
 use crate::serving::listener_at;
@@ -31,6 +30,7 @@ use crate::sharing::speaker::Reporter;
 use crate::sharing::standard::{Streams, streams_for};
 use crate::sharing::tenant::{Tenant, doors_of};
 use rfb_session::console::{Console, OWNER};
+use rfb_session::dispose;
 use rfb_session::doors::live;
 pub use share_words::{SHARE, ShareOptions, share_options_in};
 use std::alloc::Global;

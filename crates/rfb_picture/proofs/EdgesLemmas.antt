@@ -2,7 +2,7 @@
 use Rattle.std.proofs.Common.{ℕ, Bool, true, false, Option, Some, None, ◌≡◌, ◌+◌, ◌-◌, ◌<◌, ◌||◌, min, max, refl, sym}
 use Rattle.std.proofs.Common.{◌∙◌, arith, inl, inr, subst}
 use Rattle.std.specs.Int.{w64, trailing_zeros, leading_zeros}
-use Rattle.std.proofs.lemmas.Bool.{cases_lt, both_ways, or_cases, or_left, or_right}
+use Rattle.std.proofs.lemmas.Bool.{cases_lt, both_ways, false_from_ne_true, or_cases, or_left, or_right}
 use Rattle.rfb_picture.specs.declared.rect.Rect.{Rect}
 use Rattle.rfb_picture.specs.declared.edges.Edges.{Edges}
 use Rattle.rfb_picture.specs.declared.edges.Gathered.{Gathered}
@@ -104,6 +104,17 @@ pub same_edges : (p q : ℕ → ℕ → Bool) (zone : Rect) (found : Option Edge
 same_edges p q zone None same was = λ x y c. sym (same x y c) ∙ was x y c
 same_edges p q zone (Some e) same was =
     edges_same p q zone zone e (λ x y c m. (c, sym (same x y c) ∙ m)) (λ x y c m. (c, same x y c ∙ m)) was
+
+-- a part of the zone that has all its marked places has its edges
+pub edges_within : (p : ℕ → ℕ → Bool) (part zone : Rect) (found : Option Edges) →
+    ((x y : ℕ) → contains part x y ≡ true → contains zone x y ≡ true) →
+    ((x y : ℕ) → contains zone x y ≡ true → p x y ≡ true → contains part x y ≡ true) →
+    HasEdges p part found →
+    HasEdges p zone found
+edges_within p part zone None inside all was =
+    λ x y c. false_from_ne_true (p x y) (λ m. both_ways (p x y) (was x y (all x y c m)) m)
+edges_within p part zone (Some e) inside all was =
+    edges_same p p part zone e (λ x y c m. (inside x y c, m)) (λ x y c m. (all x y c m, m)) was
 
 -- ---- two parts
 

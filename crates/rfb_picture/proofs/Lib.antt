@@ -14,8 +14,11 @@ pub mod PlaneLemmas
 pub mod RowsLemmas
 pub mod ScrollLaws
 pub mod PlaceSetLemmas
+pub mod NotedLemmas
+pub mod OpenedLemmas
 pub mod PartLemmas
 pub mod CellLemmas
+pub mod NotedEdgesLemmas
 pub mod WordLemmas
 pub mod WordLaws
 pub mod GatherLemmas
@@ -25,10 +28,14 @@ pub mod BoxLemmas
 pub mod TakenWordLemmas
 pub mod TakenWordLaws
 pub mod TakenPlaneLemmas
+pub mod OneWordLemmas
 pub mod TakenLemmas
+pub mod TakenRowLemmas
 pub mod CoverLemmas
 pub mod AreaLemmas
 pub mod AreaLaws
 pub mod NextCellLemmas
+pub mod ApartLemmas
 pub mod SpanLemmas
+pub mod OnePlaceLemmas
 mod ShiftLemmas

@@ -8,24 +8,18 @@ use Rattle.rfb_picture.specs.declared.rect.Rect.{Rect}
 use Rattle.rfb_picture.specs.declared.edges.Edges.{Edges}
 use Rattle.rfb_picture.specs.declared.place_set.layers.Layers.{Layers}
 use Rattle.rfb_picture.specs.Rect.{contains}
-use Rattle.rfb_picture.specs.Grid.{Grid}
 use Rattle.rfb_picture.specs.Box.{is_in}
 use Rattle.rfb_picture.specs.layout.Edges.{IsEdges}
 use Rattle.rfb_picture.specs.Places.{NoneInRow}
 use Rattle.rfb_picture.specs.layout.Marks.{IsNext, AreRowsClear}
 use Rattle.rfb_picture.specs.CellOrder.{cells_in, NoneInCells, HasPlaceIn, HasNextCell, HasCandidate}
 use Rattle.rfb_picture.specs.layout.Cells.{zone_of}
-use Rattle.rfb_picture.specs.layout.PlaceSet.{in_set, layered, IsLayers, NoneOpen, IsNextOpen, HasNextOpen}
+use Rattle.rfb_picture.specs.layout.PlaceSet.{in_set, is_open, layered, IsLayers, NoneOpen, IsNextOpen, HasNextOpen}
 use Rattle.rfb_picture.specs.layout.Plane.{AreUnused, IsPlane, plane}
 use Rattle.rfb_picture.proofs.GridLemmas.{contains_true, contains_row}
 use Rattle.rfb_picture.proofs.PlaneLemmas.{at-plane, column_below, same_across}
 use Rattle.rfb_picture.proofs.TakenWordLemmas.{none_in_word}
 use Rattle.rfb_picture.proofs.PlaceSetLemmas.{at-layered, cell_below}
-
--- no cell from one number up to another has a place that is in both
-pub record AreApart (a b : Grid Bool) (from at : ℕ) : Type 0 where
-  pub order : from ≤ at
-  pub none : NoneInCells (λ x y. is_in a x y && is_in b x y) a.width a.height from at
 
 -- ---- open cells, row by row
 
@@ -196,6 +190,21 @@ open-layered l from (Some cell) sound next = record {
       ∙ shut (is_in l.full (x / 64) (y / 64)) (is_in l.used (x / 64) (y / 64)) (is_in l.places x y)
       (next.none (x / 64) (y / 64) i j (rw sound.full_wide low) (rw sound.full_wide high));
 }
+
+-- a cell that is not open has no place
+pub none_in_shut : (l : Layers) (cell : ℕ) →
+    IsLayers l →
+    is_open l (cell % l.full.width) (cell / l.full.width) ≡ false →
+    NoneInCells (is_in (layered l)) l.places.width l.places.height cell (cell + 1)
+none_in_shut l cell sound none =
+    none_in_cell (is_in (layered l)) l.places.width l.places.height l.full.width cell
+    sound.full_wide
+    (λ x y inside.
+    let (left, low, column, row) = of_zone l.places.width l.places.height (cell % l.full.width)
+    (cell / l.full.width) x y inside in
+    at-layered l x y false left low
+    ∙ shut (is_in l.full (x / 64) (y / 64)) (is_in l.used (x / 64) (y / 64)) (is_in l.places x y)
+    (rw (column, row) none))
 
 -- ---- rows of words
 

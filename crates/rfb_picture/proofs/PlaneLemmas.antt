@@ -1,12 +1,11 @@
 -- What a set of places says of each place, from the words that it is made of.
 use Rattle.std.proofs.Common.{ℕ, List, Bool, true, false, ◌≡◌, ◌+◌, ◌-◌, ◌*◌, ◌/◌, ◌%◌, ◌<◌, length, replicate, refl}
-use Rattle.std.proofs.Common.{sym, ◌∙◌, arith, slice_index_or, inl, inr, Option, subst, min, nat_eq, nat_le, nat_lt}
-use Rattle.std.proofs.Common.{◌&&◌, ◌||◌, if◌then◌else◌, take, [], ◌++◌}
+use Rattle.std.proofs.Common.{sym, ◌∙◌, arith, slice_index_or, inl, inr, Option, subst}
+use Rattle.std.proofs.Common.{◌||◌, if◌then◌else◌, take, [], ◌++◌}
 use Rattle.std.proofs.Math.Nat.{sub-zero}
 use Rattle.std.proofs.lemmas.List.{get_or-replicate, get_or_past, take_all, length-replicate}
 use Rattle.std.proofs.lemmas.Nat.Bits.{bit_at-zero}
 use Rattle.std.proofs.lemmas.Bool.{cases_lt}
-use Rattle.std.proofs.lemmas.Bool.Decides.{nat_tests}
 use Rattle.std.proofs.lemmas.Nat.{rows, div-add-mod', mod_below}
 use Rattle.rfb_picture.specs.declared.edges.Edges.{Edges}
 use Rattle.rfb_picture.specs.Box.{is_in}
@@ -16,7 +15,6 @@ use Rattle.rfb_picture.specs.Grid.{Grid, IsGrid, Holds, at_or, changed, filled, 
 use Rattle.rfb_picture.specs.declared.rect.Rect.{Rect}
 use Rattle.rfb_picture.specs.Rect.{contains}
 use Rattle.rfb_picture.specs.layout.Plane.{has_at, has_place, marked, plane, IsPlane}
-use Rattle.rfb_picture.specs.layout.Cells.{cell_at}
 use Rattle.rfb_picture.proofs.GridLemmas.{contains_true, at-changed, width-changed, height-changed, length-changed}
 use Rattle.rfb_picture.proofs.GridLemmas.{whole-changed, width-uniform, height-uniform, whole-uniform, at-uniform}
 use Rattle.rfb_picture.proofs.GridLemmas.{at-filled, same_grid}
@@ -153,29 +151,6 @@ plane-filled w h across old new rect sound each =
     let was = at-plane w h across old x y d p q in
     let joined = rw place at here in
     joined ∙ (or_is_if (has_place old across x y) (contains rect x y) ∙ (rw (← was) (sym there))))
-
--- words without the bits of a cell make the set without its places
-pub plane-cell_cleared : (w h across : ℕ) (old new : List ℕ) (column row bottom : ℕ) →
-    IsPlane w h across old →
-    bottom ≡ min (row * 64 + 64) h →
-    ((k y i : ℕ) → k < across →
-    has_at new across y k i
-    ≡ (if nat_eq k column && (nat_le (row * 64) y && nat_lt y bottom) then false
-    else has_at old across y k i)) →
-    plane w h across new ≡ filled (cell_at column row) false (plane w h across old)
-plane-cell_cleared w h across old new column row bottom sound low each =
-    plane_is w h across new (filled (cell_at column row) false (plane w h across old))
-    (whole-changed _ (plane w h across old) (whole-plane w h across old))
-    (width-changed _ (plane w h across old))
-    (height-changed _ (plane w h across old))
-    (λ x y d p q.
-    let here = each (x / 64) y (x % 64) (column_below w h across old x sound p) in
-    let there = at-filled (cell_at column row) false (plane w h across old) x y d
-    (whole-plane w h across old) p q in
-    let was = at-plane w h across old x y d p q in
-    let cell : (nat_eq (x / 64) column && (nat_le (row * 64) y && nat_lt y bottom))
-    ≡ contains (cell_at column row) x y = grind (arith, nat_tests) in
-    (rw cell at here) ∙ (rw (← was) (sym there)))
 
 -- ---- the edges of its places
 

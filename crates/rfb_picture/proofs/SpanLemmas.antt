@@ -15,7 +15,7 @@ use Rattle.rfb_picture.proofs.NextCellLemmas.{rows_clear}
 -- ---- marks that are taken away
 
 -- what a change makes of a mark
-mark-changed : (f : ℕ → ℕ → Bool → Bool) (w h across : ℕ) (old new : List ℕ) →
+pub mark-changed : (f : ℕ → ℕ → Bool → Bool) (w h across : ℕ) (old new : List ℕ) →
     plane w h across new ≡ changed f (plane w h across old) →
     (x y : ℕ) → x < w → y < h →
     has_place new across x y ≡ f x y (has_place old across x y)

@@ -1,7 +1,7 @@
 -- What a set has after places of another were taken away, by cells.
-use Rattle.std.proofs.Common.{ℕ, Bool, true, false, ◌≡◌, ◌+◌, ◌/◌, ◌<◌, ◌≤◌, ◌&&◌, ◌||◌, not, refl, sym, ◌∙◌, arith}
-use Rattle.std.proofs.Common.{nat_eq, nat_lt, inl, inr}
-use Rattle.std.proofs.lemmas.Bool.{cases_lt, false_from_ne_true}
+use Rattle.std.proofs.Common.{ℕ, Bool, true, false, ◌≡◌, ◌/◌, ◌<◌, ◌&&◌, ◌||◌, not, refl, sym, ◌∙◌, arith}
+use Rattle.std.proofs.Common.{nat_eq, inl, inr}
+use Rattle.std.proofs.lemmas.Bool.{and_parts, false_from_ne_true}
 use Rattle.std.proofs.lemmas.Bool.Decides.{nat_tests}
 use Rattle.rfb_picture.specs.declared.rect.Rect.{Rect}
 use Rattle.rfb_picture.specs.declared.place_set.layers.Layers.{Layers}
@@ -9,102 +9,16 @@ use Rattle.rfb_picture.specs.Rect.{contains}
 use Rattle.rfb_picture.specs.Grid.{filled}
 use Rattle.rfb_picture.specs.Box.{is_in}
 use Rattle.rfb_picture.specs.Places.{without}
-use Rattle.rfb_picture.specs.layout.Marks.{without_in, AreRowsClear}
+use Rattle.rfb_picture.specs.layout.Marks.{without_in}
 use Rattle.rfb_picture.specs.layout.Cells.{cell_at, one_cell, zone_of}
-use Rattle.rfb_picture.specs.layout.PlaceSet.{in_set, in_part, layered, IsLayers, AreAlike, IsSpread, HasLost}
+use Rattle.rfb_picture.specs.layout.PlaceSet.{in_set, layered, IsLayers, AreAlike, IsSpread, HasLost}
+use Rattle.rfb_picture.specs.layout.PlaceSet.{notes_of, with_marks}
 use Rattle.rfb_picture.proofs.GridLemmas.{contains_true, contains_row, width-changed, height-changed, whole-changed}
 use Rattle.rfb_picture.proofs.GridLemmas.{at-changed, at-filled}
 use Rattle.rfb_picture.proofs.WordLemmas.{cases_place}
 use Rattle.rfb_picture.proofs.TakenWordLemmas.{and_true}
 use Rattle.rfb_picture.proofs.PlaceSetLemmas.{cell_below, layered_is, at-layered, whole-layered, same_sizes}
-
--- ---- rows of cells
-
-lost_twice : (s a b p : Bool) → ((s && not (a && p)) && not (b && p)) ≡ (s && not ((a || b) && p))
-lost_twice true true true true = refl
-lost_twice true true true false = refl
-lost_twice true true false true = refl
-lost_twice true true false false = refl
-lost_twice true false b p = refl
-lost_twice false a b p = refl
-
-no_part : (t f u p : Bool) → u ≡ false → (t && (not f && (u && p))) ≡ false
-no_part true true u p e = refl
-no_part true false u p e = rw e refl
-no_part false f u p e = refl
-
--- one row more, of which the set lost its places
-pub rows_more : (row : ℕ) (other old mid new : Layers) →
-    HasLost (λ _ j. nat_lt j row) other old mid →
-    HasLost (λ _ j. nat_eq j row) other mid new →
-    HasLost (λ _ j. nat_lt j (row + 1)) other old new
-rows_more row other old mid new first second = record {
-  sound = second.sound;
-  alike = (second.alike.0 ∙ first.alike.0, second.alike.1 ∙ first.alike.1);
-  each = λ x y p q.
-      let here = second.each x y (rw first.alike.0 p) (rw first.alike.1 q) in
-      let same : nat_lt (y / 64) (row + 1) ≡ (nat_lt (y / 64) row || nat_eq (y / 64) row) =
-      grind (arith, nat_tests) in
-      rw same (here
-      ∙ (rw (first.each x y p q)
-      (lost_twice (in_set old x y) (nat_lt (y / 64) row) (nat_eq (y / 64) row)
-      (in_part other x y))));
-}
-
--- one row more, of which the other set uses no cell
-either_off : (b : Bool) → (b || b) ≡ false → b ≡ false
-either_off true e = absurd cc
-either_off false e = refl
-
--- before the first row nothing is lost
-pub none_lost : (other old : Layers) → IsLayers old → HasLost (λ _ j. nat_lt j 0) other old old
-none_lost other old sound = record {
-  sound = sound;
-  alike = (refl, refl);
-  each = λ x y p q.
-      let none : nat_lt (y / 64) 0 ≡ false = grind (arith, nat_tests) in
-      rw (none, and_true) refl;
-}
-
--- rows in which the other uses no cell lose nothing
-pub rows_passed : (row next : ℕ) (other old new : Layers) →
-    IsLayers other →
-    AreAlike old other →
-    row ≤ next →
-    AreRowsClear (λ i j. is_in other.used i j || is_in other.used i j) other.used.width row next →
-    HasLost (λ _ j. nat_lt j row) other old new →
-    HasLost (λ _ j. nat_lt j next) other old new
-rows_passed row next other old new sound alike order none lost = record {
-  sound = lost.sound;
-  alike = lost.alike;
-  each = λ x y p q.
-      let i = cell_below x other.places.width other.used.width sound.used_wide (rw (← alike.0) p) in
-      let was = lost.each x y p q in
-      elim (cases_lt (y / 64) row) [
-        | inl above ↦
-            let before : nat_lt (y / 64) row ≡ true = grind (arith, nat_tests) in
-            elim (cases_lt (y / 64) next) [
-              | inl still ↦
-                  let now : nat_lt (y / 64) next ≡ true = grind (arith, nat_tests) in
-                  rw now (rw before at was)
-              | inr no_more ↦ absurd (omega arith)
-            ]
-        | inr below ↦
-            let before : nat_lt (y / 64) row ≡ false = grind (arith, nat_tests) in
-            let kept = rw before at was in
-            elim (cases_lt (y / 64) next) [
-              | inl here ↦
-                  let off : is_in other.used (x / 64) (y / 64) ≡ false =
-                  either_off (is_in other.used (x / 64) (y / 64))
-                  (none (x / 64) (y / 64) i below here) in
-                  rw (no_part (nat_lt (y / 64) next) (is_in other.full (x / 64) (y / 64)) _
-                  (is_in other.places x y) off) kept
-              | inr after ↦
-                  let now : nat_lt (y / 64) next ≡ false = grind (arith, nat_tests) in
-                  rw now kept
-            ]
-      ];
-}
+use Rattle.rfb_picture.proofs.NotedLemmas.{sound-marked}
 
 -- ---- one cell
 
@@ -145,6 +59,7 @@ pub cell_lost : (column row : ℕ) (other old mid : Layers) →
       places = without_in (cell_at column row) other.places mid.places;
       full = mid.full;
       used = mid.used;
+      noted = mid.noted;
     })
 cell_lost column row other old mid sound alike spread no_full used own =
     let new : Layers =
@@ -152,6 +67,7 @@ cell_lost column row other old mid sound alike spread no_full used own =
       places = without_in (cell_at column row) other.places mid.places;
       full = mid.full;
       used = mid.used;
+      noted = mid.noted;
     } in
     let wide = width-changed
     (λ x y was. was && not (contains (cell_at column row) x y && is_in other.places x y))
@@ -160,9 +76,16 @@ cell_lost column row other old mid sound alike spread no_full used own =
     (λ x y was. was && not (contains (cell_at column row) x y && is_in other.places x y))
     mid.places in
     record {
-      sound = same_sizes mid new spread.sound wide high refl refl refl refl
+      sound = same_sizes mid new spread.sound wide high refl refl refl refl refl refl
           (whole-changed _ mid.places spread.sound.all_places) spread.sound.all_full
-          spread.sound.all_used;
+          spread.sound.all_used spread.sound.all_noted
+          (λ x y p0 q0 e.
+          let p : x < mid.places.width = rw wide at p0 in
+          let q : y < mid.places.height = rw high at q0 in
+          let there = at-changed
+          (λ x y was. was && not (contains (cell_at column row) x y && is_in other.places x y))
+          mid.places x y false spread.sound.all_places p q in
+          spread.sound.marks_noted x y p q (and_parts (is_in mid.places x y) _ (sym there ∙ e)).0);
       alike = (wide ∙ spread.alike.0, high ∙ spread.alike.1);
       each = λ x y p q.
           let p1 : x < mid.places.width = rw spread.alike.0 p in
@@ -208,6 +131,7 @@ pub spread_full : (column row : ℕ) (l : Layers) (part : Rect) →
       places = filled part true l.places;
       full = filled (one_cell column row) false l.full;
       used = filled (one_cell column row) true l.used;
+      noted = filled (notes_of part) true l.noted;
     })
 spread_full column row l part sound p q full same_part =
     let new : Layers =
@@ -215,12 +139,14 @@ spread_full column row l part sound p q full same_part =
       places = filled part true l.places;
       full = filled (one_cell column row) false l.full;
       used = filled (one_cell column row) true l.used;
+      noted = filled (notes_of part) true l.noted;
     } in
+    let marked = sound-marked l part sound in
     record {
-      sound = same_sizes l new sound (width-changed _ l.places) (height-changed _ l.places)
-          (width-changed _ l.full) (height-changed _ l.full) (width-changed _ l.used)
-          (height-changed _ l.used) (whole-changed _ l.places sound.all_places)
-          (whole-changed _ l.full sound.all_full) (whole-changed _ l.used sound.all_used);
+      sound = same_sizes (with_marks part l) new marked refl refl (width-changed _ l.full)
+          (height-changed _ l.full) (width-changed _ l.used) (height-changed _ l.used) refl refl
+          marked.all_places (whole-changed _ l.full sound.all_full)
+          (whole-changed _ l.used sound.all_used) marked.all_noted marked.marks_noted;
       alike = (width-changed _ l.places, height-changed _ l.places);
       same = λ x y a b.
           let i = cell_below x l.places.width l.full.width sound.full_wide a in
@@ -277,6 +203,7 @@ less_whole other mid = record {
   places = mid.places;
   full = without other.full mid.full;
   used = without other.full mid.used;
+  noted = mid.noted;
 }
 
 -- without the places of cells that the other set has whole, all its places are gone
@@ -318,6 +245,6 @@ pub sound-without : (other mid : Layers) →
     IsLayers mid → IsLayers (less_whole other mid)
 sound-without other mid sound =
     same_sizes mid (less_whole other mid) sound refl refl (width-changed _ mid.full)
-    (height-changed _ mid.full) (width-changed _ mid.used) (height-changed _ mid.used)
+    (height-changed _ mid.full) (width-changed _ mid.used) (height-changed _ mid.used) refl refl
     sound.all_places (whole-changed _ mid.full sound.all_full)
-    (whole-changed _ mid.used sound.all_used)
+    (whole-changed _ mid.used sound.all_used) sound.all_noted sound.marks_noted

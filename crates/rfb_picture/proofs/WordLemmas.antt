@@ -1,18 +1,18 @@
 -- Bits of words, and of rows of words.
 use Rattle.std.proofs.Common.{ℕ, List, Bool, true, false, ◌≡◌, ◌+◌, ◌-◌, ◌*◌, ◌/◌, ◌%◌, ◌^◌, ◌<◌, ◌≤◌, ◌&&◌, ◌||◌, min}
 use Rattle.std.proofs.Common.{length, refl, ◌∙◌, arith, slice_index_or, slice_set, nat_eq, nat_le, nat_lt, bit_and}
-use Rattle.std.proofs.Common.{bit_or, inl, inr, ◌⊎◌, if◌then◌else◌}
+use Rattle.std.proofs.Common.{bit_or, inl, inr, ◌⊎◌}
 use Rattle.std.proofs.lemmas.Bool.{cases_lt, cases_eq}
 use Rattle.std.proofs.lemmas.Bool.Decides.{nat_tests}
 use Rattle.std.proofs.lemmas.Nat.{same_from_place, mul-add-lt}
 use Rattle.std.proofs.Math.Nat.{mul_comm}
 use Rattle.std.proofs.lemmas.Nat.Bits.{bit_at_and, bit_at_or, bit_at-lt, bit_at_mask_inside, bit_at_mask_below}
-use Rattle.std.proofs.lemmas.Nat.Bits.{bit_at_ones, bit_at_ones_above, bit_at-zero, ones_shl, ones_shr}
+use Rattle.std.proofs.lemmas.Nat.Bits.{bit_at_ones, bit_at_ones_above, ones_shl, ones_shr}
 use Rattle.std.proofs.lemmas.List.{get_or-set_same, get_or-set_other}
 use Rattle.rfb_picture.specs.declared.rect.Rect.{Rect}
 use Rattle.rfb_picture.specs.Rect.{contains}
 use Rattle.rfb_picture.specs.Places.{has_bit}
-use Rattle.rfb_picture.specs.layout.Plane.{has_at, ColumnAdded, ColumnCleared}
+use Rattle.rfb_picture.specs.layout.Plane.{has_at, ColumnAdded}
 
 -- ---- one word
 
@@ -140,21 +140,6 @@ one_row_more words first across column top row bottom mask p low room from added
           reached k column y top row _ _ (has_at first across y k i) (has_bit mask i) here.0 here.1 from
           (added k y i q) bits
       | inr other ↦ rw (other.1, ← unreached k column y top row other.0) (added k y i q)
-    ]
-
--- with the word of one row more cleared
-pub one_row_cleared : (words first : List ℕ) (across column top row bottom : ℕ) →
-    column < across → row < bottom → bottom * across ≤ length words → top ≤ row →
-    ColumnCleared across column top row first words →
-    ColumnCleared across column top (row + 1) first (slice_set words (row * across + column) 0)
-one_row_cleared words first across column top row bottom p low room from cleared k y i q =
-    let l = word_of_row row bottom column across (length words) low p room in
-    elim (word_set words across column row 0 k y i p q l) [
-      | inl here ↦
-          let some : (nat_eq k column && (nat_le top y && nat_lt y (row + 1))) ≡ true =
-          let e = here.0 in let f = here.1 in grind (arith, nat_tests) in
-          rw (some, here.0, here.1) (here.2 ∙ rw (bit_at-zero i) refl)
-      | inr other ↦ rw (other.1, ← unreached k column y top row other.0) (cleared k y i q)
     ]
 
 -- with the words of one column more

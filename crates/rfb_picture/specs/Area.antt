@@ -36,6 +36,20 @@ pub record IsArea (a : Places) : Type 0 where
   pub inside : (x y : ℕ) → x < a.asked.width → y < a.asked.height → whole_at a x y ≡ true →
       asked_at a x y ≡ true
 
+-- each place is asked
+abbrev pub AsksEach : Places → Type 0
+AsksEach a = (x y : ℕ) → x < a.asked.width → y < a.asked.height → asked_at a x y ≡ true
+
+-- no place is whole
+abbrev pub HasNoWhole : Places → Type 0
+HasNoWhole a = (x y : ℕ) → x < a.asked.width → y < a.asked.height → whole_at a x y ≡ false
+
+-- an area, and what is noted of it: that each place is asked, and that none is whole
+pub record IsNoted (a : Places) (all plain : Bool) : Type 0 where
+  pub area : IsArea a
+  pub all_asked : all ≡ true → AsksEach a
+  pub none_whole : plain ≡ true → HasNoWhole a
+
 -- the area of a screen of that width and height with no place asked
 abbrev pub no_places : ℕ → ℕ → Places
 no_places w h = record { asked = uniform w h false; whole = uniform w h false }

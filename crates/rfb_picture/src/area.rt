@@ -3,7 +3,9 @@
 ghost use Rattle.std.specs.Prelude.{◌≡◌, ◌<◌, IfOk};
 ghost use Rattle.rfb_picture.specs.Grid.{Holds};
 ghost use Rattle.rfb_picture.specs.Box.{HasBox};
-ghost use Rattle.rfb_picture.specs.Area.{IsArea, asked_at, whole_at, no_places, nothing, added};
+ghost use Rattle.std.specs.Bool.{OnTrue};
+ghost use Rattle.rfb_picture.specs.Area.{IsArea, AsksEach, HasNoWhole};
+ghost use Rattle.rfb_picture.specs.Area.{asked_at, whole_at, no_places, nothing, added};
 
 use crate::place_set::PlaceSet;
 use crate::rect::Rect;
@@ -15,16 +17,20 @@ mod tests;
 
 /// The places of a screen of that size that were asked for, RFC 6143 section 7.5.3, and those of
 /// them that are to be sent whole: whatever the client has there. Only an asked place is whole. It
-/// keeps its size; either may be 0. It owns two sets, `PlaceSet`: two bits for each place, and a
-/// few more for each row and for each cell of 64 by 64 places.
+/// keeps its size; either may be 0. It owns two sets, `PlaceSet`: two bits for each place, a few
+/// more for each row, and for each cell of 64 by 64 places two for each of its rows and a few more.
 #[derive(Debug, Drop)]
 pub struct Area {
     asked: PlaceSet,
     whole: PlaceSet,
+    // Each place is asked. Where this is not set they may be, too.
+    is_all: bool,
+    // No place is whole. Where this is not set there may be none, too.
+    is_plain: bool,
 }
 
 impl Model for Area {
-    ghost use Rattle.rfb_picture.specs.Area.{Places, places_code, IsArea};
+    ghost use Rattle.rfb_picture.specs.Area.{Places, places_code, IsNoted};
 
     ghost Value = { Places };
 
@@ -32,12 +38,13 @@ impl Model for Area {
 
     ghost view = { λ a. record { asked = a.asked; whole = a.whole } };
 
-    ghost invariant = { λ a. IsArea (record { asked = a.asked; whole = a.whole }) };
+    ghost invariant = { λ a.
+        IsNoted (record { asked = a.asked; whole = a.whole }) a.is_all a.is_plain };
 }
 
 impl Area {
     /// An area of a screen of `width` by `height` places, none of them asked. It asks for room for
-    /// all its bits, in six pieces. Where there is none it gives the error, and nothing is kept.
+    /// all its bits, in eight pieces. Where there is none it gives the error, and nothing is kept.
     pub fn new(alloc: Global, width: u16, height: u16) -> Result<Area, AllocError>
         ensures value { IfOk result (λ a. a ≡ no_places width height) }
         ensures width { IfOk result (λ a. a.asked.width ≡ width) }
@@ -45,7 +52,12 @@ impl Area {
     {
         let asked = PlaceSet::new(alloc, width, height)?;
         let whole = PlaceSet::new(alloc, width, height)?;
-        Ok(Area { asked, whole })
+        Ok(Area {
+            asked,
+            whole,
+            is_all: false,
+            is_plain: true,
+        })
     }
 
     /// How many places a row of the screen has. Its contract also says that a place is whole only
@@ -80,6 +92,23 @@ impl Area {
         ensures { result.now ≡ self.now.whole }
     {
         &self.whole
+    }
+
+    /// Whether a rectangle of all places was asked for since the last `clear`. It costs nothing; it
+    /// may say no where each place is asked.
+    #[inline]
+    pub fn asks_all(&self) -> bool
+        ensures { OnTrue result (AsksEach self.now) }
+    {
+        self.is_all
+    }
+
+    /// Whether nothing was asked for whole since the last `clear`. It costs nothing.
+    #[inline]
+    pub fn is_plain(&self) -> bool
+        ensures { OnTrue result (HasNoWhole self.now) }
+    {
+        self.is_plain
     }
 
     /// Whether the place at column `x` of row `y` is asked.
@@ -119,9 +148,12 @@ impl Area {
         ensures width { self.new.asked.width ≡ self.old.asked.width }
         ensures height { self.new.asked.height ≡ self.old.asked.height }
     {
+        let is_all = rect == Rect::whole(self.width(), self.height());
         self.asked.add(rect);
+        self.is_all |= is_all;
         if whole {
             self.whole.add(rect);
+            self.is_plain = false;
         }
     }
 
@@ -133,6 +165,8 @@ impl Area {
     {
         self.asked.clear();
         self.whole.clear();
+        self.is_all = false;
+        self.is_plain = true;
     }
 
     /// Becomes a copy of `other`, which is of the same size and stays the caller's.
@@ -143,5 +177,7 @@ impl Area {
     {
         self.asked.copy_from(&other.asked);
         self.whole.copy_from(&other.whole);
+        self.is_all = other.is_all;
+        self.is_plain = other.is_plain;
     }
 }

@@ -23,7 +23,9 @@ mod tests;
 /// Some of the places of a picture of that size, numbered from the top left. It keeps its size;
 /// either may be 0. It owns one bit for each place, up to 63 bits more for each row, and two bits,
 /// with up to 126 more for each row of them, for each cell of 64 by 64 places. By these a cell that
-/// is in the set whole, or has no place in it, needs no look at its places.
+/// is in the set whole, or has no place in it, needs no look at its places. It also owns 64 bits
+/// for each cell, a note for each of its rows. By these, other cells cost by rows that may have a
+/// place.
 #[derive(Debug, Drop)]
 pub struct PlaceSet {
     layers: Layers,
@@ -52,7 +54,7 @@ impl PlaceSet {
     ghost use Rattle.rfb_picture.specs.Places.{AllMarked, HasRowBits, HasBitsBetween, without};
 
     /// The set with no place, of a picture of `width` by `height` places. It asks for room for all
-    /// its bits, in three pieces; where there is none it gives the error, and nothing is kept.
+    /// its bits, in four pieces; where there is none it gives the error, and nothing is kept.
     pub fn new(alloc: Global, width: u16, height: u16) -> Result<PlaceSet, AllocError>
         ensures value { IfOk result (λ s. s ≡ uniform width height false) }
         ensures width { IfOk result (λ s. s.width ≡ width) }
@@ -63,8 +65,14 @@ impl PlaceSet {
         let places = Plane::new(alloc, width, height)?;
         let full = Plane::new(alloc, columns, rows)?;
         let used = Plane::new(alloc, columns, rows)?;
+        let noted = Plane::new(alloc, height, columns)?;
         Ok(PlaceSet {
-            layers: Layers { places, full, used },
+            layers: Layers {
+                places,
+                full,
+                used,
+                noted,
+            },
         })
     }
 
@@ -192,11 +200,10 @@ impl PlaceSet {
     {
         let mut at = from;
         while let Some(here) = self.next_open(at) {
-            let there = other.next_open(here)?;
-            if there == here {
+            if other.layers.is_open(here) {
                 return Some(here);
             }
-            at = there;
+            at = other.next_open(here + 1)?;
         }
         None
     }
@@ -215,8 +222,10 @@ impl PlaceSet {
         ensures width { self.new.width ≡ self.old.width }
         ensures height { self.new.height ≡ self.old.height }
     {
-        // Most requests are for all places, which are cells without a border.
-        if rect == Rect::whole(self.width(), self.height()) {
+        if rect.w == 1 && rect.h == 1 {
+            self.layers.add_one(rect.x, rect.y);
+        } else if rect == Rect::whole(self.width(), self.height()) {
+            // Most requests are for all places, which are cells without a border.
             self.add_cells(rect);
         } else {
             self.add_by_parts(rect);
@@ -267,7 +276,7 @@ impl PlaceSet {
     {
         if part.w > 0 && part.h > 0 {
             self.layers.open_cells(cells_of(part));
-            self.layers.places.add(part);
+            self.layers.mark(part);
         }
     }
 
@@ -304,5 +313,6 @@ impl PlaceSet {
         self.layers.places.copy_from(&other.layers.places);
         self.layers.full.copy_from(&other.layers.full);
         self.layers.used.copy_from(&other.layers.used);
+        self.layers.noted.copy_from(&other.layers.noted);
     }
 }

@@ -7,8 +7,8 @@ ghost use Rattle.std.specs.Prelude.{IsTrue};
 use crate::edges::{Edges, edges_in};
 use crate::rect::Rect;
 use crate::words::{
-    add_places, clear_column, columns_between, has_places, next_place, next_used, take_column,
-    take_places, word_at,
+    add_places, columns_between, has_places, next_place, next_used, take_column, take_places,
+    word_at,
 };
 use std::alloc::{AllocError, Global};
 use std::boxed::BoxedSlice;
@@ -51,8 +51,8 @@ impl Plane {
     ghost use Rattle.rfb_picture.specs.Grid.{IsGrid, Holds, at_or, filled, uniform};
     ghost use Rattle.rfb_picture.specs.Box.{is_in};
     ghost use Rattle.rfb_picture.specs.layout.Edges.{HasEdges};
-    ghost use Rattle.rfb_picture.specs.layout.Cells.{cell_at, one_cell};
-    ghost use Rattle.rfb_picture.specs.Places.{AllMarked, HasRowBits, without};
+    ghost use Rattle.rfb_picture.specs.layout.Cells.{cell_at, one_cell, word_places};
+    ghost use Rattle.rfb_picture.specs.Places.{AllMarked, HasRowBits, HasBitsBetween, without};
     ghost use Rattle.rfb_picture.specs.layout.Marks.{HasNext, AreRowsClear, without_in};
 
     /// No mark, at `width` by `height` places. It asks for room for all its bits, in one piece;
@@ -136,6 +136,20 @@ impl Plane {
         word & columns_between(from / 64, from, usize::from(self.width))
     }
 
+    /// The marks of the places of row `y` from column `from` up to column `to`, all of one word, as
+    /// the bits of that word. No other bit is set.
+    #[inline]
+    pub(crate) fn bits_between(&self, y: u16, from: u16, to: u16) -> u64
+        requires row { y < self.now.height }
+        requires some { from < to }
+        requires columns { to ≤ self.now.width }
+        requires word { to ≤ from / 64 * 64 + 64 }
+        ensures { HasBitsBetween (is_in self.now) y from to result }
+    {
+        let word = word_at(&self.words, self.across, from, y);
+        word & columns_between(usize::from(from) / 64, usize::from(from), usize::from(to))
+    }
+
     /// The column of the first marked place of row `y` from column `x` on; `None` where none is.
     #[inline]
     pub(crate) fn next(&self, x: u16, y: u16) -> Option<u16>
@@ -202,23 +216,32 @@ impl Plane {
         self.last = self.last.max(rect.y + rect.h);
     }
 
-    /// Takes the marks from the places of the cell, which are those of one word in each of 64 rows.
-    pub(crate) fn clear_cell(&mut self, column: u16, row: u16)
-        requires column { column * 64 < self.old.width }
-        requires row { row * 64 < self.old.height }
-        ensures value { self.new ≡ filled (cell_at column row) false self.old }
+    /// Marks one place.
+    #[inline]
+    pub(crate) fn add_one(&mut self, x: u16, y: u16)
+        requires column { x < self.old.width }
+        requires row { y < self.old.height }
+        ensures value { self.new ≡ filled (one_cell x y) true self.old }
         ensures width { self.new.width ≡ self.old.width }
         ensures height { self.new.height ≡ self.old.height }
     {
-        let top = usize::from(row) * 64;
-        let bottom = (top + 64).min(usize::from(self.height));
-        clear_column(
-            &mut self.words,
-            self.across,
-            usize::from(column),
-            top,
-            bottom,
-        );
+        let at = usize::from(y) * self.across + usize::from(x) / 64;
+        self.words[at] |= 1 << (x % 64);
+        self.first = self.first.min(y);
+        self.last = self.last.max(y + 1);
+    }
+
+    /// Takes the marks from the places of row `y` in the cells of that column, all of one word.
+    #[inline]
+    pub(crate) fn clear_word(&mut self, column: u16, y: u16)
+        requires column { column * 64 < self.old.width }
+        requires row { y < self.old.height }
+        ensures value { self.new ≡ filled (word_places column y) false self.old }
+        ensures width { self.new.width ≡ self.old.width }
+        ensures height { self.new.height ≡ self.old.height }
+    {
+        let at = usize::from(y) * self.across + usize::from(column);
+        self.words[at] = 0;
     }
 
     /// Takes the mark from one place.

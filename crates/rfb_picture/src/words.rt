@@ -3,7 +3,7 @@
 ghost use Rattle.std.specs.Prelude.{◌≡◌, ◌↔◌, ◌+◌, ◌*◌, ◌/◌, ◌^◌, ◌<◌, ◌≤◌, length, IsTrue};
 ghost use Rattle.std.specs.Prelude.{slice_index_or};
 ghost use Rattle.rfb_picture.specs.layout.Plane.{has_place, HasMasked, PlacesAdded, IsBetween};
-ghost use Rattle.rfb_picture.specs.layout.Plane.{ColumnAdded, ColumnCleared, ColumnLost, RowsLost};
+ghost use Rattle.rfb_picture.specs.layout.Plane.{ColumnAdded, ColumnLost, RowsLost};
 ghost use Rattle.rfb_picture.specs.layout.Plane.{AreUnused};
 ghost use Rattle.rfb_picture.specs.Places.{AllMarked};
 ghost use Rattle.rfb_picture.specs.layout.Marks.{HasNext};
@@ -43,24 +43,6 @@ fn add_column(words: &mut [u64], across: usize, column: usize, top: usize, botto
 {
     for row in top..bottom {
         words[row * across + column] |= mask;
-    }
-}
-
-/// Clears all bits of one word of each row from `top` up to `bottom`.
-pub(crate) fn clear_column(
-    words: &mut [u64],
-    across: usize,
-    column: usize,
-    top: usize,
-    bottom: usize,
-)
-    requires column { column < across }
-    requires order { top ≤ bottom }
-    requires rows { bottom * across ≤ length words.old }
-    ensures { ColumnCleared across column top bottom words.old words.new }
-{
-    for row in top..bottom {
-        words[row * across + column] = 0;
     }
 }
 

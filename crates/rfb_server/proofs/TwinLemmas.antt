@@ -12,7 +12,7 @@ use Rattle.rfb_picture.specs.declared.rect.Rect.{Rect}
 use Rattle.rfb_picture.specs.Rect.{contains, rect}
 use Rattle.rfb_picture.specs.Grid.{Grid}
 use Rattle.rfb_picture.specs.Box.{is_in, HasBox, IsBox, IsClear}
-use Rattle.rfb_picture.specs.Area.{Places, asked_at}
+use Rattle.rfb_picture.specs.Area.{AsksEach, HasNoWhole, Places, asked_at}
 use Rattle.rfb_picture.specs.CellOrder.{NoneInCells, HasNextCell, cells_in}
 use Rattle.rfb_picture.specs.Places.{AllMarked}
 use Rattle.rfb_picture.proofs.GridLaws.{contains_true}
@@ -106,30 +106,11 @@ agree_end one other n (Some cell) none wide high left left_too e f same =
 -- ---- what is asked
 
 -- all of the screen, and none of it whole
-pub asks_none_whole : (s : Session) (all : Rect) →
-    ((x y : ℕ) → x < s.known.width → y < s.known.height → contains all x y ≡ true) →
-    AllMarked (is_in s.area.asked) all →
-    NoneInCells (is_in s.area.whole) s.area.whole.width s.area.whole.height 0
-    (cells_in s.area.whole.width * cells_in s.area.whole.height) → AsksAll false s
-asks_none_whole s all holds asked none = λ x y p q.
-    let wide : x < s.area.whole.width = rw (s.alike.area_is.wide, s.alike.area_wide) p in
-    let high : y < s.area.whole.height = rw (s.alike.area_is.high, s.alike.area_high) q in (
-      asked x y (holds x y p q),
-      none x y wide high (omega arith) (all_cells s.area.whole.width s.area.whole.height x y wide high),
-    )
-
-pub in_whole : (w h x y : ℕ) → x < w → y < h → contains (rect 0 0 w h) x y ≡ true
-in_whole w h x y p q = grind (arith, nat_tests)
-
-pub asks_by : (s : Session) (whole : Bool) (w h : ℕ) (found : Option ℕ) (none : Bool) → whole ≡ false →
-    s.known.width ≡ w → s.known.height ≡ h → AllMarked (is_in s.area.asked) (rect 0 0 w h) →
-    HasNextCell (is_in s.area.whole) s.area.whole.width s.area.whole.height 0 found →
-    is_some found ≡ not none → none ≡ true → AsksAll whole s
-asks_by s whole w h None none unset wide high asked next e f =
-    subst (λ (b : Bool). AsksAll b s) (sym unset)
-    (asks_none_whole s (rect 0 0 w h) (λ x y p q. in_whole w h x y (rw wide at p) (rw high at q)) asked next)
-asks_by s whole w h (Some cell) none unset wide high asked next e f =
-    absurd (both_ways (not none) (rw f refl) (sym e))
+pub asks_plain : (s : Session) (whole : Bool) → whole ≡ false → AsksEach s.area → HasNoWhole s.area → AsksAll whole s
+asks_plain s whole unset each none = subst (λ (b : Bool). AsksAll b s) (sym unset) (λ x y p q.
+    let wide : x < s.area.asked.width = rw (s.alike.area_wide) p in
+    let high : y < s.area.asked.height = rw (s.alike.area_high) q in
+    (each x y wide high, none x y wide high))
 
 abbrev places_of : Grid Bool → Grid Bool → Places
 places_of asked whole = record { asked = asked; whole = whole }

@@ -32,6 +32,7 @@
 mod beginning;
 mod channel;
 pub mod console;
+mod disposal;
 pub mod doors;
 pub mod drive;
 mod engine;
@@ -54,6 +55,7 @@ mod slots;
 mod told;
 mod world;
 
+pub use disposal::dispose;
 pub use engine::{
     Device, EngineFault, Lent, Nowhere, Pair, Scene, Sink, Source, Tally, Unwatched, Watcher, Wire,
     play, play_some, play_watched, ppm, send, serve, serve_over, view, view_over, view_recording,

@@ -8,7 +8,6 @@ ghost use Rattle.rfb.specs.ScriptRun.{IsFreshServer, encodings_of, format_of};
 ghost use Rattle.rfb.specs.Recording.{IsFresh};
 
 use crate::defaults::{copy_of, fresh_server, fresh_viewer};
-use crate::disposal::dispose;
 use crate::fault::Fault;
 use crate::loopback::arriving::{reach_server, reach_viewer, take_some};
 use crate::loopback::link::{Link, PART};
@@ -17,7 +16,7 @@ use crate::script::Wants;
 use crate::script::steps::wishes;
 use rfb_server::Server;
 use rfb_session::language::Screen;
-use rfb_session::{Event, Refused};
+use rfb_session::{Event, Refused, dispose};
 use rfb_viewer::Viewer;
 use std::alloc::Global;
 use std::collections::VecDeque;

@@ -10,7 +10,6 @@ ghost use Rattle.rfb_session.specs.Devices.{AppendsBeginning};
 ghost use Rattle.rfb_session.specs.InFlight.{AreMade};
 
 use crate::context::Context;
-use crate::disposal::dispose;
 use crate::explain::Notes;
 use crate::fault::{Failure, Fault};
 use crate::help::Topic;
@@ -21,7 +20,7 @@ use crate::script::run_hub::run_hub;
 use crate::script::steps::{fresh_world, play};
 use crate::script::{Numbered, Script, begins_hub, read_explained, read_hub_script};
 use crate::writing::write_ppm;
-use rfb_session::{HubFault, Refused, World};
+use rfb_session::{HubFault, Refused, World, dispose};
 use std::alloc::Global;
 use std::io::{LineWriter, Read, Write};
 

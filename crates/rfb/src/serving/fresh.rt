@@ -6,14 +6,13 @@ ghost use Rattle.rfb.specs.Service.{IsServed, IsServedFrom};
 ghost use Rattle.rfb.specs.declared.serving.screen.ServedScreen.TheVariants as ServedScreen;
 
 use crate::defaults::fresh_server;
-use crate::disposal::dispose;
 use crate::scene::TestScene;
 use crate::serving::screen::ServedScreen;
 use crate::serving::still::{Still, draw_picture};
 use rfb_server::Server;
 use rfb_session::language::Screen;
 use rfb_session::netpbm::Pixmap;
-use rfb_session::{EngineFault, Scene, Tally, serve};
+use rfb_session::{EngineFault, Scene, Tally, dispose, serve};
 use std::alloc::Global;
 use std::io::{Read, Write};
 

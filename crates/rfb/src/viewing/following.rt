@@ -12,7 +12,6 @@ ghost use Rattle.rfb.specs.Recording.{IsFresh};
 
 use crate::context::Context;
 use crate::defaults::{copy_of, fresh_viewer};
-use crate::disposal::dispose;
 use crate::explain::{
     Early, Heard, Hearing, Notes, Origin, Shared, Telling, Writing, tell_closed, tell_filmed,
     tell_server, tell_unreached, tell_unsent,
@@ -25,7 +24,7 @@ use crate::viewing::pace::Pace;
 use crate::viewing::stopping::Stopping;
 use crate::viewing::waiting::Waiting;
 use crate::viewing::watching::watch;
-use rfb_session::EngineFault;
+use rfb_session::{EngineFault, dispose};
 use rfb_viewer::Viewer;
 use std::alloc::Global;
 use std::cell::{Cell, RefCell};

@@ -16,6 +16,10 @@ cell_at i j = record { x = i * 64; y = j * 64; w = 64; h = 64 }
 abbrev pub one_cell : ℕ → ℕ → Rect
 one_cell i j = record { x = i; y = j; w = 1; h = 1 }
 
+-- the places of row y in the cells of column i, which are of one word
+abbrev pub word_places : ℕ → ℕ → Rect
+word_places i y = record { x = i * 64; y = y; w = 64; h = 1 }
+
 -- the cells that have the rectangle's places, as a rectangle of cells
 abbrev pub touched : Rect → Rect
 touched r =

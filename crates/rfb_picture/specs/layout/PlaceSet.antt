@@ -5,9 +5,10 @@ use Rattle.std.specs.Prelude.{MatchOption}
 use Rattle.rfb_picture.specs.declared.rect.Rect.{Rect}
 use Rattle.rfb_picture.specs.declared.place_set.layers.Layers.{Layers}
 use Rattle.rfb_picture.specs.Rect.{contains}
-use Rattle.rfb_picture.specs.Grid.{Grid, IsGrid}
+use Rattle.rfb_picture.specs.Grid.{Grid, IsGrid, filled}
 use Rattle.rfb_picture.specs.Box.{is_in}
 use Rattle.rfb_picture.specs.layout.Plane.{marked}
+use Rattle.rfb_picture.specs.layout.Cells.{cell_at, touched, word_places}
 use Rattle.rfb_picture.specs.CellOrder.{cells_in}
 
 -- cell (i, j) is in the set whole, or its places' marks count
@@ -23,17 +24,51 @@ in_set l x y =
 abbrev pub layered : Layers → Grid Bool
 layered l = marked l.places.width l.places.height (in_set l)
 
--- there is a mark for each place, and two for each cell; the sizes fit 16 bits
+-- a row of a cell that is not noted has no mark. It is noted at the row's number in the row of
+-- notes that has the cell's column
+abbrev pub AreNoted : Layers → Type 0
+AreNoted l =
+    (x y : ℕ) → x < l.places.width → y < l.places.height → is_in l.places x y ≡ true →
+    is_in l.noted y (x / 64) ≡ true
+
+-- there is a mark for each place, two for each cell, and a note for each row of each column of
+-- cells, by which marks are found; the sizes fit 16 bits
 pub record IsLayers (l : Layers) : Type 0 where
   pub narrow : l.places.width < 2 ^ 16
   pub low : l.places.height < 2 ^ 16
   pub all_places : IsGrid l.places
   pub all_full : IsGrid l.full
   pub all_used : IsGrid l.used
+  pub all_noted : IsGrid l.noted
   pub full_wide : l.full.width ≡ cells_in l.places.width
   pub full_high : l.full.height ≡ cells_in l.places.height
   pub used_wide : l.used.width ≡ cells_in l.places.width
   pub used_high : l.used.height ≡ cells_in l.places.height
+  pub noted_wide : l.noted.width ≡ l.places.height
+  pub noted_high : l.noted.height ≡ cells_in l.places.width
+  pub marks_noted : AreNoted l
+
+-- the rows of a rectangle in the columns of cells that have its places, among the notes
+abbrev pub notes_of : Rect → Rect
+notes_of r = record { x = r.y; y = (touched r).x; w = r.h; h = (touched r).w }
+
+-- the rectangle's places are marked, and their rows noted
+abbrev pub with_marks : Rect → Layers → Layers
+with_marks r l = record {
+  places = filled r true l.places;
+  full = l.full;
+  used = l.used;
+  noted = filled (notes_of r) true l.noted;
+}
+
+-- no place of cell (i, j) is marked, and none of its rows noted
+abbrev pub without_marks : ℕ → ℕ → Layers → Layers
+without_marks i j l = record {
+  places = filled (cell_at i j) false l.places;
+  full = l.full;
+  used = l.used;
+  noted = filled (word_places j i) false l.noted;
+}
 
 -- the cells of the rectangle were opened: their places' marks count, unless they are in the set
 -- whole. It has the places that it had

@@ -1,7 +1,7 @@
 -- How a `Plane` holds which places are marked, as bits of words: a row is `across` words wide. No
 -- public clause reads these words.
 use Rattle.std.specs.Prelude.{ℕ, Bool, true, false, List, ◌≡◌, ◌+◌, ◌*◌, ◌/◌, ◌%◌, ◌^◌, ◌<◌, ◌≤◌, ◌&&◌, ◌||◌, length}
-use Rattle.std.specs.Prelude.{nat_eq, nat_le, nat_lt, not, slice_index_or, if◌then◌else◌}
+use Rattle.std.specs.Prelude.{nat_eq, nat_le, nat_lt, not, slice_index_or}
 use Rattle.rfb_picture.specs.declared.rect.Rect.{Rect}
 use Rattle.rfb_picture.specs.Rect.{contains}
 use Rattle.rfb_picture.specs.Grid.{Grid, grid, changed, uniform}
@@ -36,13 +36,6 @@ ColumnAdded across column from to mask old new =
     (k y i : ℕ) → k < across →
     has_at new across y k i
     ≡ (has_at old across y k i || (in_words column from to k y && has_bit mask i))
-
--- the words of a column, from the first row up to another, have no bit
-abbrev pub ColumnCleared : ℕ → ℕ → ℕ → ℕ → List ℕ → List ℕ → Type 0
-ColumnCleared across column from to old new =
-    (k y i : ℕ) → k < across →
-    has_at new across y k i
-    ≡ (if in_words column from to k y then false else has_at old across y k i)
 
 -- the words got the bits of the rectangle's places
 abbrev pub PlacesAdded : ℕ → Rect → List ℕ → List ℕ → Type 0

@@ -1,7 +1,8 @@
 //! The outermost places of a set in a zone, found by cells.
 
-ghost use Rattle.std.specs.Prelude.{◌≡◌, ◌+◌, ◌*◌, ◌/◌, ◌≤◌};
+ghost use Rattle.std.specs.Prelude.{◌≡◌, ◌+◌, ◌*◌, ◌/◌, ◌<◌, ◌≤◌};
 ghost use Rattle.rfb_picture.specs.Grid.{Holds};
+ghost use Rattle.rfb_picture.specs.Box.{is_in};
 ghost use Rattle.rfb_picture.specs.layout.Edges.{HasEdges};
 ghost use Rattle.rfb_picture.specs.layout.PlaceSet.{in_set, IsLayers};
 
@@ -59,8 +60,33 @@ impl Layers {
             return Some(Edges::of(zone));
         }
         if self.used.has(zone.x / 64, zone.y / 64) {
-            return self.places.edges_in(zone);
+            return self.edges_of_marks(zone);
         }
         None
+    }
+
+    // The edges of the marked places of a zone of one cell. Rows that are not noted need no look.
+    fn edges_of_marks(&self, zone: Rect) -> Option<Edges>
+        requires sound { IsLayers self.now }
+        requires room { Holds self.now.places zone }
+        requires some { (0 < zone.w) × (0 < zone.h) }
+        requires column { zone.x + zone.w ≤ zone.x / 64 * 64 + 64 }
+        requires row { zone.y + zone.h ≤ zone.y / 64 * 64 + 64 }
+        ensures { HasEdges (is_in self.now.places) zone result }
+    {
+        let rows = self
+            .noted
+            .bits_between(zone.x / 64, zone.y, zone.y + zone.h);
+        if rows == 0 {
+            return None;
+        }
+        let top = usize::from(zone.y) / 64 * 64;
+        let first = top + rows.trailing_zeros() as usize;
+        let last = top + 63 - rows.leading_zeros() as usize;
+        self.places.edges_in(Rect {
+            y: first as u16,
+            h: (last - first + 1) as u16,
+            ..zone
+        })
     }
 }

@@ -1,9 +1,9 @@
 //! The next cell in which a set has a place, by the marks of cells.
 
-ghost use Rattle.std.specs.Prelude.{◌≡◌, ◌+◌, ◌*◌, ◌<◌, true};
+ghost use Rattle.std.specs.Prelude.{◌≡◌, ◌+◌, ◌*◌, ◌/◌, ◌%◌, ◌<◌, true};
 ghost use Rattle.std.specs.Bool.{OnTrue, OnFalse};
 ghost use Rattle.rfb_picture.specs.CellOrder.{NoneInCells, HasPlaceIn, HasNextCell, cells_in};
-ghost use Rattle.rfb_picture.specs.layout.PlaceSet.{in_set, IsLayers, HasNextOpen};
+ghost use Rattle.rfb_picture.specs.layout.PlaceSet.{in_set, is_open, IsLayers, HasNextOpen};
 
 use super::layers::Layers;
 
@@ -45,6 +45,20 @@ impl Layers {
             row = usize::from(self.full.next_row_of_either(&self.used, row as u16 + 1));
         }
         None
+    }
+
+    /// Whether the cell of that number is full or used.
+    #[inline]
+    pub(super) fn is_open(&self, cell: usize) -> bool
+        requires sound { IsLayers self.now }
+        requires cell { cell < self.now.full.width * self.now.full.height }
+        ensures { result
+            ≡ is_open self.now (cell % self.now.full.width) (cell / self.now.full.width) }
+    {
+        let across = usize::from(self.full.width());
+        let column = (cell % across) as u16;
+        let row = (cell / across) as u16;
+        self.full.has(column, row) || self.used.has(column, row)
     }
 
     // Whether the cell of that number has a place of the set.

@@ -68,13 +68,8 @@ impl Layers {
     {
         if self.full.has(column, row) {
             let zone = self.zone_of(column, row);
-            self.places.add(zone);
-            self.used.add(Rect {
-                x: column,
-                y: row,
-                w: 1,
-                h: 1,
-            });
+            self.mark(zone);
+            self.used.add_one(column, row);
             self.full.remove(column, row);
         }
     }

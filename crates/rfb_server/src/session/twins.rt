@@ -130,18 +130,29 @@ impl Session {
         self.asks_all(true) && other.asks_all(true)
     }
 
-    // Whether all of the screen is asked, all of it whole or none.
+    // Whether all of the screen is asked, all of it whole or none. Of one that is not asked whole
+    // the area has noted that.
     fn asks_all(&self, whole: bool) -> bool
         ensures { OnTrue result (AsksAll whole self.now) }
+    {
+        if whole {
+            return self.asks_whole();
+        }
+        if !self.area.asks_all() {
+            return false;
+        }
+        self.area.is_plain()
+    }
+
+    // Whether all of the screen is asked whole.
+    fn asks_whole(&self) -> bool
+        ensures { OnTrue result (AsksAll true self.now) }
     {
         let all = Rect::whole(self.known.width(), self.known.height());
         if !self.area.asked().has_all(all) {
             return false;
         }
-        if whole {
-            return self.area.whole().has_all(all);
-        }
-        self.area.whole().next_cell(0).is_none()
+        self.area.whole().has_all(all)
     }
 
     // Whether both know the same of all that may need sending. Where it is not known that they do,

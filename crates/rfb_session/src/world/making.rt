@@ -2,6 +2,7 @@
 
 ghost use Rattle.std.specs.Prelude.{◌≤◌, ℕ, All, IfOk};
 
+use crate::disposal::dispose;
 use crate::event::Event;
 use crate::told::NoMemory;
 use crate::world::World;
@@ -37,8 +38,13 @@ impl World {
         ensures { IfOk result (λ world. Played width height events.now world) }
     {
         let mut world = World::made(alloc, width, height)?;
-        world.run(events)?;
-        Ok(world)
+        match world.run(events) {
+            Ok(()) => Ok(world),
+            Err(wanting) => {
+                dispose(world);
+                Err(wanting)
+            }
+        }
     }
 
     // Those two ends, before any event.

@@ -1,4 +1,4 @@
-use Rattle.rfb_picture.proofs.AreaLemmas.{area-no_places}
+use Rattle.rfb_picture.proofs.AreaLemmas.{noted-no_places}
 use Rattle.rfb_picture.proofs.area.Area.clear.Goals as goal
 
 pub invariant_of-self : goal.invariant_of-self
@@ -6,7 +6,7 @@ invariant_of-self c =
     rw (
       c.clear.ensures.value,
       c.clear-2.ensures.value,
-      c.self.invariant.wide,
-      c.self.invariant.high,
+      c.self.invariant.area.wide,
+      c.self.invariant.area.high,
     )
-    (area-no_places c.self.inside.asked.width c.self.inside.asked.height)
+    (noted-no_places c.self.inside.asked.width c.self.inside.asked.height)

@@ -1,7 +1,7 @@
-use Rattle.rfb_picture.proofs.AreaLemmas.{area-no_places}
+use Rattle.rfb_picture.proofs.AreaLemmas.{noted-no_places}
 use Rattle.rfb_picture.proofs.area.Area.new.Goals as goal
 
 pub invariant_of-result : goal.invariant_of-result
 invariant_of-result c =
     rw (c.in_ok-asked.ensures.value, c.in_ok-whole.ensures.value)
-    (area-no_places c.args.width c.args.height)
+    (noted-no_places c.args.width c.args.height)

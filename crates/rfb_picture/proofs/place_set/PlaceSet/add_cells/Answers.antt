@@ -7,10 +7,10 @@ use Rattle.rfb_picture.proofs.place_set.PlaceSet.add_cells.Goals as goal
 pub invariant_of-self : goal.invariant_of-self
 invariant_of-self c =
     let l = c.self.inside.layers in
-    same_sizes l _ c.self.invariant refl refl c.add.ensures.width c.add.ensures.height refl refl
-    c.self.invariant.all_places
+    same_sizes l _ c.self.invariant refl refl c.add.ensures.width c.add.ensures.height refl refl refl
+    refl c.self.invariant.all_places
     (rw c.add.ensures.value (whole-changed _ l.full c.self.invariant.all_full))
-    c.self.invariant.all_used
+    c.self.invariant.all_used c.self.invariant.all_noted c.self.invariant.marks_noted
 
 pub returns-then-inner-gt0-2-clause-value : goal.returns-then-inner-gt0-2-clause-value
 returns-then-inner-gt0-2-clause-value c =

@@ -1,6 +1,6 @@
 use Rattle.std.proofs.Common.{◌-◌, ◌*◌}
 use Rattle.rfb_picture.specs.CellOrder.{cells_in}
-use Rattle.rfb_picture.proofs.NextCellLemmas.{AreApart}
+use Rattle.rfb_picture.proofs.ApartLemmas.{AreApart}
 use Rattle.rfb_picture.proofs.place_set.PlaceSet.next_open_of_both.Given as goal
 
 abbrev pub invariant-loop-here : goal.invariant-loop-here

@@ -23,8 +23,8 @@ returns-then-has-2 c =
     sym c.has.ensures ∙ c.if-has.false in
     let used : is_in l.used (c.args.zone.x / 64) (c.args.zone.y / 64) ≡ true =
     sym c.has-2.ensures ∙ c.if-has-2.true in
-    same_edges (is_in l.places) (in_set l) c.args.zone c.edges_in.result
+    same_edges (is_in l.places) (in_set l) c.args.zone c.edges_of_marks.result
     (λ x y inside.
     let cell = same_cell c.args.zone x y c.requires.column c.requires.row inside in
     rw (cell.0, cell.1, full, used) refl)
-    c.edges_in.ensures
+    c.edges_of_marks.ensures

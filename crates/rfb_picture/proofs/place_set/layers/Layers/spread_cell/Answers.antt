@@ -8,6 +8,6 @@ returns-then-has c =
     let l = c.args.self.now in
     let full : is_in l.full c.args.column c.args.row ≡ true = sym c.has.ensures ∙ c.if-has.true in
     let part = cell_part l.places.width l.places.height c.args.column c.args.row in
-    rw (c.add.ensures.value, c.add-then-has.ensures.value, c.remove.ensures.value, c.zone_of-zone.ensures)
+    rw (c.remove.ensures.value, c.add_one.ensures.value, c.mark.ensures, c.zone_of-zone.ensures)
     (spread_full c.args.column c.args.row l _ c.requires.sound c.requires.column c.requires.row full
     part)

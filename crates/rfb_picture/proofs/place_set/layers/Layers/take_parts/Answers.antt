@@ -1,5 +1,5 @@
 use Rattle.std.proofs.Common.{◌+◌, arith}
-use Rattle.rfb_picture.proofs.TakenLemmas.{rows_more, rows_passed, none_lost}
+use Rattle.rfb_picture.proofs.TakenRowLemmas.{rows_more, rows_passed, none_lost}
 use Rattle.rfb_picture.proofs.place_set.layers.Layers.take_parts.Goals as goal
 
 pub loop-row-init : goal.loop-row-init
