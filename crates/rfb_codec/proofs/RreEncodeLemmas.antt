@@ -1,6 +1,6 @@
 -- Laws of the bytes that a cover is written as.
 use Rattle.std.proofs.Common.{◌≡◌, ℕ, ◌+◌, ◌*◌, ◌/◌, ◌^◌, ◌<◌, ◌≤◌, List, [], ◌∷◌, ◌++◌, length, arith, refl, ap, ◌∙◌}
-use Rattle.std.proofs.Common.{sym, append-nil, length-append}
+use Rattle.std.proofs.Common.{sym, append-nil, length-append, slice_index}
 use Rattle.std.proofs.Math.Nat.{mod-eq_of_lt, mul-le-mul_right}
 use Rattle.std.proofs.lemmas.Nat.{div_below}
 use Rattle.std.proofs.lemmas.List.{drop_at, get_or_default}
@@ -19,7 +19,9 @@ use Rattle.rfb_codec.specs.declared.subrect.Subrect.{Subrect}
 use Rattle.rfb_codec.specs.Pixels.{IsPixel, HasPixels}
 use Rattle.rfb_codec.specs.Rre.{SpellsRreHead, SpellsSubrect, SpellsInside}
 use Rattle.rfb_codec.specs.Choice.{IsPixelOf, IsBackground, AreRuleSubs, subrect_bytes, StandsRreByRule}
+use Rattle.rfb_codec.specs.declared.choice.palette.Palette.TheVariants.{One}
 use Rattle.rfb_codec.specs.encoder.Cover.{ArePartsOf, IsCover}
+use Rattle.rfb_codec.specs.encoder.Palette.{HasPalette}
 use Rattle.rfb_codec.proofs.PixelLemmas.{length-pixel_bytes}
 
 -- a pixel of the format is read back from its bytes
@@ -122,3 +124,14 @@ limit_fits places size n few small =
     let below : places * size / (size + 8) < n + 1 =
     div_below (places * size) (size + 8) (n + 1) (omega arith) (omega (arith, bytes, pixels)) in
     omega arith
+
+-- of a block of one pixel no subrectangle is needed
+pub none_needed : (width height : ℕ) (pixels : List ℕ) (pixel : ℕ) → length pixels ≡ height * width →
+    HasPalette (One pixel) pixels → AreRuleSubs width height pixels pixel [] × IsCover width height pixels pixel []
+none_needed width height pixels pixel whole one =
+    let there : (x y : ℕ) → x < width → y < height → slice_index pixels (y * width + x) ≡ pixel =
+    λ x y left below. let under = place_below width height x y left below in
+    one (y * width + x) (omega (arith, whole)) in (
+      record { each = tt; none = λ x y left below is. is.0 (there x y left below) },
+      record { parts = tt; shows = λ x y left below. sym (there x y left below) },
+    )

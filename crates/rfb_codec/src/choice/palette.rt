@@ -80,15 +80,16 @@ fn places_of(pixels: &[u32], pixel: u32) -> usize
     count as usize
 }
 
-/// The background of a block, as `background_of` has it. That of one pixel or of two is counted at
-/// once.
-pub fn background_by_palette(pixels: &[u32], most: usize) -> Option<u32>
+/// The background of a block whose pixels are known to be these, as `background_of` has it. It is
+/// known of one pixel and of two.
+pub fn background_in(palette: Palette, pixels: &[u32], most: usize) -> Option<u32>
     requires some { 0 < length pixels.now }
     requires few { length pixels.now ≤ PLACES }
+    requires palette { HasPalette palette pixels.now }
     ensures background { IfSome result (λ pixel. IsBackground pixels.now pixel) }
     ensures more { IfNone result (HasMore most pixels.now) }
 {
-    match palette_of(pixels) {
+    match palette {
         Palette::One(pixel) => Some(pixel),
         Palette::Two { background, .. } => Some(background),
         Palette::More => background_of(pixels, most),

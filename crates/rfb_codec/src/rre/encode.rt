@@ -11,10 +11,12 @@ ghost use Rattle.rfb_codec.specs.Pixels.{HasPixels};
 ghost use Rattle.rfb_codec.specs.Choice.{StandsRreByRule, IsNoShorter, subrect_bytes};
 ghost use Rattle.rfb_wire.specs.declared.encoding.Encoding.TheVariants.{Rre as RreEncoding};
 ghost use Rattle.rfb_codec.specs.Codec.{Appends, raw_of};
+ghost use Rattle.rfb_codec.specs.encoder.Palette.{HasPalette};
+ghost use Rattle.rfb_codec.specs.declared.choice.palette.Palette.TheVariants.{One};
 
 use crate::block::Block;
 use crate::choice::cover::cover;
-use crate::choice::palette::background_by_palette;
+use crate::choice::palette::{Palette, background_in, palette_of};
 use crate::codec::Codec;
 use crate::subrect::Subrect;
 use arrayvec::ArrayVec;
@@ -84,7 +86,11 @@ fn encode_with<const N: usize>(block: &Block, format: &Format, out: &mut Vec<u8>
     // More subrectangles than that are as long as Raw by themselves, and each pixel but the
     // background needs one.
     let limit = raw / (size + 8);
-    let Some(background) = background_by_palette(pixels, limit + 1) else {
+    let palette = palette_of(pixels);
+    if let Palette::One(pixel) = palette {
+        return append_flat(block, format, pixel, out);
+    }
+    let Some(background) = background_in(palette, pixels, limit + 1) else {
         return false;
     };
     let mut subs: ArrayVec<Subrect, N> = ArrayVec::new();
@@ -96,6 +102,32 @@ fn encode_with<const N: usize>(block: &Block, format: &Format, out: &mut Vec<u8>
     }
     append_head(out, format, subs.len() as u32, background);
     append_subrects(out, format, subs.as_slice());
+    true
+}
+
+// The same of a block that has one pixel: the background is all, and no list is made.
+fn append_flat(block: &Block, format: &Format, pixel: u32, out: &mut Vec<u8>) -> bool
+    requires some { 0 < length block.now.places }
+    requires whole { length block.now.places ≡ block.now.height * block.now.width }
+    requires one { HasPalette (One pixel) block.now.places }
+    requires pixels { HasPixels format.now block.now }
+    requires room { vec_len out.old + raw_of format.now block.now ≤ vec_capacity out.old }
+
+    ensures given_up { OnFalse result (IsNoShorter format.now block.now) }
+    ensures kept { OnFalse result (out.new.items ≡ out.old.items) }
+    ensures room { vec_capacity out.new ≡ vec_capacity out.old }
+    ensures spelled { OnTrue result
+        (Appends (λ f block bytes. StandsRreByRule f block bytes)
+        format.now block.now out.old.items out.new.items) }
+    ensures shorter { OnTrue result
+        (vec_len out.new < vec_len out.old + raw_of format.now block.now) }
+{
+    let (width, height) = (usize::from(block.width()), usize::from(block.height()));
+    let size = format.size();
+    if height * width * size <= 4 + size {
+        return false;
+    }
+    append_head(out, format, 0, pixel);
     true
 }
 

@@ -73,13 +73,13 @@ returns-clause-spelled g c =
       rw length-append (omega (arith, first, more, raw, data_of)),
     )
 
-pub returns-in_default-clause-given_up : goal.returns-in_default-clause-given_up
-returns-in_default-clause-given_up g c =
+pub returns-in_default-background_in-clause-given_up : goal.returns-in_default-background_in-clause-given_up
+returns-in_default-background_in-clause-given_up g c =
     let f = c.args.format.now in
     let block = c.args.block.now in
-    let is = sizes g (goal.at.returns-in_default-clause-given_up g c).After-size-size in
+    let is = sizes g (goal.at.returns-in_default-background_in-clause-given_up g c).After-size-size in
     let more : HasMore (raw_of f block / (size_of f + 8) + 1) block.places =
-    rw (is.0, is.1, is.2, c.pixels-pixels.ensures.value) at c.in_default.ensures.more in
+    rw (is.0, is.1, is.2, c.pixels-pixels.ensures.value) at c.in_default-background_in.ensures.more in
     many_pixels f block (raw_of f block / (size_of f + 8)) c.pixels-pixels.ensures.whole refl more
 
 pub returns-then-not-cover-clause-given_up : goal.returns-then-not-cover-clause-given_up
