@@ -16,6 +16,7 @@ import threading
 import time
 
 from messages import cut_text, key, pixel_format, pointer, request, set_encodings
+from peers import connected
 from sharing import Share, Viewer, run_rows, viewers, wait_for
 
 MANY = int(os.environ.get("MANY", "400"))
@@ -103,6 +104,21 @@ def the_end_of_input_leaves_the_screen():
     share.say("\nbad\n")
     share.run.stdin.close()
     share.ends(1)
+
+
+def a_connection_that_is_no_viewer_ends_nothing():
+    share = Share("--until-idle")
+    share.say("screen 2 1\nfill 0 0 2 1 010203\n")
+    for number in range(1, 4):
+        connected(share.port).close()
+        wait_for(lambda: share.output.count(b"leave 0") == number, share.output)
+    viewer = Viewer(share).hello()
+    viewer.sees(1, 0, (1, 2, 3))
+    connected(share.port).close()
+    wait_for(lambda: b"leave 1" in share.output, share.output)
+    viewer.sees(0, 0, (1, 2, 3))
+    viewer.close()
+    share.ends()
 
 
 def the_last_line_may_lack_its_newline():
@@ -446,7 +462,8 @@ def video(width=640, height=480, frames=30):
 
 
 ROWS = [each_line_draws_and_each_event_is_reported, a_scroll_is_sent_as_a_copy,
-        the_end_of_input_leaves_the_screen, the_last_line_may_lack_its_newline,
+        the_end_of_input_leaves_the_screen, a_connection_that_is_no_viewer_ends_nothing,
+        the_last_line_may_lack_its_newline,
         a_last_line_that_is_bad_is_explained, a_ninth_is_let_go_and_sole_use_ends_the_others,
         a_stuck_viewer_holds_nobody_up, a_faulty_viewer_ends_alone,
         a_flood_of_requests_is_answered_by_few_updates, a_client_may_send_a_byte_at_a_time,

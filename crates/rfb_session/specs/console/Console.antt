@@ -95,7 +95,7 @@ LineEnds old new = RunsOut old new ⊎ (new ≡ Some Quit)
 abbrev pub OwnerEnds : Option Desk → Option Outcome → Type 0
 OwnerEnds desk new = (new ≡ Some Quit) ⊎ ((desk ≡ None) × ((line : ℕ) × (new ≡ Some (BadLine line))))
 
--- viewers came, and the last of them has gone
+-- some viewer's handshake was done, and the last of them has gone
 abbrev pub IsIdle : Option Desk → Type 0
 IsIdle None = ⊥
 IsIdle (Some desk) = is_idle desk ≡ true

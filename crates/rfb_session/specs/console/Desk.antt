@@ -53,7 +53,7 @@ seated_in desk (suc count) = seated_in desk count + cond (is_here (guest_at desk
 abbrev pub seated : Desk → ℕ
 seated desk = seated_in desk 8
 
--- viewers came, and there is none
+-- some viewer's handshake was done, and there is none now
 abbrev pub is_idle : Desk → Bool
 is_idle desk = desk.came && nat_eq (seated desk) 0
 

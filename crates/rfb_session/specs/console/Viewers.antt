@@ -117,6 +117,11 @@ progress_after (Some (Key down key)) progress = progress
 progress_after (Some (Pointer buttons x y)) progress = progress
 progress_after (Some (CutText kept text_length)) progress = progress
 
+-- a viewer came before, or its handshake is done now
+abbrev pub came_after : Option SeatEvent → Bool → Bool
+came_after (Some (IsReady shared)) came = true
+came_after event came = came
+
 -- a line reports to the owner what a viewer did
 pub record TellsEvent (old : Desk) (k : ℕ) (event : Option SeatEvent) (new : Desk) : Type 0 where
   pub share : new.share ≡ old.share
@@ -126,6 +131,7 @@ pub record TellsEvent (old : Desk) (k : ℕ) (event : Option SeatEvent) (new : D
   pub told : (guest_at new k).told ≡ (guest_at old k).told
   pub others : OtherGuests old k new
   pub lines : lines_of new ≡ lines_of old ++ told_line old.rules.view_only k event
+  pub came : new.came ≡ came_after event old.came
   pub rules : KeepsRules old new
 
 -- the bytes that wait for the owner beyond so many report a viewer, and are counted
@@ -244,7 +250,7 @@ pub record Welcomes (old : Desk) (k : ℕ) (new : Desk) : Type 0 where
   pub share : new.share ≡ old.share
   pub more : seated new ≤ suc (seated old)
   pub guest : guest_at new k ≡ newcomer
-  pub came : new.came ≡ true
+  pub came : new.came ≡ old.came
   pub others : OtherGuests old k new
   pub lines : lines_of new ≡ lines_of old
   pub rules : KeepsRules old new

@@ -38,7 +38,7 @@ pub(crate) struct Desk {
     lines: Vec<u8>,
     rules: Rules,
     hold: Hold,
-    // Whether a viewer ever came.
+    // Whether a viewer's handshake was ever done.
     came: bool,
     // When it wants the next turn.
     next: Option<u64>,
@@ -200,7 +200,7 @@ impl Desk {
         !self.is_over(seat) && self.guests[seat.place()].told < TOLD_MOST
     }
 
-    /// Whether viewers came, and the last of them has gone.
+    /// Whether there were viewers whose handshake was done, and now there is none at all.
     pub(crate) fn is_idle(&self) -> bool
         ensures { result ≡ is_idle self.now }
     {

@@ -132,11 +132,11 @@ impl Session {
         requires rows { rect.h ≤ 64 }
         requires room { vec_len out.old + 12 + raw_length self.old.format rect.w rect.h
             ≤ vec_capacity out.old }
+        ensures room { vec_capacity out.new ≡ vec_capacity out.old }
         ensures kept { IsKept self.old self.new }
         ensures about { Follows screen.now self.new }
         ensures sent { AppendsPixels screen.now rect self.old self.new
             out.old.items out.new.items }
-        ensures room { vec_capacity out.new ≡ vec_capacity out.old }
     {
         let head = RectHead {
             rect,

@@ -57,7 +57,6 @@ impl Desk {
         ensures { Welcomes self.old seat self.new }
     {
         self.guests[seat.place()] = Guest::new();
-        self.came = true;
     }
 
     // There is no seat for a connection.

@@ -99,6 +99,7 @@ impl Desk {
         match event {
             Some(SeatEvent::Ready { .. }) => {
                 self.guests[seat.place()].progress = Progress::Ready;
+                self.came = true;
                 tell_join(&mut self.lines, seat.number())
             }
             Some(event) => {
