@@ -227,6 +227,9 @@ impl PlaceSet {
         } else if rect == Rect::whole(self.width(), self.height()) {
             // Most requests are for all places, which are cells without a border.
             self.add_cells(rect);
+        } else if rect.w < 64 && rect.h < 64 {
+            // It has no cell whole but at the picture's edges, where marks do as well.
+            self.add_part(rect);
         } else {
             self.add_by_parts(rect);
         }
