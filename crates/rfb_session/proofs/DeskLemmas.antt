@@ -25,8 +25,8 @@ use Rattle.rfb_session.specs.owner.ShareLines.{leave_line}
 use Rattle.rfb_session.specs.console.SeatLines.{leave_lines, told_line}
 use Rattle.rfb_session.specs.console.Desk.{nobody, guest_at, lines_of, is_over, tells_in, KeepsRules}
 use Rattle.rfb_session.specs.console.Viewers.{Parts, TellsEvent, CountsTold}
-use Rattle.rfb_session.specs.console.Turns.{KeepsBeside, TriesOne}
-use Rattle.rfb_session.specs.console.Turns.{Serves, Rested, Tried, Wanted}
+use Rattle.rfb_session.specs.console.Updates.{KeepsBeside, TriesOne}
+use Rattle.rfb_session.specs.console.Updates.{Serves, Rested, Tried, Wanted}
 use Rattle.rfb_session.specs.console.Viewers.{TellsOf, Fails, Stirs, HearsAt, Took, Refused, progress_after}
 use Rattle.rfb_session.specs.console.Viewers.{told_after}
 

@@ -1,9 +1,9 @@
 -- The seats of a desk are served going round, up to one for which a large update is composed.
 use Rattle.std.proofs.Common.{◌≡◌, ◌<◌, ◌≤◌, ◌+◌, ◌∙◌, ◌||◌, ◌&&◌, ◌⊎◌, ℕ}
-use Rattle.std.proofs.Common.{suc, Bool, true, false, not, List, []}
+use Rattle.std.proofs.Common.{suc, Bool, true, false, not, []}
 use Rattle.std.proofs.Common.{Option, Some, None, refl}
-use Rattle.std.proofs.lemmas.Bool.{both_ways, false≢true}
-use Rattle.std.proofs.Common.{sym, ap, subst, arith, inl, inr, length, nat_eq}
+use Rattle.std.proofs.lemmas.Bool.{both_ways}
+use Rattle.std.proofs.Common.{sym, ap, subst, arith, inl, inr, nat_eq}
 use Rattle.std.proofs.lemmas.Bool.Decides.{eqb_tells, leb_tells}
 use Rattle.rfb_session.specs.declared.console.desk.Desk.{Desk}
 use Rattle.rfb_session.specs.declared.share.seat.ShareSeat.{ShareSeat}
@@ -11,72 +11,17 @@ use Rattle.rfb_session.specs.Rounds.{seat_after, seats_before}
 use Rattle.rfb_session.specs.Share.{seat_in, screen_of, waiting_for}
 use Rattle.rfb_session.specs.ShareSteps.{KeepsScreen}
 use Rattle.rfb_session.specs.ShareWork.{RestsIn}
-use Rattle.rfb_session.specs.console.Turns.{Serves, ServesUnless, ComposesOne, RoundUpTo, ComposesRound, IsLarge}
-use Rattle.rfb_session.specs.console.Turns.{KeepsBeside, OrPutOff, TriesOne, Tried, Rested}
-use Rattle.rfb_pixel.specs.declared.colour.Colour.{Colour}
-use Rattle.rfb_picture.specs.Grid.{Grid}
+use Rattle.rfb_session.specs.console.Updates.{Serves, ServesUnless, ComposesOne, RoundUpTo, ComposesRound, IsLarge}
+use Rattle.rfb_session.specs.console.Updates.{KeepsBeside, OrPutOff, TriesOne, Tried, Rested}
 use Rattle.rfb_picture.specs.Places.{has_bit}
 use Rattle.rfb_session.specs.ShareSlots.{ComposesIn}
-use Rattle.rfb_session.specs.console.Turns.{IsGivenSmall}
+use Rattle.rfb_session.specs.console.Updates.{IsGivenSmall}
 use Rattle.rfb_session.specs.ShareTwins.{IsGiven}
 use Rattle.rfb_session.specs.declared.share.event.Composing.TheVariants.{Composed}
 use Rattle.rfb_session.proofs.DeskLemmas.{both_stay, serves_one, serves_more, or_first, or_second}
+use Rattle.rfb_session.proofs.DeskSeatLemmas.{not_large, gift_small, not_put_off, put_off, put_off_more}
+use Rattle.rfb_session.proofs.DeskSeatLemmas.{differs, first_of, second_of, not_true, first_false, second_false}
 use Rattle.rfb_session.proofs.RoundLemmas.{after_below, before_below, before_after, before_one}
-
--- where nothing changed no large update was composed
-pub not_large : (old new : Option ShareSeat) → new ≡ old → IsLarge old new → ⊥
-not_large old new same large =
-    let none : waiting_for new ≡ [] = ap (λ (o : Option ShareSeat). waiting_for o) same ∙ large.written in
-    omega (arith, large.large, ap (λ (l : List ℕ). length l) none)
-
--- nor where one was given that is none
-gift_small : (screen : Grid Colour) (was one old new : Option ShareSeat) → waiting_for was ≡ [] →
-    IsGiven screen one old new → (IsLarge was one → ⊥) → IsLarge old new → ⊥
-gift_small screen was one old new written given small large = small (record {
-  written = written;
-  large = rw (sym given.same) large.large;
-})
-
-pub first_of : (a b : Bool) → (a && b) ≡ true → a ≡ true
-first_of true b e = refl
-first_of false b e = absurd cc
-
-pub second_of : (a b : Bool) → (a && b) ≡ true → b ≡ true
-second_of true b e = e
-second_of false b e = absurd cc
-
-pub not_true : (b : Bool) → not b ≡ true → b ≡ false
-not_true true e = absurd cc
-not_true false e = refl
-
-pub first_false : (a b : Bool) → a ≡ false → (a && b) ≡ false
-first_false a b e = rw e refl
-
-pub second_false : (a b : Bool) → b ≡ false → (a && b) ≡ false
-second_false true b e = e
-second_false false b e = refl
-
-pub differs : (k n : ℕ) → (k ≡ n → ⊥) → nat_eq k n ≡ false
-differs k n other = elim (eqb_tells k n) [
-  | inl same ↦ absurd (other same.1)
-  | inr not_same ↦ not_same.0
-]
-
--- what is done where nobody is put off is done where somebody may be
-pub not_put_off : (busy : Bool) (Does : Type 0) (old new : Option ShareSeat) → Does → OrPutOff busy Does old new
-not_put_off false Does old new does = does
-not_put_off true Does old new does = inr does
-
-put_off : (busy : Bool) (Does : Type 0) (old new : Option ShareSeat) → busy ≡ true → new ≡ old →
-    OrPutOff busy Does old new
-put_off true Does old new is same = inl same
-put_off false Does old new is same = absurd (false≢true is)
-
-put_off_more : (busy : Bool) (Does More : Type 0) (old new : Option ShareSeat) → (Does → More) →
-    OrPutOff busy Does old new → OrPutOff busy More old new
-put_off_more false Does More old new more does = more does
-put_off_more true Does More old new more (inl same) = inl same
-put_off_more true Does More old new more (inr does) = inr (more does)
 
 -- before the first seat
 pub round_start : (busy : Bool) (old : Desk) (due : ℕ) → RoundUpTo 0 busy old due due false old
@@ -348,8 +293,9 @@ module _ {step p due left others given : ℕ} (less : ℕ) (busy : Bool) {old mi
       ComposesRound old busy (wants || more) (Some p) new
   round_ends is_large = record {
     seats = λ k low.
-        let Served : Bool → Type 0 = λ (b : Bool). OrPutOff busy (ServesUnless b (screen_of old.share) (wants || more)
-        (seat_in old.share k) (seat_in new.share k)) (seat_in old.share k) (seat_in new.share k) in
+        let Served : Bool → Type 0 = λ (b : Bool). OrPutOff busy
+        (ServesUnless b (screen_of old.share) (wants || more) (seat_in old.share k) (seat_in new.share k))
+        (seat_in old.share k) (seat_in new.share k) in
         elim (leb_tells (suc (seats_before old.first p)) (seats_before old.first k)) [
           | inl far ↦
               subst Served (sym far.0) (not_put_off busy _ _ _ (later_serves k low (omega (arith, far.1, place))))
@@ -381,7 +327,8 @@ round_done busy old due left wants new all = record {
 
 -- nobody is left
 pub round_rests : (busy : Bool) (old : Desk) (due left step : ℕ) (wants : Bool) (new : Desk) →
-    ((k : ℕ) → has_bit due k ≡ false → (busy ≡ true) ⊎ RestsIn (screen_of old.share) (seat_in old.share k)) →
+    ((k : ℕ) → has_bit due k ≡ false →
+    (busy ≡ true) ⊎ RestsIn (screen_of old.share) (seat_in old.share k)) →
     RoundUpTo step busy old due left wants new → ((k : ℕ) → has_bit left k ≡ false) →
     ComposesRound old busy wants None new
 round_rests busy old due left step wants new rests all none = record {

@@ -14,10 +14,10 @@ use Rattle.rfb_session.specs.Share.{seat_in, screen_of}
 use Rattle.rfb_session.specs.ShareSlots.{ComposesIn}
 use Rattle.rfb_session.specs.ShareSteps.{KeepsScreen}
 use Rattle.rfb_session.specs.ShareWork.{RestsIn}
-use Rattle.rfb_session.specs.console.Turns.{Serves, ComposesOne, SharesUpTo, ComposesAll}
-use Rattle.rfb_session.specs.console.Turns.{KeepsBeside, TriesOne, Tried, Rested}
+use Rattle.rfb_session.specs.console.Updates.{Serves, ComposesOne, SharesUpTo, ComposesAll}
+use Rattle.rfb_session.specs.console.Updates.{KeepsBeside, TriesOne, Tried, Rested}
 use Rattle.rfb_session.proofs.DeskLemmas.{both_stay, serves_one, serves_more, or_first, or_second}
-use Rattle.rfb_session.proofs.DeskRoundLemmas.{differs, first_of, second_of, not_true, first_false, second_false}
+use Rattle.rfb_session.proofs.DeskSeatLemmas.{differs, first_of, second_of, not_true, first_false, second_false}
 
 -- before the first seat
 pub shares_start : (old : Desk) (due : ℕ) → SharesUpTo 0 old due due false old

@@ -18,10 +18,11 @@ use Rattle.rfb_session.specs.console.SeatLines.{leave_lines}
 use Rattle.rfb_session.specs.console.Desk.{nobody, guest_at, lines_of, is_over, tells_in}
 use Rattle.rfb_session.specs.console.Time.{stamped, is_slow, is_stuck, waits_for}
 use Rattle.rfb_session.specs.console.Viewers.{LetsAllGo}
-use Rattle.rfb_session.specs.console.Turns.{ReleasesAll, StampsAll, Stills, ComposesRound, KeepsBeside, GoesRound}
-use Rattle.rfb_session.specs.console.Turns.{Wakes, ServesUnless, EndsLarge, OnlyLarge, IsLarge, hold_after, holds_at}
-use Rattle.rfb_session.specs.console.Turns.{IsBusy, OrPutOff, large_after}
-use Rattle.rfb_session.proofs.DeskRoundLemmas.{not_large, not_put_off}
+use Rattle.rfb_session.specs.console.Turns.{ReleasesAll, StampsAll, Stills, GoesRound, Wakes}
+use Rattle.rfb_session.specs.console.Turns.{hold_after, holds_at, large_after}
+use Rattle.rfb_session.specs.console.Updates.{ComposesRound, KeepsBeside, ServesUnless, OrPutOff}
+use Rattle.rfb_session.specs.console.Updates.{EndsLarge, OnlyLarge, IsLarge, IsBusy}
+use Rattle.rfb_session.proofs.DeskSeatLemmas.{not_large, not_put_off}
 use Rattle.rfb_session.specs.console.Turns.{TurnsAs, seat_kept, guest_then, is_late, tells_late, seat_left}
 
 leave_lines_below : (f g : ℕ → Bool) (n : ℕ) → ((k : ℕ) → k < n → f k ≡ g k) →

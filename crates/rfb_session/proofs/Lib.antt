@@ -130,6 +130,7 @@ pub mod EchoLemmas
 pub mod TenantLemmas
 pub mod RoundLemmas
 pub mod DeskLemmas
+pub mod DeskSeatLemmas
 pub mod DeskRoundLemmas
 pub mod DeskShowLemmas
 pub mod DeskTurnLemmas

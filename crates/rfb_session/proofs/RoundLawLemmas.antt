@@ -10,9 +10,10 @@ use Rattle.rfb_session.specs.Rounds.{seats_before, first_after, is_left}
 use Rattle.rfb_session.specs.Share.{seat_in, screen_of, waits_at}
 use Rattle.rfb_session.specs.ShareSlots.{ComposesIn}
 use Rattle.rfb_session.specs.ShareSeats.{Sends, session_at, waiting_in}
-use Rattle.rfb_session.specs.console.Turns.{TurnsAs, EndsLarge, IsLarge, ServesUnless, WakesAfter, seat_left}
+use Rattle.rfb_session.specs.console.Updates.{EndsLarge, IsLarge, ServesUnless, HasOfLast, OrPutOff}
+use Rattle.rfb_session.specs.console.Turns.{TurnsAs, WakesAfter, seat_left}
 use Rattle.rfb_session.specs.console.Time.{begun}
-use Rattle.rfb_session.specs.console.Turns.{IsLeftOut, IsLeftFor, IsPutOff, NotYet, Again, HasOfLast, OrPutOff}
+use Rattle.rfb_session.specs.console.Turns.{IsLeftOut, IsLeftFor, IsPutOff, NotYet, Again}
 use Rattle.rfb_session.specs.declared.share.event.Composing.TheVariants.{Composed}
 use Rattle.rfb_session.proofs.ShareLawLemmas.{composes_at}
 use Rattle.rfb_session.proofs.RoundLemmas.{before_below, left_comes, served_comes, next_before, next_after}
@@ -111,7 +112,8 @@ module _ (old : Desk) (now slow stuck : ℕ) (new : Desk) (turns : TurnsAs old n
       IsSent seat ⊎ IsLeftOut old now k new ⊎ IsPutOff old now k new
   due_sent_or_left seat shown enough there going written due = by turns.busy refl (turns.seats k within)
     where
-      served : IsSent seat ⊎ IsLeftOut old now k new → IsSent seat ⊎ IsLeftOut old now k new ⊎ IsPutOff old now k new
+      served : IsSent seat ⊎ IsLeftOut old now k new →
+          IsSent seat ⊎ IsLeftOut old now k new ⊎ IsPutOff old now k new
       served (inl sent) = inl sent
       served (inr left) = inr (inl left)
 

@@ -27,7 +27,7 @@ use Rattle.rfb_session.specs.ShareSteps.{SeatEnded, RefusesAs, WritesAs}
 use Rattle.rfb_session.specs.Slots.{OnSlot}
 use Rattle.rfb_session.specs.declared.share.event.SeatEvent.{SeatEvent}
 use Rattle.rfb_session.specs.console.Viewers.{HearsAt, Took, Refused, Admits, MakesRoom}
-use Rattle.rfb_session.specs.console.Turns.{OrPutOff, Serves, Rested, Tried, Wanted, ServesUnless}
+use Rattle.rfb_session.specs.console.Updates.{OrPutOff, Serves, Rested, Tried, Wanted, ServesUnless}
 use Rattle.rfb_session.proofs.ShareLifeLemmas.{lives_heard}
 use Rattle.rfb_session.proofs.ShareLawLemmas.{over, drawn_lives, refused_lives, written_lives, alone_lives, composes_at}
 use Rattle.rfb_session.proofs.ShareLawLemmas.{composed_seat, wanted_in, not_vacant, not_ended}

@@ -24,7 +24,8 @@ use Rattle.rfb_session.specs.ShareWork.{RestsIn}
 use Rattle.rfb_session.specs.console.Desk.{nobody, guest_at}
 use Rattle.rfb_session.specs.console.Time.{IsBy, IsByEnd, IsByLimit, IsBefore, has_lasted, lasts, is_slow, is_stuck}
 use Rattle.rfb_session.specs.console.Turns.{WakesFor, WakesAt, WakesAfter, TurnsAs, is_late, guest_then, seat_left}
-use Rattle.rfb_session.specs.console.Turns.{holds_at, hold_after, Serves, Rested, Tried, Wanted, ServesUnless}
+use Rattle.rfb_session.specs.console.Updates.{Serves, Rested, Tried, Wanted, ServesUnless}
+use Rattle.rfb_session.specs.console.Turns.{holds_at, hold_after}
 use Rattle.rfb_session.proofs.ShareLawLemmas.{composes_at}
 use Rattle.rfb_session.proofs.ShareWorkLemmas.{not_owed}
 

@@ -18,7 +18,8 @@ ghost use Rattle.rfb_session.specs.console.Console.{IsFreshConsole, OpensAs, wai
 ghost use Rattle.rfb_session.specs.console.Desk.{guest_at};
 ghost use Rattle.rfb_session.specs.console.Time.{IsBefore, is_slow, is_stuck};
 ghost use Rattle.rfb_session.specs.console.Turns.{TurnsAs, seat_left, holds_at};
-ghost use Rattle.rfb_session.specs.console.Turns.{IsLeftOut, IsLeftFor, IsLarge, IsPutOff};
+ghost use Rattle.rfb_session.specs.console.Turns.{IsLeftOut, IsLeftFor, IsPutOff};
+ghost use Rattle.rfb_session.specs.console.Updates.{IsLarge};
 ghost use Rattle.rfb_session.specs.console.History.{Lasts, HasRead, IsObeyed, TellsAll};
 ghost use Rattle.rfb_session.specs.console.History.{SeatLives, IsEmptySeat};
 ghost use Rattle.rfb_session.specs.console.History.{Happens, is_turn, KeepsFirst};

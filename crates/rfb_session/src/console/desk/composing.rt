@@ -5,8 +5,8 @@ ghost use Rattle.rfb_picture.specs.Places.{has_bit};
 ghost use Rattle.rfb_session.specs.Share.{screen_of, seat_in};
 ghost use Rattle.rfb_session.specs.ShareWork.{RestsIn};
 ghost use Rattle.rfb_session.specs.console.Time.{IsByEnd};
-ghost use Rattle.rfb_session.specs.console.Turns.{ComposesAll, ComposesOne, ComposesRound, IsBusy};
-ghost use Rattle.rfb_session.specs.console.Turns.{IsLarge};
+ghost use Rattle.rfb_session.specs.console.Updates.{ComposesAll, ComposesOne, ComposesRound};
+ghost use Rattle.rfb_session.specs.console.Updates.{IsBusy, IsLarge};
 
 use crate::console::desk::Desk;
 use crate::seat::Seat;

@@ -5,9 +5,9 @@ ghost use Rattle.rfb_picture.specs.Places.{has_bit};
 ghost use Rattle.rfb_session.specs.console.Desk.{guest_at};
 ghost use Rattle.rfb_session.specs.console.Time.{is_slow, is_stuck, IsBy};
 ghost use Rattle.rfb_session.specs.console.Turns.{TurnsAs, StampsAll, StampsOne, Stills};
-ghost use Rattle.rfb_session.specs.console.Turns.{ComposesRound, KeepsBeside, ReleasesAll};
-ghost use Rattle.rfb_session.specs.console.Turns.{ReleasesOne, GoesRound, Wakes, WakesAt};
-ghost use Rattle.rfb_session.specs.console.Turns.{WakesAfter};
+ghost use Rattle.rfb_session.specs.console.Turns.{ReleasesAll, ReleasesOne, GoesRound};
+ghost use Rattle.rfb_session.specs.console.Turns.{Wakes, WakesAt, WakesAfter};
+ghost use Rattle.rfb_session.specs.console.Updates.{ComposesRound, KeepsBeside};
 
 use crate::console::desk::composing::Round;
 use crate::console::desk::{Desk, Hold};

@@ -1,6 +1,6 @@
 use Rattle.std.proofs.Common.{◌≡◌, ◌<◌, ◌&&◌, ℕ, not, nat_eq, arith, subst}
 use Rattle.rfb_picture.specs.Places.{has_bit}
-use Rattle.rfb_session.specs.console.Turns.{ComposesOne, SharesUpTo}
+use Rattle.rfb_session.specs.console.Updates.{ComposesOne, SharesUpTo}
 use Rattle.rfb_session.proofs.DeskShowLemmas.{shares_start, shares_next, shares_done}
 use Rattle.rfb_session.proofs.console.desk.Desk.compose.Goals as goal
 

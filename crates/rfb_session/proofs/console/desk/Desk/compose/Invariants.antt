@@ -1,5 +1,5 @@
 -- The seats so far are served.
-use Rattle.rfb_session.specs.console.Turns.{SharesUpTo}
+use Rattle.rfb_session.specs.console.Updates.{SharesUpTo}
 use Rattle.rfb_session.proofs.console.desk.Desk.compose.Given as goal
 
 abbrev pub invariant-loop-place : goal.invariant-loop-place

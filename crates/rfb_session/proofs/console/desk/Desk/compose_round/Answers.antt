@@ -1,5 +1,5 @@
 use Rattle.std.proofs.Common.{ℕ, subst, arith}
-use Rattle.rfb_session.specs.console.Turns.{RoundUpTo}
+use Rattle.rfb_session.specs.console.Updates.{RoundUpTo}
 use Rattle.rfb_session.proofs.DeskRoundLemmas.{round_start, round_next, round_ends, round_done, round_rests}
 use Rattle.rfb_session.proofs.console.desk.Desk.compose_round.Goals as goal
 
