@@ -231,7 +231,7 @@ hint 0 0 1 2 0 0
 at 0 request full 0 0 2 1
 at 0 settle
 show 0
-""", BLACK, refused(3, b"31 SlotTaken", b"lets a viewer join where there is one")
+""", BLACK, refused(3, b"31 SlotTaken", b"lets a viewer join a slot that has one")
            + refused(4, b"32 NoSuchSlot", b"names a slot that has no viewer")
            + refused(5, *OUTSIDE) + refused(6, *NOT_READY), words="script --explain"),
 ]

@@ -225,7 +225,7 @@ def what_a_client_does_wrong_is_said_and_the_next_has_its_turn():
     told = f"rfb: listening on 127.0.0.1:{port}\n"
     for sent, sentence, _, *does in CLIENTS:
         name, _ = visits(port, sent, *does)
-        told += f"{name} has connected\nrfb: {sentence}\n{name} was let go\n"
+        told += f"{name} has connected\nrfb: {sentence}\n{name} was disconnected\n"
     run.ends(0, "".join(f"fault {row[2]}\n" for row in CLIENTS).encode(), told.encode())
 
 
@@ -236,7 +236,7 @@ def a_screen_for_a_viewer_without_memory_is_said():
     name, _ = visits(port, b"")
     run.ends(0, b"fault 30 NoMemory\n", (
         f"rfb: listening on 127.0.0.1:{port}\n{name} has connected\n"
-        f"rfb: there is no memory for the viewer\n{name} was let go\n").encode())
+        f"rfb: there is no memory for the viewer\n{name} was disconnected\n").encode())
 
 
 def a_viewer_that_cannot_be_answered_is_said():
@@ -245,7 +245,7 @@ def a_viewer_that_cannot_be_answered_is_said():
     run = Run(["serve", "--explain", f"--port={port}"], before=limited(resource.RLIMIT_NOFILE, 5))
     name, _ = visits(port, b"")
     run.ends(0, DEVICE, (f"rfb: listening on 127.0.0.1:{port}\n{name} has connected\n"
-                         f"{name} was let go: Too many open files (os error 24)\n").encode())
+                         f"{name} was disconnected: Too many open files (os error 24)\n").encode())
 
 
 ROWS = [

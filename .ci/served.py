@@ -1,5 +1,5 @@
 #!/usr/bin/env python3
-"""Viewers that are served: where it is listened, what they are shown, and when they are let go.
+"""Viewers that are served: where it is listened, what they are shown, and when they are disconnected.
 
     .ci/served.py PROGRAM..
 
@@ -166,7 +166,7 @@ def a_client_is_let_go_once_it_sends_nothing_in_the_time():
     assert 1.2 <= lasts < 5, lasts
     run.ends(0, DEVICE + b"ok 1\n", (
         f"rfb: listening on 127.0.0.1:{port}\n{silent} has connected\nrfb: {broken}\n"
-        f"{silent} was let go\n{stays} has connected\n"
+        f"{silent} was disconnected\n{stays} has connected\n"
         f"{stays} has left; updates sent: 1, in all so far: 1\n").encode())
 
 

@@ -34,7 +34,7 @@ const OF_FORMATS: [(FormatFault, &str); 6] = [
 const OF_MESSAGES: [(WireFault, &str); 3] = [
     (
         WireFault::UnknownMessage(0),
-        "a message has a type that there is not",
+        "a message has an unknown type",
     ),
     (
         WireFault::UnknownEncoding(0),
@@ -129,7 +129,7 @@ const OF_ENGINES: [(EngineFault, &str); 3] = [
 
 const OF_SLOTS: [(HubFault, &str); 1] = [(
     HubFault::SlotTaken,
-    "a viewer joins a slot in which there is one",
+    "a viewer joins a slot that already has one",
 )];
 
 const OF_PROGRAM: [(Fault, &str); 1] = [(

@@ -46,7 +46,7 @@ const STATUSES: &str = "\
 Status:
   0  the work is done: the picture or this text is on standard output
   1  it failed, and the last line on standard error says why
-  2  the words of the command ask for nothing that there is
+  2  the command line is wrong: standard error says what
 
 With --explain, at any command, sentences on standard error say how it goes and why it fails. They
 come without it at a terminal, with RFB_EXPLAIN=1 in the environment, and at `share`, `relay` and
@@ -105,12 +105,12 @@ Each connection has a fresh screen, with a test picture or the one of --picture.
 the test picture scrolls up by a row. A picture of --picture never changes, so a viewer that has all
 of it gets no more updates, unless it asks for all again. As soon as a connection ends, a line on
 standard output says `ok` and how many updates were sent, or `fault` and which fault ended it; then
-the next one is served. With --timeout S a viewer that sends nothing for S seconds is let go by
-`fault 29 Device`.
+the next one is served. With --timeout S a viewer that sends nothing for S seconds is disconnected,
+with `fault 29 Device`.
 
 A picture is a PPM (P6) of 1 to 4096 pixels a side, with 255 or 65535 as its largest component; it
-has its own size, so --width and --height do not go with it. What is wrong with a file is said as
-`bad picture`, with a number and a sentence, and nobody is served.
+has its own size, so it cannot be used with --width or --height. What is wrong with a file is
+reported as `bad picture`, with a number and a sentence, and nobody is served.
 docs/PROTOCOL.md has the faults by number.
 
 Examples, with a viewer of TigerVNC:
@@ -121,12 +121,12 @@ Examples, with a viewer of TigerVNC:
 const SERVERS: &str = "\
 A viewer asks for the whole screen and then, after each update, for what changed, until it has the
 updates that --updates asks for. A server sends none while nothing changes. Then the picture is
-written. With --record standard output gets in its place what the server sent up to there, as it
-comes: `rfb play` shows that as the same picture, in the same format. The server must offer the
-security type None.
+written. With --record standard output gets the server's bytes up to there instead, as they come:
+`rfb play` makes the same picture of them, in the same format. The server must offer the security
+type None.
 With --follow a picture is written after each update, until --updates have come or the server ends
 between two messages. --fps N asks for at most N a second, and what changes faster comes as one. A
-write that fails ends it. It goes with no --record and no --partial.
+write that fails ends it. It cannot be used with --record or --partial.
 With --timeout S a connection that is refused is tried again, and waiting ends after S seconds.
 With --partial the picture of what came by then is written; the status is 1 all the same.
 docs/PROTOCOL.md has the formats, and the faults by number.
@@ -147,7 +147,7 @@ Standard input has a line for each thing that is drawn. One space parts two word
   pixels X Y W H              three bytes for each of its pixels follow, and a newline
   hold                        what follows is a scene: no viewer is shown a part of it
   show                        the scene is whole; without this it is after --hold seconds
-  end N                       the viewer of seat N is let go
+  end N                       the viewer of seat N is disconnected
   quit                        all ends
 A bad line is reported on standard error with its number, and nothing of it is drawn. Sentences there
 say why, and why a viewer leaves. When standard input ends the screen stays as it is.
@@ -156,7 +156,7 @@ Standard output has a line for each thing that viewers do; N is a seat, 0 to 7:
   come N ADDRESS              a connection took the seat
   join N                      its handshake is done: it is a viewer
   leave N ok, leave N fault C NAME
-                              it went, or was let go for a fault
+                              it went, or was disconnected for a fault
   busy ADDRESS                a connection got no seat
   key N down|up K             a key, by its keysym
   pointer N BUTTONS X Y       the pointer, and the buttons that are down, a bit each
@@ -172,12 +172,12 @@ until its first picture is there. Their keys, pointers and texts go to the serve
 which they came. A text or a bell of the server's goes to none of them. Standard input is not read.
 It ends with the server, with status 1, or by --until-idle. With --retry S a server that went away is
 called again after S seconds, and so on until it comes. Until it has sent a whole picture viewers keep
-the last one, and what they do goes nowhere. Where it has another size they are let go.
+the last one, and what they do goes nowhere. Where it has another size they are disconnected.
 
 A line on standard output says what the server does:
-  server up W H NAME          it is there, with a screen of this size; its name, by hexadecimal digits
+  server up W H NAME          it is there, with a screen of this size; its name in hexadecimal digits
   server bell                 it rings
-  server text HEX             it cuts a text, of which at most 1024 bytes are here
+  server text HEX             it cuts a text; at most 1024 bytes of it are here
   server down WHY             it goes away: closed, failed, or a fault by its number and name
 The lines that say what viewers do are those of `rfb help share`.
 docs/PROTOCOL.md has the faults by number.
@@ -195,7 +195,7 @@ space parts two words; an empty line and one that begins with # are skipped.
   move X Y, drag X Y          the pointer goes there; with the first button down
   click [BUTTON] [X Y]        a button goes down and up, 1 to 8; double does it twice
   wheel up|down N             the wheel turns
-  paste HEX, paste-file FILE  a text is cut, and is the server's then
+  paste HEX, paste-file FILE  a text is sent, for the server's clipboard
   save FILE [X Y W H]         what the screen shows is written as PPM, or a part of it
   expect FILE [at X Y] [within N]
                               waits until the screen shows the picture of a PPM, each component
@@ -208,7 +208,7 @@ A NAME is that of X11's keysym, as Return, F5 or KP_Enter; one character; or a n
 line, and one that is not done in its time, ends all with status 1: a sentence says why.
 
 Standard output has a line for each thing that happens:
-  ready W H NAME              the first update is whole; the name by hexadecimal digits
+  ready W H NAME              the first update is whole; the name in hexadecimal digits
   done LINE                   a line is done, by its number
   changed X Y W H             with --tell: where an update changed the screen
   bell, text HEX              the server rings, or cuts a text

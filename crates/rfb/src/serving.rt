@@ -174,7 +174,7 @@ where
     let other = match stream.answering() {
         Ok(other) => other,
         Err(error) => {
-            let _ = writeln!(notes, "rfb: {address} was let go: {error}");
+            let _ = writeln!(notes, "rfb: {address} was disconnected: {error}");
             return Err(EngineFault::Device);
         }
     };
@@ -201,7 +201,7 @@ fn tell_left<N: Write>(
         }
         Err(fault) => {
             tell_client(*fault, notes);
-            let _ = writeln!(notes, "rfb: {address} was let go");
+            let _ = writeln!(notes, "rfb: {address} was disconnected");
         }
     }
 }

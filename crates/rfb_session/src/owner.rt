@@ -7,7 +7,7 @@
 //! hint X Y W H SX SY         a hint: a rectangle looks as the one there did
 //! scroll X Y W H DX DY       what lies in a rectangle moves to the right and down
 //! pixels X Y W H             the colours of a rectangle follow, three bytes each, and a newline
-//! end S                      the viewer at seat S is let go
+//! end S                      the viewer at seat S is disconnected
 //! hold                       what is drawn after it is not shown yet
 //! show                       it is shown, and what is drawn after that
 //! quit                       all ends

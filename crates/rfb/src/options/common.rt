@@ -34,7 +34,7 @@ pub const ALL_ENCODINGS: Word<'static> = long!(
 pub const PARTIAL: Word<'static> = long!(
     "partial",
     Takes::Nothing,
-    "Writes the picture of what has come by an early end, too; the status is 1 then"
+    "At an early end, writes the picture of what has come; the status is still 1"
 );
 
 /// The file that is read.

@@ -23,7 +23,7 @@ pub const PLAY: &Usage<'static> = &Usage {
         long!(
             "updates",
             Takes::Number("U", u32::MAX),
-            "The updates after which it ends, 1 to 4294967295; without it, all are played"
+            "The number of updates after which it ends, 1 to 4294967295; without it, all are played"
         ),
         PARTIAL,
         INPUT,

@@ -158,7 +158,7 @@ fn why_refused(refused: HubFault) -> &'static str {
         HubFault::NotReady => "needs a viewer whose handshake is done, which `settle` delivers",
         HubFault::Busy => "comes while a request is not answered, or an update is under way",
         HubFault::AreaOutside => "asks for no place, or for places beside the screen",
-        HubFault::SlotTaken => "lets a viewer join where there is one",
+        HubFault::SlotTaken => "lets a viewer join a slot that has one",
         HubFault::NoSuchSlot => "names a slot that has no viewer",
     }
 }

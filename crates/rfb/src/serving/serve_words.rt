@@ -82,7 +82,7 @@ pub const SERVE: &Usage<'static> = &Usage {
         long!(
             "timeout",
             Takes::Number("S", u32::MAX),
-            "The seconds without a byte after which a viewer is let go, 1 to 4294967295"
+            "The seconds without a byte after which a viewer is disconnected, 1 to 4294967295"
         ),
         LISTEN,
     ],

@@ -39,7 +39,7 @@ pub const SHARE: &Usage<'static> = &Usage {
         long!(
             "name",
             Takes::TextOr("TEXT", NAME),
-            "The screen's name, of which viewers get 255 bytes at most"
+            "The screen's name; viewers get at most 255 bytes of it"
         ),
         UNTIL_IDLE,
         HANDSHAKE,

@@ -29,7 +29,7 @@ pub const VIEW: &Usage<'static> = &Usage {
         long!(
             "updates",
             Takes::Number("U", u32::MAX),
-            "The updates that are viewed, 1 to 4294967295; 1 without it, with --follow all"
+            "How many updates are viewed, 1 to 4294967295; 1 without it, with --follow all"
         ),
         long!(
             "follow",
