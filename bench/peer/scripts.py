@@ -167,6 +167,8 @@ def changes(width, height):
         ("corners of every cell", corners(width, height)),
         ("a typed character", character(width, height)),
         ("one changed place", [f"{place} fedcba"]),
+        ("all of one colour", [f"fill 0 0 {width} {height} ffffff"]),
+        ("a blank screen scrolled by one row", scroll(width, height, 1)),
         ("nothing drawn", []),
     ]
 
