@@ -1,17 +1,26 @@
 -- The subrectangles of the rule, as the scan of a block's places takes them.
-use Rattle.std.proofs.Common.{◌≡◌, ◌≢◌, ℕ, ◌+◌, ◌*◌, ◌<◌, ◌≤◌, List, [], ◌∷◌}
-use Rattle.std.proofs.Common.{◌++◌, Bool, true, false, ◌||◌}
-use Rattle.std.proofs.Common.{nat_lt, length, slice_index, replicate, arith, refl, sym, subst, ◌∙◌, inl, inr}
-use Rattle.std.proofs.Common.{◌⊎◌, append_assoc, append-nil}
-use Rattle.std.proofs.lemmas.Bool.{cases_lt, both_ways, or_right}
+use Rattle.std.proofs.Common.{◌≡◌, ◌≢◌, ℕ, ◌+◌, ◌*◌, ◌<◌, ◌≤◌, ◌-◌, ◌==◌, List, [], ◌∷◌, ◌++◌, Bool, true, false}
+use Rattle.std.proofs.Common.{◌&&◌, ◌||◌, not, if◌then◌else◌, nat_le, nat_lt, length, slice_index}
+use Rattle.std.proofs.Common.{slice_set, arith, refl, sym}
+use Rattle.std.proofs.Common.{subst, ◌∙◌, inl, inr, append_assoc, append-nil}
+use Rattle.std.proofs.lemmas.Bool.{cases_lt, both_ways}
+use Rattle.std.proofs.lemmas.Nat.Bits.{bit_at-zero}
 use Rattle.std.proofs.lemmas.Bool.Decides.{nat_tests}
 use Rattle.rfb_picture.specs.Rect.{contains}
-use Rattle.rfb_picture.proofs.GridLaws.{contains_true, contains_row}
+use Rattle.std.proofs.lemmas.List.{get_or-set_same, get_or-set_other}
+use Rattle.std.proofs.lemmas.Simd.{get_or-chunk, length-chunk}
+use Rattle.std.proofs.Math.Nat.{mul-le-mul_right}
+use Rattle.rfb_pixel.specs.Rows.{TellsOthers}
+use Rattle.rfb_picture.specs.Places.{has_bit}
+use Rattle.rfb_picture.proofs.GridLaws.{contains_true, place_below}
 use Rattle.rfb_wire.specs.RectHead.{IsOnScreen}
 use Rattle.rfb_codec.specs.declared.subrect.Subrect.{Subrect}
-use Rattle.rfb_codec.specs.Choice.{is_in_any, IsLeft, IsBefore, IsNextSub, AreNextSubs}
-use Rattle.rfb_codec.specs.encoder.Cover.{IsOpen, IsUncovered, AreNoted, HasRun, HasRuns, IsGivenUp}
-use Rattle.rfb_codec.proofs.CoverLemmas.{zeros}
+use Rattle.rfb_codec.specs.Rre.{pixel_at}
+use Rattle.rfb_codec.specs.Choice.{is_in_any, IsLeft, IsNextSub, AreNextSubs}
+use Rattle.rfb_codec.specs.encoder.Cover.{IsPartOf, ArePartsOf, IsGivenUp, TellsLeft, IsWithout, AreTaken}
+use Rattle.rfb_codec.specs.encoder.Cover.{HasRun, HasRuns}
+use Rattle.rfb_codec.proofs.RreLaws.{pixel_at-last}
+use lib.Lanes.{chunk}
 
 -- ---- one more
 
@@ -41,168 +50,291 @@ next_push width height pixels background before (t ∷ subs) s (here, rest) one 
       height pixels background l s) (sym (append_assoc before (t ∷ []) subs)) one),
 )
 
--- ---- the scan is at (x, y)
+-- and they are parts of the block
+pub parts_more : (width height : ℕ) (pixels : List ℕ) (background : ℕ) (subs : List Subrect) (s : Subrect) →
+    ArePartsOf width height pixels background subs → IsPartOf width height pixels background s →
+    ArePartsOf width height pixels background (subs ++ s ∷ [])
+parts_more width height pixels background [] s old one = (one, tt)
+parts_more width height pixels background (t ∷ subs) s old one =
+    (old.0, parts_more width height pixels background subs s old.1 one)
 
--- the subrectangles so far are the rule's, they reach down to each column's row in until, and no
--- place before is left
-pub record Choosing (width height x y : ℕ) (pixels until : List ℕ) (background : ℕ) (subs : List Subrect) : Type 0 where
+-- ---- the scan is at row y
+
+-- the subrectangles so far are the rule's, and show what they cover. None begins below row y, so
+-- that from there on nothing below an uncovered place is covered. No place above row y is left
+pub record Chosen (width height y : ℕ) (pixels : List ℕ) (background : ℕ) (subs : List Subrect) : Type 0 where
+  pub parts : ArePartsOf width height pixels background subs
+  pub shown : (i j : ℕ) → i < width → j < height → pixel_at background subs i j
+      ≡ (if is_in_any subs i j then slice_index pixels (j * width + i) else background)
   pub each : AreNextSubs width height pixels background [] subs
-  pub reach : (i j : ℕ) → i < width → y ≤ j → is_in_any subs i j ≡ nat_lt j (slice_index until i)
-  pub passed : (i j : ℕ) → i < width → j < height → IsBefore i j x y → IsLeft width pixels background subs i j → ⊥
+  pub under : (i j k : ℕ) → y ≤ j → j ≤ k → is_in_any subs i j ≡ false → is_in_any subs i k ≡ false
+  pub passed : (i j : ℕ) → i < width → j < y → IsLeft width pixels background subs i j → ⊥
 
-pub choosing_none : (width height n : ℕ) (pixels : List ℕ) (background : ℕ) →
-    Choosing width height 0 0 pixels (replicate n 0) background []
-choosing_none width height n pixels background = record {
+-- the words tell which places of the rows from y on are left
+abbrev pub TellRows : ℕ → ℕ → ℕ → List ℕ → ℕ → List Subrect → List ℕ → Type 0
+TellRows width height y pixels background subs rows = (j : ℕ) → y ≤ j → j < height →
+    TellsLeft width pixels background subs j (slice_index rows j)
+
+pub chosen_none : (width height : ℕ) (pixels : List ℕ) (background : ℕ) →
+    Chosen width height 0 pixels background []
+chosen_none width height pixels background = record {
+  parts = tt;
+  shown = λ i j p q. refl;
   each = tt;
-  reach = λ i j p q. let none : nat_lt j 0 ≡ false = grind (arith, nat_tests) in rw (zeros n i) (sym none);
-  passed = λ i j p q before left. elim before [ inl above ↦ omega arith | inr (row, column) ↦ omega arith ];
+  under = λ i j k p q out. refl;
+  passed = λ i j p q left. omega arith;
 }
 
--- a place of the background, or one that is covered, is passed
-pub choosing_passed : (width height x y : ℕ) (pixels until : List ℕ) (background : ℕ) (subs : List Subrect) →
-    (y < slice_index until x) ⊎ (slice_index pixels (y * width + x) ≡ background) →
-    Choosing width height x y pixels until background subs →
-    Choosing width height (x + 1) y pixels until background subs
-choosing_passed width height x y pixels until background subs here old = record {
-  each = old.each;
-  reach = old.reach;
-  passed = λ i j p q before left.
-      elim before [
-        | inl above ↦ old.passed i j p q (inl above) left
-        | inr (row, column) ↦
-            elim (cases_lt i x) [
-              | inl less ↦ old.passed i j p q (inr (row, less)) left
-              | inr more ↦
-                  let same : i ≡ x = omega arith in
-                  elim here [
-                    | inl covered ↦
-                        let reached : nat_lt j (slice_index until i) ≡ true =
-                        let below : j < slice_index until i = rw (same, row) covered in
-                        grind (arith, nat_tests) in
-                        both_ways (is_in_any subs i j) left.1 (old.reach i j p (omega arith) ∙ reached)
-                    | inr plain ↦ left.0 (rw (same, row) plain)
-                  ]
-            ]
-      ];
-}
+-- ---- what a bit says
+
+-- a place whose bit is set is left
+pub left_of_bit : (width : ℕ) (pixels : List ℕ) (background : ℕ) (subs : List Subrect) (y word i : ℕ) →
+    TellsLeft width pixels background subs y word → i < 64 → has_bit word i ≡ true →
+    (i < width) × IsLeft width pixels background subs i y
+left_of_bit width pixels background subs y word i tells low set =
+    let told = tells i low in
+    let place = slice_index pixels (y * width + i) in
+    by (nat_lt i width) (place == background) (is_in_any subs i y) refl refl refl (rw set at told)
+  where
+    by : (a b c : Bool) → nat_lt i width ≡ a → (slice_index pixels (y * width + i) == background) ≡ b →
+        is_in_any subs i y ≡ c → true ≡ (a && not (b || c)) →
+        (i < width) × IsLeft width pixels background subs i y
+    by true false false e f g h = (grind (arith, nat_tests, e), (grind (arith, nat_tests, f), g))
+    by true false true e f g h = absurd cc
+    by true true c e f g h = absurd cc
+    by false b c e f g h = absurd cc
+
+-- and the bit of a place that is left is set
+pub bit_of_left : (width : ℕ) (pixels : List ℕ) (background : ℕ) (subs : List Subrect) (y word i : ℕ) →
+    TellsLeft width pixels background subs y word → i < 64 → i < width →
+    IsLeft width pixels background subs i y → has_bit word i ≡ true
+bit_of_left width pixels background subs y word i tells low within left =
+    let told = tells i low in
+    let out = left.1 in
+    let other = left.0 in
+    told ∙ grind (arith, nat_tests, within, out, other)
+
+-- ---- the bits of all rows
+
+-- a row's other places are left while nothing is taken
+row_told : (width height y : ℕ) (pixels : List ℕ) (background word : ℕ) →
+    length pixels ≡ height * width → y < height →
+    TellsOthers (chunk (y * width) (y * width + width - y * width) pixels) background word →
+    TellsLeft width pixels background [] y word
+row_told width height y pixels background word whole q told i low =
+    let fits : (y + 1) * width ≤ height * width = mul-le-mul_right width (omega (arith, q)) in
+    let count : y * width + width - y * width ≡ width = omega arith in
+    let size = length-chunk (y * width) width pixels (omega (arith, fits, whole)) in
+    elim (cases_lt i width) [
+      | inl within ↦
+          let place = get_or-chunk (y * width) width pixels i 0 within in
+          let other : has_bit word i
+          ≡ (nat_lt i (length (chunk (y * width) width pixels))
+          && not (slice_index (chunk (y * width) width pixels) i == background)) = (rw count at told) i low in
+          rw (size, place) at other ∙ plain (nat_lt i width) (slice_index pixels (y * width + i) == background)
+      | inr beyond ↦
+          let other : has_bit word i
+          ≡ (nat_lt i (length (chunk (y * width) width pixels))
+          && not (slice_index (chunk (y * width) width pixels) i == background)) = (rw count at told) i low in
+          let out : nat_lt i width ≡ false = grind (arith, nat_tests) in
+          rw (size, out) at other ∙ (rw out refl)
+    ]
+  where
+    plain : (a b : Bool) → (a && not b) ≡ (a && not (b || false))
+    plain true true = refl
+    plain true false = refl
+    plain false b = refl
+
+pub rows_more : (width height y : ℕ) (pixels : List ℕ) (background word : ℕ) (rows : List ℕ) →
+    length pixels ≡ height * width → y < height → y < length rows →
+    TellsOthers (chunk (y * width) (y * width + width - y * width) pixels) background word →
+    ((j : ℕ) → j < y → TellsLeft width pixels background [] j (slice_index rows j)) →
+    (j : ℕ) → j < y + 1 → TellsLeft width pixels background [] j (slice_index (slice_set rows y word) j)
+rows_more width height y pixels background word rows whole q there told old j below =
+    elim (cases_lt j y) [
+      | inl before ↦ rw (get_or-set_other rows y j word 0 (λ e. omega (arith, e, before))) (old j before)
+      | inr here ↦
+          let same : j ≡ y = omega (arith, below, here) in
+          rw (same, get_or-set_same rows y word 0 there) (row_told width height y pixels background word whole q told)
+    ]
 
 -- ---- a rectangle that begins at (x, y) is taken
 
-module _ (width height x y : ℕ) (pixels until : List ℕ) (background : ℕ) (subs : List Subrect) (p : x < width)
-    (q : y < height) (old : Choosing width height x y pixels until background subs) where
-  -- a place that no column's row covers is free
-  below_none : (i j : ℕ) → i < width → y ≤ j → slice_index until i ≤ y → is_in_any subs i j ≡ false
-  below_none i j l from low =
-      let none : nat_lt j (slice_index until i) ≡ false = grind (arith, nat_tests) in
-      old.reach i j l from ∙ none
+module _ (width height x y : ℕ) (pixels : List ℕ) (background left : ℕ) (subs : List Subrect)
+    (narrow : width ≤ 64) (p : x < width) (q : y < height) (old : Chosen width height y pixels background subs)
+    (tells : TellsLeft width pixels background subs y left) where
+  -- a place that is left has nothing that covers it, nor what is below it
+  below_none : (i j : ℕ) → i < 64 → y ≤ j → has_bit left i ≡ true → is_in_any subs i j ≡ false
+  below_none i j low from set =
+      let here = left_of_bit width pixels background subs y left i tells low set in
+      old.under i y j (omega arith) from here.1.1
 
-  none_below : (i : ℕ) → i < width → is_in_any subs i y ≡ false → slice_index until i ≤ y
-  none_below i l out =
-      let none : nat_lt y (slice_index until i) ≡ false = sym (old.reach i y l (omega arith)) ∙ out in
-      grind (arith, nat_tests)
-
-  pub next_taken : (s : Subrect) → s.pixel ≡ slice_index pixels (y * width + x) → s.pixel ≢ background → s.rect.x ≡ x →
-      s.rect.y ≡ y → 0 < s.rect.w → 0 < s.rect.h → IsOnScreen width height s.rect →
+  pub next_taken : (s : Subrect) → s.pixel ≡ slice_index pixels (y * width + x) → has_bit left x ≡ true →
+      ((i : ℕ) → has_bit left i ≡ true → x ≤ i) → s.rect.x ≡ x → s.rect.y ≡ y →
+      0 < s.rect.w → 0 < s.rect.h → IsOnScreen width height s.rect →
       HasRuns width pixels (slice_index pixels (y * width + x)) x (x + s.rect.w) y (y + s.rect.h) →
-      IsUncovered until x (x + s.rect.w) y →
-      (x + s.rect.w < width → IsOpen width pixels until (slice_index pixels (y * width + x)) (x + s.rect.w) y → ⊥) →
+      ((i : ℕ) → x ≤ i → i < x + s.rect.w → has_bit left i ≡ true) →
+      (x + s.rect.w < width → has_bit left (x + s.rect.w) ≡ true →
+      slice_index pixels (y * width + (x + s.rect.w)) ≢ slice_index pixels (y * width + x)) →
       (y + s.rect.h < height →
       HasRun width pixels (slice_index pixels (y * width + x)) x (x + s.rect.w) (y + s.rect.h) → ⊥) →
       IsNextSub width height pixels background subs s
-  next_taken s pixel other column row wide high inside same uncovered longest lowest = record {
-    inside = inside;
-    wide = wide;
-    high = high;
-    left =
-        rw (column, row) (rw (← pixel) other, below_none x y p (omega arith) (uncovered x (omega arith) (omega arith)));
-    first = rw (column, row) (λ i j l m before left. old.passed i j l m before left);
-    pixel = rw (column, row) pixel;
-    rows = rw (column, row, pixel) (λ j from below i left right.
-        (same i j left right from below, below_none i j (omega (arith, inside, column)) from (uncovered i left right)));
-    longest = rw (column, row, pixel) (λ below free. longest below (free.0, none_below (x + s.rect.w) below free.1));
-    lowest = rw (column, row, pixel) (λ below free. lowest below (λ i left right. (free i left right).0));
-  }
+  next_taken s pixel set first column row wide high inside same free longest lowest =
+      let here = left_of_bit width pixels background subs y left x tells (omega arith) set in
+      record {
+        inside = inside;
+        wide = wide;
+        high = high;
+        left = rw (column, row) here.1;
+        first = rw (column, row) (λ i j l m before is.
+            elim before [
+              | inl above ↦ old.passed i j l above is
+              | inr (level, near) ↦
+                  let there =
+                  bit_of_left width pixels background subs y left i tells (omega arith) l (rw level at is) in
+                  let after = first i there in
+                  omega (arith, near, after)
+            ]);
+        pixel = rw (column, row) pixel;
+        rows = rw (column, row, pixel) (λ j from below i after before.
+            let out = below_none i j (omega (arith, inside, column)) from (free i after before) in
+            (same i j after before from below, out));
+        longest = rw (column, row, pixel) (λ below is.
+            let other : slice_index pixels (y * width + (x + s.rect.w)) ≢ background = rw (is.0) here.1.0 in
+            let there = bit_of_left width pixels background subs y left (x + s.rect.w) tells (omega arith) below
+            (other, is.1) in
+            longest below there is.0);
+        lowest = rw (column, row, pixel) (λ below is. lowest below (λ i after before. (is i after before).0));
+      }
 
-  pub choosing_taken : (after : List ℕ) (s : Subrect) → IsNextSub width height pixels background subs s → s.rect.x ≡ x →
-      s.rect.y ≡ y → IsUncovered until x (x + s.rect.w) y →
-      AreNoted width until x (x + s.rect.w) (y + s.rect.h) after →
-      Choosing width height (x + 1) y pixels after background (subs ++ s ∷ [])
-  choosing_taken after s next column row uncovered noted = record {
+  pub chosen_taken : (s : Subrect) → IsNextSub width height pixels background subs s → has_bit left x ≡ true →
+      s.pixel ≡ slice_index pixels (y * width + x) →
+      s.rect.x ≡ x → s.rect.y ≡ y → length pixels ≡ height * width →
+      Chosen width height y pixels background (subs ++ s ∷ [])
+  chosen_taken s next set pixel column row whole = record {
+    parts = parts_more width height pixels background subs s old.parts (record {
+      pixel = (
+        y * width + x,
+        rw whole (place_below width height x y p q),
+        pixel,
+      );
+      other = rw pixel (left_of_bit width pixels background subs y left x tells (omega arith) set).1.0;
+      inside = next.inside;
+      wide = next.wide;
+      high = next.high;
+    });
+    shown = λ i j l m.
+        pixel_at-last background subs s i j
+        ∙ rw (in_push subs s i j)
+        (at_place (is_in_any subs i j) (contains s.rect i j) _ _ _ background (old.shown i j l m)
+        (λ e.
+        let h = contains_true s.rect i j e in
+        let run = next.rows j (omega (arith, h.2)) (omega (arith, h.3)) i (omega (arith, h.0)) (omega (arith, h.1)) in
+        sym (run.0)));
     each = next_push width height pixels background [] subs s old.each next;
-    reach = λ i j l from. rw (in_push subs s i j) (at_place i j l from (contains s.rect i j) refl);
-    passed = λ i j l m before left.
-        let apart = rw (in_push subs s i j) at left.1 in
-        elim before [
-          | inl above ↦
-              old.passed i j l m (inl above) (left.0, or_none (is_in_any subs i j) (contains s.rect i j) apart)
-          | inr (same_row, up_to) ↦
-              elim (cases_lt i x) [
-                | inl less ↦ old.passed i j l m (inr (same_row, less))
-                    (left.0, or_none (is_in_any subs i j) (contains s.rect i j) apart)
-                | inr more ↦
-                    let here : contains s.rect i j ≡ true = contains_row s.rect i j (omega arith)
-                    (omega (arith, next.wide)) (omega arith) (omega (arith, next.high)) in
-                    both_ways (is_in_any subs i j || contains s.rect i j) apart
-                    (or_right (is_in_any subs i j) (contains s.rect i j) here)
-              ]
-        ];
+    under = λ i j k from lower out. rw (in_push subs s i k) (
+        let apart = rw (in_push subs s i j) at out in
+        let neither = none_of (is_in_any subs i j) (contains s.rect i j) apart in
+        none_from (is_in_any subs i k) (contains s.rect i k) (old.under i j k from lower neither.0)
+        (outside_below i j k from lower neither.1));
+    passed = λ i j l above is.
+        let apart = rw (in_push subs s i j) at is.1 in
+        let neither = none_of (is_in_any subs i j) (contains s.rect i j) apart in
+        old.passed i j l above (is.0, neither.0);
   }
     where
-      or_none : (a b : Bool) → (a || b) ≡ false → a ≡ false
-      or_none true b e = absurd cc
-      or_none false b e = refl
+      at_place : (was now : Bool) (before part v b : ℕ) → before ≡ (if was then v else b) →
+          (now ≡ true → part ≡ v) → (if now then part else before) ≡ (if was || now then v else b)
+      at_place true true before part v b e h = h refl
+      at_place false true before part v b e h = h refl
+      at_place true false before part v b e h = e
+      at_place false false before part v b e h = e
 
-      or_false : (b : Bool) → (b || false) ≡ b
-      or_false true = refl
-      or_false false = refl
+      none_of : (a b : Bool) → (a || b) ≡ false → (a ≡ false) × (b ≡ false)
+      none_of true b e = absurd cc
+      none_of false b e = (refl, e)
 
-      aside : (i j : ℕ) → i < width → y ≤ j → slice_index after i ≡ slice_index until i →
-          (is_in_any subs i j || false) ≡ nat_lt j (slice_index after i)
-      aside i j l from same = or_false (is_in_any subs i j) ∙ (old.reach i j l from ∙ (rw same refl))
+      none_from : (a b : Bool) → a ≡ false → b ≡ false → (a || b) ≡ false
+      none_from true b e f = absurd cc
+      none_from false b e f = f
 
-      at_place : (i j : ℕ) → i < width → y ≤ j → (here : Bool) → contains s.rect i j ≡ here →
-          (is_in_any subs i j || here) ≡ nat_lt j (slice_index after i)
-      at_place i j l from true e =
-          let (a, b, c, d) = contains_true s.rect i j e in
-          let now = noted i l in
-          let end : slice_index after i ≡ y + s.rect.h = grind (arith, nat_tests) in
-          let reached : nat_lt j (slice_index after i) ≡ true =
-          let below : j < slice_index after i = omega (arith, end, d, row) in
-          grind (arith, nat_tests) in
-          or_right (is_in_any subs i j) true refl ∙ sym reached
-      at_place i j l from false e =
-          elim (cases_lt i x) [
-            | inl before ↦ aside i j l from (let now = noted i l in grind (arith, nat_tests))
-            | inr later ↦
-                elim (cases_lt i (x + s.rect.w)) [
-                  | inl within ↦
-                      let now = noted i l in
-                      let end : slice_index after i ≡ y + s.rect.h = grind (arith, nat_tests) in
-                      elim (cases_lt j (y + s.rect.h)) [
-                        | inl above ↦ absurd (both_ways (contains s.rect i j) e (contains_row s.rect i j
-                            (omega (arith, column)) (omega (arith, column)) (omega (arith, row)) (omega (arith, row))))
-                        | inr under ↦
-                            let low = uncovered i later within in
-                            let was : nat_lt j (slice_index until i) ≡ false = grind (arith, nat_tests) in
-                            let is : nat_lt j (slice_index after i) ≡ false = grind (arith, nat_tests) in
-                            or_false (is_in_any subs i j) ∙ (old.reach i j l from ∙ (was ∙ sym is))
-                      ]
-                  | inr beyond ↦ aside i j l from (let now = noted i l in grind (arith, nat_tests))
-                ]
-          ]
+      outside_below : (i j k : ℕ) → y ≤ j → j ≤ k → contains s.rect i j ≡ false →
+          contains s.rect i k ≡ false
+      outside_below i j k from lower e = grind (arith, nat_tests, row)
+
+-- a bit that goes where a run does
+joined : (now was a b c r : Bool) → was ≡ (a && not (b || c)) → now ≡ (was && not r) →
+    now ≡ (a && not (b || (c || r)))
+joined now was a b c r e f = f ∙ (rw e (by a b c r))
+  where
+    by : (a b c r : Bool) → ((a && not (b || c)) && not r) ≡ (a && not (b || (c || r)))
+    by true true c r = refl
+    by true false true r = refl
+    by true false false r = refl
+    by false b c r = refl
+
+-- the word of the row, and those below, without its places
+pub here_taken : (width height x y : ℕ) (pixels : List ℕ) (background left after : ℕ) (subs : List Subrect)
+    (s : Subrect) → TellsLeft width pixels background subs y left → s.rect.x ≡ x → s.rect.y ≡ y → 0 < s.rect.h →
+    IsWithout x (x + s.rect.w) left after → TellsLeft width pixels background (subs ++ s ∷ []) y after
+here_taken width height x y pixels background left after subs s tells column row high without i low =
+    let was = tells i low in
+    let now = without i low in
+    let inside : contains s.rect i y ≡ (nat_le x i && nat_lt i (x + s.rect.w)) = grind (arith, nat_tests) in
+    rw (in_push subs s i y, inside)
+    (joined (has_bit after i) (has_bit left i) (nat_lt i width) (slice_index pixels (y * width + i) == background)
+    (is_in_any subs i y) (nat_le x i && nat_lt i (x + s.rect.w)) was now)
+
+pub rows_taken : (width height x y : ℕ) (pixels : List ℕ) (background : ℕ) (rows after : List ℕ)
+    (subs : List Subrect) (s : Subrect) → TellRows width height (y + 1) pixels background subs rows →
+    s.rect.x ≡ x → s.rect.y ≡ y → AreTaken x (x + s.rect.w) (y + 1) (y + s.rect.h) rows after →
+    TellRows width height (y + 1) pixels background (subs ++ s ∷ []) after
+rows_taken width height x y pixels background rows after subs s tell column row taken j from below i low =
+    let was = tell j from below i low in
+    let now = taken i j low in
+    let inside : contains s.rect i j
+    ≡ ((nat_le x i && nat_lt i (x + s.rect.w)) && (nat_le (y + 1) j && nat_lt j (y + s.rect.h))) =
+    grind (arith, nat_tests) in
+    rw (in_push subs s i j, inside)
+    (joined (has_bit (slice_index after j) i) (has_bit (slice_index rows j) i) (nat_lt i width)
+    (slice_index pixels (j * width + i) == background) (is_in_any subs i j)
+    ((nat_le x i && nat_lt i (x + s.rect.w)) && (nat_le (y + 1) j && nat_lt j (y + s.rect.h))) was now)
+
+-- ---- the row's end
+
+-- no place of the row is left
+pub row_passed : (width height y : ℕ) (pixels : List ℕ) (background : ℕ) (subs : List Subrect) →
+    width ≤ 64 → Chosen width height y pixels background subs → TellsLeft width pixels background subs y 0 →
+    Chosen width height (y + 1) pixels background subs
+row_passed width height y pixels background subs narrow old tells = record {
+  parts = old.parts;
+  shown = old.shown;
+  each = old.each;
+  under = λ i j k from lower out. old.under i j k (omega (arith, from)) lower out;
+  passed = λ i j l above left.
+      elim (cases_lt j y) [
+        | inl before ↦ old.passed i j l before left
+        | inr here ↦
+            let same : j ≡ y = omega (arith, above, here) in
+            let set = bit_of_left width pixels background subs y 0 i tells (omega arith) l (rw same at left) in
+            let none : has_bit 0 i ≡ false = rw (bit_at-zero i) refl in
+            both_ways (has_bit 0 i) none set
+      ];
+}
 
 -- where no further one may be taken, a place is left
-pub none_further : (width height x y limit : ℕ) (pixels until : List ℕ) (background : ℕ) (subs : List Subrect) →
-    x < width → y < height → length subs ≡ limit →
-    slice_index pixels (y * width + x) ≢ background → slice_index until x ≤ y →
-    Choosing width height x y pixels until background subs →
+pub none_further : (width height x y limit : ℕ) (pixels : List ℕ) (background left : ℕ) (subs : List Subrect) →
+    x < 64 → y < height → length subs ≡ limit → has_bit left x ≡ true →
+    TellsLeft width pixels background subs y left → Chosen width height y pixels background subs →
     IsGivenUp width height pixels background limit subs
-none_further width height x y limit pixels until background subs p q full other low old = record {
-  full = full;
-  each = old.each;
-  x = x;
-  y = y;
-  column = p;
-  row = q;
-  left = (other, below_none width height x y pixels until background subs p q old x y p (omega arith) low);
-}
+none_further width height x y limit pixels background left subs low q full set tells old =
+    let here = left_of_bit width pixels background subs y left x tells low set in
+    record {
+      full = full;
+      each = old.each;
+      x = x;
+      y = y;
+      column = here.0;
+      row = q;
+      left = here.1;
+    }

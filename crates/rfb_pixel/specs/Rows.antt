@@ -25,3 +25,8 @@ equal_places (x ∷ a) (y ∷ b) = (if x == y then 1 else 0) + equal_places a b
 abbrev pub TellsDifferences : List ℕ → List ℕ → ℕ → Type 0
 TellsDifferences a b word = (i : ℕ) → i < 64 →
     nat_eq (bit_at word i) 1 ≡ (nat_lt i (length a) && not (slice_index a i == slice_index b i))
+
+-- bit i of the word is set where place i of the row has another pixel; past its end no bit is set
+abbrev pub TellsOthers : List ℕ → ℕ → ℕ → Type 0
+TellsOthers row pixel word = (i : ℕ) → i < 64 →
+    nat_eq (bit_at word i) 1 ≡ (nat_lt i (length row) && not (slice_index row i == pixel))

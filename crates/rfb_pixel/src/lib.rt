@@ -19,4 +19,4 @@ pub use bytes::colours_of_bytes;
 pub use colour::Colour;
 pub use fault::FormatFault;
 pub use format::{FORMAT_SIZE, Format};
-pub use rows::{count_equal, differing, first_diff, last_diff, run_of};
+pub use rows::{count_equal, differing, first_diff, last_diff, others_in, run_of};

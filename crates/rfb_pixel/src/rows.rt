@@ -5,6 +5,7 @@ ghost use Rattle.std.specs.Prelude.{take, length, slice_index, IfSome, IsNone};
 ghost use Rattle.std.specs.Bool.{OnTrue};
 ghost use Rattle.std.specs.Int.{bit_at};
 ghost use Rattle.rfb_pixel.specs.Rows.{IsFirstDiff, IsLastDiff, equal_places, TellsDifferences};
+ghost use Rattle.rfb_pixel.specs.Rows.{TellsOthers};
 
 use std::simd::u32x16;
 
@@ -159,6 +160,37 @@ fn sixteen_differing(a: &[u32], b: &[u32], at: usize) -> u64
 {
     let differ = u32x16::from_slice(&a[at..]).simd_ne(u32x16::from_slice(&b[at..]));
     differ.to_bitmask()
+}
+
+/// Which of the places of a row of at most 64 have another pixel than that: bit `i` is set where
+/// place `i` has. A bit past its end is not set.
+#[inline(always)]
+pub fn others_in(row: &[u32], pixel: u32) -> u64
+    requires { length row.now ≤ 64 }
+    ensures { TellsOthers row.now pixel result }
+{
+    let mut bits = 0;
+    let mut at = 0;
+    while row.len() - at >= LANES {
+        bits |= sixteen_others(row, at, pixel) << at;
+        at += LANES;
+    }
+    for place in at..row.len() {
+        bits |= u64::from(row[place] != pixel) << place;
+    }
+    bits
+}
+
+// Which of the sixteen places of a row that begin at `at` have another pixel than that.
+#[inline(always)]
+fn sixteen_others(row: &[u32], at: usize, pixel: u32) -> u64
+    requires { at + 16 ≤ length row.now }
+    ensures value { (i : ℕ) → i < 16 → nat_eq (bit_at result i) 1
+        ≡ not (slice_index row.now (at + i) == pixel) }
+    ensures bound { result < 2 ^ 16 }
+{
+    let same = [pixel; LANES];
+    sixteen_differing(&row[at..at + LANES], &same, 0)
 }
 
 // Whether the sixteen places of two rows that begin at `at` are the same.

@@ -1,11 +1,12 @@
 -- The cover of a block over its background: subrectangles that with it show the block.
 -- No public clause reads these words.
-use Rattle.std.specs.Prelude.{◌≡◌, ◌≢◌, ℕ, ◌+◌, ◌*◌, ◌<◌, ◌≤◌, ◌&&◌, nat_le, nat_lt, List, [], ◌∷◌, length, slice_index}
-use Rattle.std.specs.Prelude.{if◌then◌else◌}
+use Rattle.std.specs.Prelude.{◌≡◌, ◌≢◌, ℕ, ◌+◌, ◌*◌, ◌<◌, ◌≤◌, ◌==◌, ◌&&◌, ◌||◌, not, nat_le, nat_lt}
+use Rattle.std.specs.Prelude.{List, [], ◌∷◌, length, slice_index}
+use Rattle.rfb_picture.specs.Places.{has_bit}
 use Rattle.rfb_wire.specs.RectHead.{IsOnScreen}
 use Rattle.rfb_codec.specs.declared.subrect.Subrect.{Subrect}
 use Rattle.rfb_codec.specs.Rre.{pixel_at}
-use Rattle.rfb_codec.specs.Choice.{IsPixelOf, IsLeft, AreNextSubs}
+use Rattle.rfb_codec.specs.Choice.{IsPixelOf, IsLeft, AreNextSubs, is_in_any}
 
 -- a subrectangle over that background in a block of that width and height: it has one of the
 -- pixels, another than the background, and places that there are
@@ -43,20 +44,22 @@ pub record IsGivenUp (width height : ℕ) (pixels : List ℕ) (background limit 
 
 -- ---- the rule's choices
 
--- the place has that pixel, and no subrectangle so far reaches down to it: until has the first row
--- of each column that none reaches
-abbrev pub IsOpen : ℕ → List ℕ → List ℕ → ℕ → ℕ → ℕ → Type 0
-IsOpen width pixels until pixel x y =
-    (slice_index pixels (y * width + x) ≡ pixel) × (slice_index until x ≤ y)
+-- bit i of the word says whether place i of row y is left: it has another pixel than the background,
+-- and lies in none of the subrectangles. Past the row's end no bit is set
+abbrev pub TellsLeft : ℕ → List ℕ → ℕ → List Subrect → ℕ → ℕ → Type 0
+TellsLeft width pixels background subs y word = (i : ℕ) → i < 64 → has_bit word i ≡
+    (nat_lt i width && not (slice_index pixels (y * width + i) == background || is_in_any subs i y))
 
--- no subrectangle so far reaches down to row y in the columns from x up to end
-abbrev pub IsUncovered : List ℕ → ℕ → ℕ → ℕ → Type 0
-IsUncovered until x end y = (i : ℕ) → x ≤ i → i < end → slice_index until i ≤ y
+-- the word lacks the bits of the columns from x up to end, and has the others that it had
+abbrev pub IsWithout : ℕ → ℕ → ℕ → ℕ → Type 0
+IsWithout x end old new =
+    (i : ℕ) → i < 64 → has_bit new i ≡ (has_bit old i && not (nat_le x i && nat_lt i end))
 
--- the columns from x up to end have this row, and the others what they had
-abbrev pub AreNoted : ℕ → List ℕ → ℕ → ℕ → ℕ → List ℕ → Type 0
-AreNoted columns old x end row new = (i : ℕ) → i < columns →
-    slice_index new i ≡ (if nat_le x i && nat_lt i end then row else slice_index old i)
+-- the words of the rows from y up to lower are so, and the others what they were
+abbrev pub AreTaken : ℕ → ℕ → ℕ → ℕ → List ℕ → List ℕ → Type 0
+AreTaken x end y lower old new = (i j : ℕ) → i < 64 → has_bit (slice_index new j) i ≡
+    (has_bit (slice_index old j) i &&
+    not ((nat_le x i && nat_lt i end) && (nat_le y j && nat_lt j lower)))
 
 -- all places of the rows from y up to lower, from column x up to end, have that pixel
 abbrev pub HasRuns : ℕ → List ℕ → ℕ → ℕ → ℕ → ℕ → ℕ → Type 0

@@ -1,18 +1,20 @@
 //! The cover of a block over its background, by this project's rule.
 
-ghost use Rattle.std.specs.Prelude.{◌≡◌, ◌≢◌, ℕ, ◌+◌, ◌*◌, ◌<◌, ◌≤◌, [], length, slice_index};
+ghost use Rattle.std.specs.Prelude.{◌≡◌, ◌≢◌, ℕ, ◌+◌, ◌*◌, ◌<◌, ◌≤◌, ◌&&◌, nat_le, nat_lt};
+ghost use Rattle.std.specs.Prelude.{true, [], length, slice_index};
 ghost use Rattle.std.specs.Bool.{OnTrue, OnFalse};
 ghost use Rattle.arrayvec.specs.ArrayVec.{array_vec_len};
+ghost use Rattle.rfb_picture.specs.Places.{has_bit};
 ghost use Rattle.rfb_wire.specs.RectHead.{IsOnScreen};
 ghost use Rattle.rfb_codec.specs.Choice.{AreRuleSubs};
-ghost use Rattle.rfb_codec.specs.encoder.Cover.{IsCover, IsGivenUp, IsOpen, IsUncovered, AreNoted};
+ghost use Rattle.rfb_codec.specs.encoder.Cover.{IsCover, IsGivenUp, TellsLeft, IsWithout, AreTaken};
 ghost use Rattle.rfb_codec.specs.encoder.Cover.{HasRun, HasRuns};
 
 use crate::block::SIDE;
 use crate::subrect::Subrect;
 use arrayvec::ArrayVec;
 use rfb_picture::Rect;
-use rfb_pixel::run_of;
+use rfb_pixel::others_in;
 
 /// Gives `subs` the subrectangles that cover the places of another pixel than the background, or
 /// answers false once there are more than `limit`.
@@ -40,67 +42,75 @@ pub(crate) fn cover<const N: usize>(
         (IsGivenUp width height pixels.now background limit subs.new.items) }
     ensures few { array_vec_len subs.new ≤ limit }
 {
-    // For each column the first row that no subrectangle there reaches. Rows above the one under
-    // way are never asked of again, so this is all that has to be known.
-    let mut until = [0; SIDE];
+    // For each row the places of another pixel that no subrectangle covers yet, as bits. Rows above
+    // the one under way are never asked of again, and of that one they stand in `left`.
+    let mut rows = others_of(pixels, width, height, background);
     for y in 0..height {
-        let start = first_other(pixels, width, y, background);
-        for x in start..width {
-            let pixel = pixels[y * width + x];
-            if pixel != background && until[x] <= y {
-                if subs.len() == limit {
-                    return false;
-                }
-                let rect = take_from(pixels, width, height, &mut until, x, y);
-                subs.push(Subrect { pixel, rect });
+        let mut left = rows[y];
+        while left != 0 {
+            if subs.len() == limit {
+                return false;
             }
+            let x = left.trailing_zeros() as usize;
+            let pixel = pixels[y * width + x];
+            let rect = take_from(pixels, width, height, x, y, &mut left, &mut rows);
+            subs.push(Subrect { pixel, rect });
         }
     }
     true
 }
 
-// The first column of row `y` that has another pixel, or `width`.
-fn first_other(pixels: &[u32], width: usize, y: usize, background: u32) -> usize
-    requires { y * width + width ≤ length pixels.now }
-    ensures within { result ≤ width }
-    ensures plain { (i : ℕ) → i < result → slice_index pixels.now (y * width + i) ≡ background }
+// For each row the places of another pixel than the background, as bits.
+#[inline(always)]
+fn others_of(pixels: &[u32], width: usize, height: usize, background: u32) -> [u64; SIDE]
+    requires whole { length pixels.now ≡ height * width }
+    requires columns { width ≤ SIDE }
+    requires rows { height ≤ SIDE }
+    ensures { (y : ℕ) → y < height →
+        TellsLeft width pixels.now background [] y (slice_index result y) }
 {
-    run_of(&pixels[y * width..y * width + width], background)
+    let mut rows = [0; SIDE];
+    for y in 0..height {
+        rows[y] = others_in(&pixels[y * width..y * width + width], background);
+    }
+    rows
 }
 
-// Takes the subrectangle that begins at (x, y), which is not covered, and notes how far it reaches.
-// As subrectangles go on down from row to row, nothing below an uncovered place is covered. Not
-// inlined, so that the scan that calls it stays short: few places begin one.
-#[inline(never)]
+// Takes the subrectangle that begins at (x, y), which is left, and its places from the bits of its
+// rows. As subrectangles go on down from row to row, nothing below a place that is left is covered.
+#[inline(always)]
 fn take_from(
     pixels: &[u32],
     width: usize,
     height: usize,
-    until: &mut [usize],
     x: usize,
     y: usize,
+    left: &mut u64,
+    rows: &mut [u64],
 ) -> Rect
     requires whole { length pixels.now ≡ height * width }
-    requires columns { (x < width) × (width ≤ SIDE) × (width ≤ length until.old) }
-    requires rows { (y < height) × (height ≤ SIDE) }
-    requires here { slice_index until.old x ≤ y }
+    requires columns { (x < width) × (width ≤ SIDE) }
+    requires rows { (y < height) × (height ≤ SIDE) × (height ≤ length rows.old) }
+    requires here { has_bit left.old x ≡ true }
     ensures corner { (result.x ≡ x) × (result.y ≡ y) }
     ensures some { (0 < result.w) × (0 < result.h) }
     ensures inside { IsOnScreen width height result }
     ensures same { HasRuns width pixels.now (slice_index pixels.now (y * width + x))
         x (x + result.w) y (y + result.h) }
-    ensures uncovered { IsUncovered until.old x (x + result.w) y }
-    ensures longest { x + result.w < width →
-        IsOpen width pixels.now until.old (slice_index pixels.now (y * width + x))
-        (x + result.w) y → ⊥ }
+    ensures free { (i : ℕ) → x ≤ i → i < x + result.w → has_bit left.old i ≡ true }
+    ensures longest { x + result.w < width → has_bit left.old (x + result.w) ≡ true →
+        slice_index pixels.now (y * width + (x + result.w))
+        ≢ slice_index pixels.now (y * width + x) }
     ensures lowest { y + result.h < height →
         HasRun width pixels.now (slice_index pixels.now (y * width + x))
         x (x + result.w) (y + result.h) → ⊥ }
-    ensures noted { AreNoted width until.old x (x + result.w) (y + result.h) until.new }
+    ensures first { IsWithout x (x + result.w) left.old left.new }
+    ensures less { left.new < left.old }
+    ensures others { AreTaken x (x + result.w) (y + 1) (y + result.h) rows.old rows.new }
 {
-    let right = run_end(pixels, until, width, x, y);
-    let lower = lower_end(pixels, width, height, x, right, y);
-    note(until, x, right, lower);
+    let right = run_end(pixels, width, x, y, *left);
+    *left &= !run_bits(x, right);
+    let lower = take_below(pixels, width, height, x, right, y, rows);
     Rect {
         x: x as u16,
         y: y as u16,
@@ -109,32 +119,31 @@ fn take_from(
     }
 }
 
-// Notes this row for the columns from `start` up to `end`.
-fn note(until: &mut [usize], start: usize, end: usize, row: usize)
-    requires { (start ≤ end) × (end ≤ length until.old) }
-    ensures { AreNoted (length until.old) until.old start end row until.new }
+// The bits of the columns from `start` up to `end`.
+#[inline(always)]
+fn run_bits(start: usize, end: usize) -> u64
+    requires { (start < end) × (end ≤ 64) }
+    ensures { (i : ℕ) → i < 64 → has_bit result i ≡ (nat_le start i && nat_lt i end) }
 {
-    for column in start..end {
-        until[column] = row;
-    }
+    (u64::MAX >> (64 - (end - start))) << start
 }
 
-// The end of the run of uncovered places with the pixel of (x, y), which begins there.
-fn run_end(pixels: &[u32], until: &[usize], width: usize, x: usize, y: usize) -> usize
-    requires column { x < width }
+// The end of the run of places left with the pixel of (x, y), which begins there.
+#[inline(always)]
+fn run_end(pixels: &[u32], width: usize, x: usize, y: usize, left: u64) -> usize
+    requires columns { (x < width) × (width ≤ SIDE) }
     requires row { y * width + width ≤ length pixels.now }
-    requires columns { width ≤ length until.now }
-    requires here { slice_index until.now x ≤ y }
+    requires here { has_bit left x ≡ true }
     ensures some { x < result }
     ensures within { result ≤ width }
     ensures run { HasRun width pixels.now (slice_index pixels.now (y * width + x)) x result y }
-    ensures uncovered { IsUncovered until.now x result y }
-    ensures longest { result < width →
-        IsOpen width pixels.now until.now (slice_index pixels.now (y * width + x)) result y → ⊥ }
+    ensures free { (i : ℕ) → x ≤ i → i < result → has_bit left i ≡ true }
+    ensures longest { result < width → has_bit left result ≡ true →
+        slice_index pixels.now (y * width + result) ≢ slice_index pixels.now (y * width + x) }
 {
     let pixel = pixels[y * width + x];
     for i in x + 1..width {
-        if pixels[y * width + i] != pixel || until[i] > y {
+        if left >> i & 1 == 0 || pixels[y * width + i] != pixel {
             return i;
         }
     }
@@ -142,10 +151,20 @@ fn run_end(pixels: &[u32], until: &[usize], width: usize, x: usize, y: usize) ->
 }
 
 // The row after the last that has the pixel of (x, y) from column x up to `right`, from row y on.
-fn lower_end(pixels: &[u32], width: usize, height: usize, x: usize, right: usize, y: usize) -> usize
+// The places below row y are taken from the bits of their rows.
+#[inline(always)]
+fn take_below(
+    pixels: &[u32],
+    width: usize,
+    height: usize,
+    x: usize,
+    right: usize,
+    y: usize,
+    rows: &mut [u64],
+) -> usize
     requires whole { length pixels.now ≡ height * width }
-    requires run { (x < right) × (right ≤ width) }
-    requires row { y < height }
+    requires run { (x < right) × (right ≤ width) × (width ≤ SIDE) }
+    requires row { (y < height) × (height ≤ length rows.old) }
     requires first { HasRun width pixels.now (slice_index pixels.now (y * width + x)) x right y }
     ensures some { y < result }
     ensures within { result ≤ height }
@@ -153,17 +172,21 @@ fn lower_end(pixels: &[u32], width: usize, height: usize, x: usize, right: usize
         HasRun width pixels.now (slice_index pixels.now (y * width + x)) x right result → ⊥ }
     ensures same { HasRuns width pixels.now (slice_index pixels.now (y * width + x))
         x right y result }
+    ensures others { AreTaken x right (y + 1) result rows.old rows.new }
 {
     let pixel = pixels[y * width + x];
+    let run = run_bits(x, right);
     for j in y + 1..height {
         if !has_run(pixels, j * width + x, j * width + right, pixel) {
             return j;
         }
+        rows[j] &= !run;
     }
     height
 }
 
 // Whether all places from `start` up to `end` have the pixel.
+#[inline(always)]
 fn has_run(pixels: &[u32], start: usize, end: usize, pixel: u32) -> bool
     requires { end ≤ length pixels.now }
     ensures has { OnTrue result ((i : ℕ) → start ≤ i → i < end → slice_index pixels.now i ≡ pixel) }

@@ -139,3 +139,32 @@ fn each_difference_of_a_row_has_its_bit(rt: HostRuntime) {
         assert!(rt; told, "a row from {from} on");
     }
 }
+
+// Whether each other place of a row of at most 64 places sets its bit alone.
+fn tells_each_other(from: usize, to: usize) -> bool
+    requires order { from ≤ to }
+    requires end { to ≤ from + 64 }
+    requires within { to ≤ 200 }
+{
+    for place in from..to {
+        let mut row = [7; LONGEST];
+        row[place] = 9;
+        if others_in(&row[from..to], 7) != 1 << (place - from) {
+            return false;
+        }
+    }
+    let told = others_in(&[7; LONGEST][from..to], 9);
+    told.count_ones() as usize == to - from && told.trailing_ones() as usize == to - from
+}
+
+#[test]
+fn each_other_place_of_a_row_has_its_bit(rt: HostRuntime) {
+    for to in 0..=64 {
+        let told = tells_each_other(0, to);
+        assert!(rt; told, "a row of {to}");
+    }
+    for from in 1..5 {
+        let told = tells_each_other(from, from + 64);
+        assert!(rt; told, "a row from {from} on");
+    }
+}

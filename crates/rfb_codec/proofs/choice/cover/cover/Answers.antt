@@ -1,94 +1,73 @@
-use Rattle.std.proofs.Common.{ℕ, arith, inl, inr, refl}
-use Rattle.rfb_codec.proofs.CoverLemmas.{Covering, covering_none, covering_passed, covering_taken, handed_on}
-use Rattle.rfb_codec.proofs.RuleLemmas.{Choosing, choosing_none, choosing_passed, next_taken, choosing_taken}
+use Rattle.std.proofs.Common.{◌≡◌, arith, refl}
+use Rattle.std.specs.Int.{w64, trailing_zeros}
+use Rattle.rfb_picture.proofs.GatherLaws.{first_bit}
+use Rattle.rfb_codec.proofs.RuleLemmas.{left_of_bit, next_taken, chosen_taken, here_taken, rows_taken, row_passed}
 use Rattle.rfb_codec.proofs.RuleLemmas.{none_further}
 use Rattle.rfb_codec.proofs.choice.cover.cover.Goals as goal
-use Rattle.rfb_codec.proofs.choice.cover.cover.Goals.{then-pixel-background+then-until-x+else-len-limit}
-use Rattle.rfb_codec.proofs.choice.cover.cover.Goals.{else-pixel-background}
-use Rattle.rfb_codec.proofs.choice.cover.cover.Goals.{else-pixel-background-via-then-pixel-background+else-until-x}
-use Rattle.rfb_codec.proofs.choice.cover.cover.Goals.{else-pixel-background-via-else-pixel-background}
-
-pub loop-y-init : goal.loop-y-init
-loop-y-init g c = record {
-  covering = rw c.requires.empty (covering_none c.args.width c.args.height 64 c.args.pixels.now c.args.background);
-  choosing = rw c.requires.empty (choosing_none c.args.width c.args.height 64 c.args.pixels.now c.args.background);
-  few = rw c.requires.empty (omega arith);
-}
-
-pub loop-x-init : goal.loop-x-init
-loop-x-init g c =
-    let row = c.loop-y in
-    let plain = c.first_other-start.ensures.plain in
-    record {
-      covering = handed_on (λ (x : ℕ). Covering c.args.width c.args.height x row.y c.args.pixels.now row.until
-          c.args.background row.subs.items) c.first_other-start.result
-          (λ x below. covering_passed _ _ _ _ _ _ _ _ (inr (plain x below))) row.invariant.covering;
-      choosing = handed_on (λ (x : ℕ). Choosing c.args.width c.args.height x row.y c.args.pixels.now row.until
-          c.args.background row.subs.items) c.first_other-start.result
-          (λ x below. choosing_passed _ _ _ _ _ _ _ _ (inr (plain x below))) row.invariant.choosing;
-      few = omega arith;
-    }
-
-pub loop-x-preserved : goal.loop-x-preserved
-loop-x-preserved g c =
-    elim c.if-pixel-background.branch [
-      | then-pixel-background+then-until-x+else-len-limit w ↦
-          let after = covering_taken c.args.width c.args.height c.loop-x.x c.loop-y.y c.args.pixels.now c.loop-x.until
-          w.take_from-rect.new.until c.args.background c.loop-x.subs.items _
-          c.requires.whole (omega arith) (omega arith) refl w.if-pixel-background.true w.take_from-rect.ensures.corner.0
-          w.take_from-rect.ensures.corner.1
-          w.take_from-rect.ensures.some.0 w.take_from-rect.ensures.some.1 w.take_from-rect.ensures.inside
-          w.take_from-rect.ensures.same w.take_from-rect.ensures.uncovered w.take_from-rect.ensures.noted
-          c.loop-x.invariant.covering in
-          let next = next_taken c.args.width c.args.height c.loop-x.x c.loop-y.y c.args.pixels.now c.loop-x.until
-          c.args.background c.loop-x.subs.items (omega arith) (omega arith) c.loop-x.invariant.choosing _
-          refl w.if-pixel-background.true w.take_from-rect.ensures.corner.0 w.take_from-rect.ensures.corner.1
-          w.take_from-rect.ensures.some.0 w.take_from-rect.ensures.some.1 w.take_from-rect.ensures.inside
-          w.take_from-rect.ensures.same w.take_from-rect.ensures.uncovered w.take_from-rect.ensures.longest
-          w.take_from-rect.ensures.lowest in
-          let chosen = choosing_taken c.args.width c.args.height c.loop-x.x c.loop-y.y c.args.pixels.now c.loop-x.until
-          c.args.background c.loop-x.subs.items (omega arith) (omega arith) c.loop-x.invariant.choosing
-          w.take_from-rect.new.until _
-          next w.take_from-rect.ensures.corner.0 w.take_from-rect.ensures.corner.1 w.take_from-rect.ensures.uncovered
-          w.take_from-rect.ensures.noted in
-          let full = w.if-len-limit.false in
-          let len = w.push.ensures.len in
-          rw (w.until-is, w.subs-is) (record {
-            covering = rw w.push.ensures.items after;
-            choosing = rw w.push.ensures.items chosen;
-            few = omega (arith, full, len);
-          })
-      | else-pixel-background w ↦
-          elim w.else-pixel-background.branch [
-            | else-pixel-background-via-then-pixel-background+else-until-x v ↦
-                rw (w.until-is, w.subs-is) (record {
-                  covering =
-                      covering_passed c.args.width c.args.height c.loop-x.x c.loop-y.y c.args.pixels.now c.loop-x.until
-                      c.args.background c.loop-x.subs.items (inl v.if-until-x.false) c.loop-x.invariant.covering;
-                  choosing =
-                      choosing_passed c.args.width c.args.height c.loop-x.x c.loop-y.y c.args.pixels.now c.loop-x.until
-                      c.args.background c.loop-x.subs.items (inl v.if-until-x.false) c.loop-x.invariant.choosing;
-                  few = omega arith;
-                })
-            | else-pixel-background-via-else-pixel-background v ↦
-                rw (w.until-is, w.subs-is) (record {
-                  covering = covering_passed c.args.width c.args.height c.loop-x.x c.loop-y.y c.args.pixels.now
-                      c.loop-x.until c.args.background c.loop-x.subs.items (inr v.if-pixel-background.false)
-                      c.loop-x.invariant.covering;
-                  choosing = choosing_passed c.args.width c.args.height c.loop-x.x c.loop-y.y c.args.pixels.now
-                      c.loop-x.until c.args.background c.loop-x.subs.items (inr v.if-pixel-background.false)
-                      c.loop-x.invariant.choosing;
-                  few = omega arith;
-                })
-          ]
-    ]
 
 pub returns-then-len-limit-clause-over : goal.returns-then-len-limit-clause-over
 returns-then-len-limit-clause-over g c =
-    none_further c.args.width c.args.height c.loop-x.x c.loop-y.y c.args.limit c.args.pixels.now c.loop-x.until
-    c.args.background c.loop-x.subs.items
-    (omega arith) (omega arith) (omega (arith, c.if-len-limit.true, c.len.ensures.value)) c.if-pixel-background.true
-    c.if-until-x.true c.loop-x.invariant.choosing
+    let left = c.loop-left.left in
+    let first = first_bit left (omega arith) c.loop-left.invariant.fits in
+    none_further c.args.width c.args.height (trailing_zeros w64 left) c.loop-y.y c.args.limit c.args.pixels.now
+    c.args.background left c.loop-left.subs.items first.0 (omega arith)
+    (omega (arith, c.if-len-limit.true, c.len.ensures.value)) first.1 c.loop-left.invariant.tells
+    c.loop-left.invariant.chosen
 
 pub bounds-pixels-y : goal.bounds-pixels-y
-bounds-pixels-y g c = grind arith
+bounds-pixels-y g c =
+    let left = c.loop-left.left in
+    let first = first_bit left (omega arith) c.loop-left.invariant.fits in
+    let column = (left_of_bit c.args.width c.args.pixels.now c.args.background c.loop-left.subs.items c.loop-y.y left
+    (trailing_zeros w64 left) c.loop-left.invariant.tells first.0 first.1).0 in
+    grind (arith, column)
+
+pub take_from-rect-requires-clause-columns : goal.take_from-rect-requires-clause-columns
+take_from-rect-requires-clause-columns g c =
+    let left = c.loop-left.left in
+    let first = first_bit left (omega arith) c.loop-left.invariant.fits in
+    let here = left_of_bit c.args.width c.args.pixels.now c.args.background c.loop-left.subs.items c.loop-y.y left
+    (trailing_zeros w64 left) c.loop-left.invariant.tells first.0 first.1 in
+    (here.0, c.requires.columns)
+
+pub take_from-rect-requires-clause-here : goal.take_from-rect-requires-clause-here
+take_from-rect-requires-clause-here g c = (first_bit c.loop-left.left (omega arith) c.loop-left.invariant.fits).1
+
+pub loop-left-preserved : goal.loop-left-preserved
+loop-left-preserved g c =
+    let left = c.loop-left.left in
+    let x = trailing_zeros w64 left in
+    let took = c.take_from-rect.ensures in
+    let old = c.loop-left.invariant in
+    let first = first_bit left (omega arith) c.loop-left.invariant.fits in
+    let here = left_of_bit c.args.width c.args.pixels.now c.args.background c.loop-left.subs.items c.loop-y.y left
+    x old.tells first.0 first.1 in
+    let next = next_taken c.args.width c.args.height x c.loop-y.y c.args.pixels.now c.args.background left
+    c.loop-left.subs.items c.requires.columns here.0 (omega arith) old.chosen old.tells _ refl first.1 first.2
+    took.corner.0 took.corner.1 took.some.0 took.some.1 took.inside took.same took.free took.longest took.lowest in
+    let full = c.if-len-limit.false in
+    let len = c.push.ensures.len in
+    record {
+      chosen = rw c.push.ensures.items (chosen_taken c.args.width c.args.height x c.loop-y.y c.args.pixels.now
+          c.args.background left c.loop-left.subs.items c.requires.columns here.0 (omega arith) old.chosen old.tells _
+          next first.1 refl took.corner.0 took.corner.1 c.requires.whole);
+      tells = rw c.push.ensures.items (here_taken c.args.width c.args.height x c.loop-y.y c.args.pixels.now
+          c.args.background left c.take_from-rect.new.left c.loop-left.subs.items _ old.tells took.corner.0
+          took.corner.1 took.some.1 took.first);
+      tell = rw c.push.ensures.items (rows_taken c.args.width c.args.height x c.loop-y.y c.args.pixels.now
+          c.args.background c.loop-left.rows c.take_from-rect.new.rows c.loop-left.subs.items _ old.tell took.corner.0
+          took.corner.1 took.others);
+      few = omega (arith, full, len);
+      fits = omega (arith, took.less);
+    }
+
+pub loop-y-preserved : goal.loop-y-preserved
+loop-y-preserved g c =
+    let none : c.loop-left.left ≡ 0 = omega arith in
+    record {
+      chosen = row_passed c.args.width c.args.height c.loop-y.y c.args.pixels.now c.args.background
+          c.loop-left.subs.items c.requires.columns c.loop-left.invariant.chosen
+          (rw none at c.loop-left.invariant.tells);
+      tell = c.loop-left.invariant.tell;
+      few = c.loop-left.invariant.few;
+    }

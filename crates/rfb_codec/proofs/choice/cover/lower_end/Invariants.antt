@@ -1,7 +1,0 @@
-use Rattle.std.proofs.Common.{◌≡◌, ℕ, ◌+◌, ◌*◌, ◌<◌, ◌≤◌, slice_index}
-use Rattle.rfb_codec.proofs.choice.cover.lower_end.Given as goal
-
-abbrev pub invariant-loop-j : goal.invariant-loop-j
-invariant-loop-j l =
-    (i j : ℕ) → l.x ≤ i → i < l.right → l.y ≤ j → j < l.j →
-    slice_index l.pixels (j * l.width + i) ≡ slice_index l.pixels (l.y * l.width + l.x)
