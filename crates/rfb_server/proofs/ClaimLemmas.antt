@@ -1,17 +1,18 @@
 -- What a session claims of its screen.
 use Rattle.std.proofs.Common.{◌≡◌, ℕ, ◌+◌, ◌-◌, ◌<◌, ◌≤◌, ◌&&◌, Bool, true, false, not, nat_le, nat_lt, Option, Some}
-use Rattle.std.proofs.Common.{None, refl, ◌∙◌, arith}
+use Rattle.std.proofs.Common.{None, refl, ◌∙◌, ◌*◌, arith, if◌then◌else◌}
 use Rattle.std.proofs.lemmas.Bool.{both_ways}
 use Rattle.std.proofs.lemmas.Bool.Decides.{nat_tests}
+use Rattle.std.proofs.lemmas.List.{get_or_default}
 use Rattle.rfb_pixel.specs.declared.colour.Colour.{Colour}
 use Rattle.rfb_pixel.specs.Format.{PixelFormat}
 use Rattle.rfb_picture.specs.declared.rect.Rect.{Rect}
 use Rattle.rfb_picture.specs.Rect.{contains}
 use Rattle.rfb_picture.specs.Box.{is_in, IsBox, IsClear}
-use Rattle.rfb_picture.specs.Grid.{Grid, Holds, at_or, copied}
+use Rattle.rfb_picture.specs.Grid.{Grid, IsGrid, Holds, at_or, copied}
 use Rattle.rfb_codec.specs.RectData.{moved_to}
 use Rattle.rfb_picture.proofs.CopyLaws.{at-copied}
-use Rattle.rfb_picture.proofs.GridLaws.{contains_true, contains_row}
+use Rattle.rfb_picture.proofs.GridLaws.{at-changed, contains_true, contains_row, place_below}
 use Rattle.rfb_server.specs.declared.claim.Claim.{Claim}
 use Rattle.rfb_server.specs.declared.session.Session.{Session}
 use Rattle.rfb_server.specs.declared.hint.Hint.{Hint}
@@ -169,3 +170,42 @@ hit_claimed session before after area old new follows outside claimed to column 
         let wide : x < before.width = omega (arith, claimed.target.0, right, size.columns) in
         let high : y < before.height = omega (arith, claimed.target.1, bottom, size.rows) in
         rw (outside.same x y wide high both.1) (claimed.shown x y left right was)
+
+-- a copy from its own place leaves each place as it was
+at_itself : (copy : Hint) (before : Grid Colour) (x y : ℕ) → IsGrid before →
+    copy.sx ≡ copy.to.x → copy.sy ≡ copy.to.y → x < before.width → y < before.height →
+    at_or (copied copy.to copy.sx copy.sy before) x y black ≡ at_or before x y black
+at_itself copy before x y whole column row wide high =
+    by (contains copy.to x y) refl (at-changed _ before x y black whole wide high)
+  where
+    by : (inside : Bool) → contains copy.to x y ≡ inside →
+        at_or (copied copy.to copy.sx copy.sy before) x y black
+        ≡ (if inside
+        then at_or before (copy.sx + (x - copy.to.x)) (copy.sy + (y - copy.to.y)) (at_or before x y black)
+        else at_or before x y black) →
+        at_or (copied copy.to copy.sx copy.sy before) x y black ≡ at_or before x y black
+    by false e there = there
+    by true e there =
+        let (a, b, c, d) = contains_true copy.to x y e in
+        let left : copy.sx + (x - copy.to.x) ≡ x = omega (arith, column, a) in
+        let top : copy.sy + (y - copy.to.y) ≡ y = omega (arith, row, c) in
+        let below = place_below before.width before.height x y wide high in
+        rw (left, top) at there
+        ∙ get_or_default before.places (y * before.width + x) (at_or before x y black) black (omega arith)
+
+-- so what is claimed stays true
+pub still_claimed : (session : Session) (before after : Grid Colour) (copy : Hint) (claim : Claim) →
+    Follows before session → after ≡ copied copy.to copy.sx copy.sy before →
+    copy.sx ≡ copy.to.x → copy.sy ≡ copy.to.y → IsTrue before session.known session.format claim →
+    IsTrue after session.known session.format claim
+still_claimed session before after copy claim follows is column row claimed =
+    told_claim after session.known session.format claim.to claim.sx claim.sy claim refl refl refl claimed.target
+    claimed.source shown
+  where
+    shown : ShowsIn after session.known session.format claim.to claim.sx claim.sy claim
+    shown x y left right top bottom fresh =
+        let size = follows.alike in
+        let wide : x < before.width = omega (arith, claimed.target.0, right, size.columns) in
+        let high : y < before.height = omega (arith, claimed.target.1, bottom, size.rows) in
+        rw (is, at_itself copy before x y follows.whole column row wide high)
+        (claimed.shown x y left right (row_claimed claim y top bottom fresh))

@@ -63,7 +63,7 @@ impl Claim {
         }
     }
 
-    /// The rectangle is drawn on: its rows are stale from here on.
+    /// The rectangle is drawn on: its rows are stale from here on, where it meets the claim.
     pub(crate) fn hit(self, area: Rect) -> Claim
         requires area { (area.x + area.w ≤ 4096) × (area.y + area.h ≤ 4096) }
         ensures to { (result.to ≡ self.to) × (result.sx ≡ self.sx) × (result.sy ≡ self.sy) }
@@ -74,7 +74,7 @@ impl Claim {
         let to = self.to;
         let right = u32::from(to.x) + u32::from(to.w);
         let bottom = u32::from(to.y) + u32::from(to.h);
-        let beside = area.x + area.w <= to.x || right <= u32::from(area.x);
+        let beside = area.w == 0 || area.x + area.w <= to.x || right <= u32::from(area.x);
         let apart = area.y + area.h <= to.y || bottom <= u32::from(area.y);
         if beside || apart {
             return self;

@@ -15,7 +15,7 @@ use rfb_wire::Encoding;
 
 impl Session {
     /// What it claims of the screen that a drawing leaves, before that is marked. A copy without a
-    /// place changes nothing of it.
+    /// place changes nothing of it, nor does one onto itself.
     pub(super) fn claim_after(&self, notice: &Notice) -> Option<Claim>
         requires held { Holds self.now.known notice.now.area }
         ensures { (before after : Grid Colour) → Follows before self.now
@@ -23,6 +23,9 @@ impl Session {
             → IsClaimed after self.now.known self.now.format result }
     {
         if let Some(copy) = notice.copy {
+            if copy.sx == copy.to.x && copy.sy == copy.to.y {
+                return self.claim;
+            }
             if copy.to.w > 0 && copy.to.h > 0 {
                 return self.claim_of(copy);
             }

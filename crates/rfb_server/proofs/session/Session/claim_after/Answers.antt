@@ -1,8 +1,13 @@
 use Rattle.std.proofs.Common.{◌≡◌, subst}
 use Rattle.rfb_server.specs.declared.claim.Claim.{Claim}
 use Rattle.rfb_server.specs.Claims.{IsTrue}
-use Rattle.rfb_server.proofs.ClaimLemmas.{hit_claimed}
+use Rattle.rfb_server.proofs.ClaimLemmas.{hit_claimed, still_claimed}
 use Rattle.rfb_server.proofs.session.Session.claim_after.Goals as goal
+
+pub returns-then-copy-2 : goal.returns-then-copy-2
+returns-then-copy-2 c = λ before after follows told claim this.
+    still_claimed c.args.self.now before after c.in-Some.copy claim follows
+    (told.copied c.in-Some.copy c.in-Some.is) c.if-copy.true c.if-copy-2.true (follows.claimed claim this)
 
 pub returns-then-copy-gt0-2 : goal.returns-then-copy-gt0-2
 returns-then-copy-gt0-2 c = λ before after follows told.
