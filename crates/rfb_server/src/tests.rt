@@ -4,6 +4,7 @@
 
 mod client_messages;
 mod composing;
+mod copied;
 mod counted;
 mod cuts;
 mod drawings;

@@ -1,6 +1,6 @@
 //! Hints that become CopyRect rectangles, byte by byte, RFC 6143 section 7.7.2.
 
-use super::scene::{Step, first_wrong, ready};
+use super::scene::{Step, first_wrong, first_wrong_of, ready};
 use crate::Server;
 use std::alloc::Global;
 
@@ -208,4 +208,58 @@ const GONE: &[Step<'static>] = &[
 #[test]
 fn a_hint_is_gone_with_its_update(rt: HostRuntime) {
     assert!(rt; are_right(rt.alloc(), ALL_KNOWN, GONE));
+}
+
+// ---- two cells
+
+// Requests for places 0 to 4 and 61 to 65 whole, and for the latter if they changed.
+const FIRST_FIVE: &[u8] = b"\x03\0\0\0\0\0\0\x05\0\x01";
+
+const LAST_FIVE: &[u8] = b"\x03\0\0\x3D\0\0\0\x05\0\x01";
+
+const LAST_FIVE_CHANGED: &[u8] = b"\x03\x01\0\x3D\0\0\0\x05\0\x01";
+
+const ONE_TO_FIVE: &[u8] =
+    b"\0\0\0\x01\0\0\0\0\0\x05\0\x01\0\0\0\0\0\0\x01\0\0\0\x02\0\0\0\x03\0\0\0\x04\0\0\0\x05\0";
+
+// Places 61 to 63 in Raw: 11, 12, 13; and 64 and 65: 14, 15.
+const TWO_CELLS: &[u8] =
+    b"\0\0\0\x02\0\x3D\0\0\0\x03\0\x01\0\0\0\0\0\0\x0B\0\0\0\x0C\0\0\0\x0D\0\0\x40\0\0\0\x02\0\x01\0\0\0\0\0\0\x0E\0\0\0\x0F\0";
+
+// Places 61 to 65 copied from 0, then 64 and 65 in Raw, as they were.
+const SECOND_CELL_AS_BEFORE: &[u8] =
+    b"\0\0\0\x02\0\x3D\0\0\0\x05\0\x01\0\0\0\x01\0\0\0\0\0\x40\0\0\0\x02\0\x01\0\0\0\0\0\0\x0E\0\0\0\x0F\0";
+
+// Of the second cell nothing is drawn, and the copy changes all that it has: it wins three places
+// and loses these two.
+const INTO_THE_SECOND_CELL: &[Step<'static>] = &[
+    Step::Feed(COPY_RECT),
+    Step::Draw(0, 1),
+    Step::Draw(1, 2),
+    Step::Draw(2, 3),
+    Step::Draw(3, 4),
+    Step::Draw(4, 5),
+    Step::Draw(61, 11),
+    Step::Draw(62, 12),
+    Step::Draw(63, 13),
+    Step::Draw(64, 14),
+    Step::Draw(65, 15),
+    Step::Feed(FIRST_FIVE),
+    Step::Sends(ONE_TO_FIVE),
+    Step::Feed(LAST_FIVE),
+    Step::Sends(TWO_CELLS),
+    Step::Draw(61, 1),
+    Step::Draw(62, 2),
+    Step::Draw(63, 3),
+    Step::Hint(61, 5, 0),
+    Step::Feed(LAST_FIVE_CHANGED),
+    Step::Sends(SECOND_CELL_AS_BEFORE),
+];
+
+#[test]
+fn a_copy_may_reach_into_a_cell_where_nothing_was_drawn(rt: HostRuntime) {
+    assert_eq!(rt;
+        first_wrong_of(rt.alloc(), 66, 1, INTO_THE_SECOND_CELL),
+        None
+    );
 }

@@ -44,6 +44,6 @@ fn updates_of_small_screens_are_the_plain_ones(rt: HostRuntime) -> Result<(), Al
 fn updates_of_screens_of_several_cells_are_the_plain_ones(
     rt: HostRuntime,
 ) -> Result<(), AllocError> {
-    assert!(rt; play_alike(rt.alloc(), 2, 200, 130)?);
+    assert!(rt; play_alike(rt.alloc(), 2, 125, 130)?);
     Ok(())
 }

@@ -19,14 +19,20 @@ pub(super) enum Step<'a> {
     /// The place of that column of the first row gets the colour whose red is that byte at rgb888,
     /// with no green and no blue.
     Draw(u16, u8),
+    /// The same of the place of that row of the first column.
+    DrawRow(u16, u8),
     /// Colours for a part of a row, from a column on.
     Put(u16, u16, &'a [Colour]),
     Copy(Rect, u16, u16),
+    /// A number of places of the first column, from a row on, get what those from another have.
+    CopyRows(u16, u16, u16),
     /// The same hint, that number of times.
     Hints(u16, Rect, u16, u16),
     /// A hint that a number of places of the first row, from a column on, look as those from
     /// another.
     Hint(u16, u16, u16),
+    /// The same of places of the first column.
+    HintRows(u16, u16, u16),
     /// An update of exactly these bytes is composed.
     Sends(&'a [u8]),
     /// No update is composed, and no byte.
@@ -90,13 +96,18 @@ fn columns(x: u16, w: u16) -> Rect {
     Rect { x, y: 0, w, h: 1 }
 }
 
-fn draws(server: &mut Server, x: u16, r: u8) -> bool {
+// Rows of the first column.
+fn rows(y: u16, h: u16) -> Rect {
+    Rect { x: 0, y, w: 1, h }
+}
+
+fn draws(server: &mut Server, place: Rect, r: u8) -> bool {
     let colour = Colour {
         r: u16::from(r) * 257,
         g: 0,
         b: 0,
     };
-    server.fill(columns(x, 1), colour).is_ok()
+    server.fill(place, colour).is_ok()
 }
 
 // Whether that holds of it.
@@ -116,11 +127,14 @@ fn holds(server: &Server, step: &Step) -> bool {
 fn is_drawn(server: &mut Server, step: &Step) -> bool {
     match *step {
         Step::Fill(rect, colour) => server.fill(rect, colour).is_ok(),
-        Step::Draw(x, r) => draws(server, x, r),
+        Step::Draw(x, r) => draws(server, columns(x, 1), r),
+        Step::DrawRow(y, r) => draws(server, rows(y, 1), r),
         Step::Put(x, y, row) => server.put(x, y, row).is_ok(),
         Step::Copy(to, sx, sy) => server.copy(to, sx, sy).is_ok(),
+        Step::CopyRows(y, h, from) => server.copy(rows(y, h), 0, from).is_ok(),
         Step::Hints(times, to, sx, sy) => hints(server, times, to, sx, sy),
         Step::Hint(x, w, from) => hints(server, 1, columns(x, w), from, 0),
+        Step::HintRows(y, h, from) => hints(server, 1, rows(y, h), 0, from),
         _ => holds(server, step),
     }
 }

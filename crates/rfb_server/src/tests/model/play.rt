@@ -76,7 +76,7 @@ fn is_alike(
 fn are_alike(server: &mut Server, plain: &mut Plain, alloc: Global, lot: &mut Lot) -> bool {
     let mut hints = Vec::new(alloc);
     let mut alike = true;
-    for _ in 0..24 {
+    for _ in 0..64 {
         alike = alike && is_alike(server, plain, alloc, &mut hints, lot);
     }
     alike
