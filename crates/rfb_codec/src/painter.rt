@@ -124,10 +124,7 @@ impl Painter {
         ensures width { picture.new.width ≡ picture.old.width }
         ensures height { picture.new.height ≡ picture.old.height }
     {
-        match self.take(bytes, picture) {
-            Ok(painted) => Ok(painted),
-            Err(flaw) => Err(flaw.fault),
-        }
+        self.take(bytes, picture).map_err(|flaw| flaw.fault)
     }
 
     /// As `feed`, and a fault says with which byte it came.

@@ -120,6 +120,15 @@ impl ServerFault {
     }
 }
 
+// Where only what a client did wrong is asked for, and not with which byte.
+impl From<Flaw> for ServerFault {
+    ghost from_gives = { λ flaw fault. fault ≡ flaw.fault };
+
+    fn from(flaw: Flaw) -> ServerFault {
+        flaw.fault
+    }
+}
+
 /// A drawing, the source of a copy or a hint leaves the screen. Nothing was changed.
 #[derive(Clone, Copy, Debug, PartialEq, Eq, Error)]
 #[error("24 Outside")]

@@ -97,10 +97,7 @@ fn tell_hex<W: Write>(output: &mut W, bytes: &[u8]) -> io::Result<()>
     if hex::encode_to_slice(bytes, digits).is_err() {
         return Err(io::Error::from(ErrorKind::Other));
     }
-    match send(digits, &mut Lent::new(output)) {
-        Ok(()) => Ok(()),
-        Err(_) => Err(io::Error::from(ErrorKind::Other)),
-    }
+    send(digits, &mut Lent::new(output)).map_err(|_| io::Error::from(ErrorKind::Other))
 }
 
 /// A line of the owner's is not done, and why.

@@ -65,10 +65,7 @@ impl Share {
         ensures refused { IsErr result ↔ (IsShowable (picture_of viewer) → ⊥) }
         ensures back { IfErr result (λ same. same ≡ viewer) }
     {
-        let mirror = match Mirror::of(viewer) {
-            Ok(mirror) => mirror,
-            Err(viewer) => return Err(viewer),
-        };
+        let mirror = Mirror::of(viewer)?;
         let picture = mirror.picture();
         if picture.width() > SIDE || picture.height() > SIDE {
             return Err(mirror.into_viewer());

@@ -266,10 +266,7 @@ impl Viewer {
         if !self.is_ready() {
             return Err(TextFault::NotReady);
         }
-        match append_text(text, out) {
-            Ok(()) => Ok(()),
-            Err(_) => Err(TextFault::NoMemory),
-        }
+        append_text(text, out).map_err(|_| TextFault::NoMemory)
     }
 
     // Why a call is refused, if it is.

@@ -69,10 +69,7 @@ impl Session {
         ensures fails { IfErr result (λ fault. session_fault self.new ≡ Some fault) }
         ensures failed { StaysFailed (session_fault self.old) self.old result self.new }
     {
-        match self.feed_placed(bytes) {
-            Ok(fed) => Ok(fed),
-            Err(flaw) => Err(flaw.fault),
-        }
+        Ok(self.feed_placed(bytes)?)
     }
 
     /// As `feed`, and a fault says with which byte of the slice it came. One of an earlier call
