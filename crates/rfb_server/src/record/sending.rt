@@ -21,9 +21,9 @@ impl Record {
     #[tactic(auto, using(crate::proofs::RecordLemmas::record_sizes))]
     pub(crate) fn take_raw(
         &mut self,
+        rect: Rect,
         screen: &Picture<Colour>,
         format: &Format,
-        rect: Rect,
         out: &mut Vec<u8>,
     )
         requires held { Holds self.old rect }

@@ -143,6 +143,6 @@ impl Session {
             encoding: Encoding::Raw,
         };
         append_within(out, head.spell().as_slice());
-        self.known.take_raw(screen, &self.format, rect, out);
+        self.known.take_raw(rect, screen, &self.format, out);
     }
 }
