@@ -7,8 +7,9 @@ use Rattle.clap.specs.declared.error.Error.{Error}
 use Rattle.clap.specs.declared.error.kind.ErrorKind.TheVariants.{OutOfMemory}
 use Rattle.rfb.specs.declared.fault.Failure.{Failure}
 use Rattle.rfb.specs.declared.options.Order.{Order}
-use Rattle.rfb.specs.CommandLine.{Does, DoesAsked, Through}
+use Rattle.rfb.specs.CommandLine.{DoesAsked, Through}
 use Rattle.rfb.specs.Options.{AreOrdered}
+use Rattle.rfb.specs.command.Program.{Does}
 
 pub zero_not_one : (n : ℕ) → n ≡ 0 → n ≡ 1 → ⊥
 zero_not_one n is not = let both : 0 ≡ 1 = sym is ∙ not in cc

@@ -24,7 +24,7 @@ use Rattle.rfb.specs.declared.fault.Fault.{Fault}
 use Rattle.rfb.specs.declared.script.hub_steps.LineTold.{LineTold}
 use Rattle.rfb.specs.declared.script.hub.hub_step.HubNumbered.{HubNumbered}
 use Rattle.rfb_session.specs.declared.language.screen.Screen.{Screen as Size}
-use Rattle.rfb.specs.CommandLine.{HubPlayedTo, ShowsSlotTo}
+use Rattle.rfb.specs.Plays.{HubPlayedTo, ShowsSlotTo}
 use Rattle.rfb.specs.HubRun.{LeadsHub, RunsTelling, TellsLine, deliveries_in, ended_with, hub_events, hub_events_of}
 use Rattle.rfb.specs.HubRun.{or_refusal, refusal_with}
 

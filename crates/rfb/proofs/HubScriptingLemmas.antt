@@ -13,7 +13,7 @@ use Rattle.rfb.specs.declared.fault.Failure.{Failure}
 use Rattle.rfb.specs.declared.fault.Failure.TheVariants.{BadLine, Undone, Fault, Engine, Picture}
 use Rattle.rfb.specs.declared.script.hub.hub_step.HubNumbered.{HubNumbered}
 use Rattle.rfb_session.specs.declared.language.screen.Screen.{Screen as Size}
-use Rattle.rfb.specs.CommandLine.{FailsAt, FailsAtAny, FailsIn, HubPlayedTo, LeavesScript, PlaysAny, PlaysScript}
+use Rattle.rfb.specs.Plays.{FailsAt, FailsAtAny, FailsIn, HubPlayedTo, LeavesScript, PlaysAny, PlaysScript}
 use Rattle.rfb.specs.HubRun.{hub_events}
 use Rattle.rfb.specs.HubScript.{AreHubScript, BeginHub, IsFirstBadInHub, IsWithoutShow}
 use Rattle.rfb.specs.HubScript.{StopsReadingAny, StopsReadingHub}

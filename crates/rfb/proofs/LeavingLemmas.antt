@@ -6,7 +6,7 @@ use Rattle.rfb.specs.declared.fault.Fault.{Fault}
 use Rattle.rfb.specs.declared.script.line.Numbered.{Numbered}
 use Rattle.rfb_session.specs.declared.language.screen.Screen.{Screen as Size}
 use Rattle.rfb.specs.declared.script.line.Wants.{Wants}
-use Rattle.rfb.specs.CommandLine.{LeavesPlayed, ShowsTo}
+use Rattle.rfb.specs.Plays.{LeavesPlayed, ShowsTo}
 use Rattle.rfb.specs.ScriptRun.{IsPlayed}
 
 pub leaves_played : {W : Type 0} (contents : W → Option (List ℕ)) (old new : W) (P : Type 0) (world : World)

@@ -23,10 +23,10 @@ use Rattle.rfb_wire.specs.declared.encoding.Encoding.{Encoding}
 use Rattle.rfb.specs.command.Values.{GivesOr, IsAbsent, IsFlagged, IsThere, as_lines}
 use Rattle.rfb.specs.command.ServeWords.{CountsConnections, GivesConnections, HasBadConnections}
 use Rattle.rfb.specs.command.ViewWords.{BadAlways, HasBadFollow, HasBadView}
-use Rattle.rfb.specs.command.Program.{asked, program}
+use Rattle.rfb.specs.command.Program.{HasBadValue, asked, program}
 use Rattle.rfb.specs.command.Values.{GivesFormat, HasBadFormat, NamesFormat}
 use Rattle.rfb.specs.command.Values.{GivesEncodings, HasBadEncodings, NamesEncodings}
-use Rattle.rfb.specs.Options.{AreOrdered, AreWrong, HasBadValue, IsOrder, IsWrongValue}
+use Rattle.rfb.specs.Options.{AreOrdered, AreWrong, IsOrder, IsWrongValue}
 use Rattle.rfb_session.specs.language.Words.{AreEncodings, IsFormatWord, parts_of}
 
 -- a plain command has no global argument

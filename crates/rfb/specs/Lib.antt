@@ -18,6 +18,7 @@ pub mod Outcomes
 pub mod ScriptRun
 pub mod Ready
 pub mod Relay
+pub mod Plays
 pub mod Recording
 pub mod Scene
 pub mod Service

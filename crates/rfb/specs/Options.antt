@@ -1,67 +1,15 @@
 -- What the words of the command line ask for.
-use Rattle.std.specs.Prelude.{◌≡◌, ◌≢◌, ◌⊎◌, Bool, true, false, List, [], ◌∷◌, Option, Some, None, codes, filter}
-use Rattle.std.specs.Prelude.{not, nat_eq, ◌&&◌}
+use Rattle.std.specs.Prelude.{◌≡◌, ◌≢◌, ◌⊎◌, ◌&&◌, not, nat_eq, Bool, true, false}
+use Rattle.std.specs.Prelude.{List, [], ◌∷◌, Option, codes, filter}
 use Rattle.std.specs.Cmp.Lexicographic.{pointwise}
-use Rattle.clap.specs.Words.{HasKind, IsAmong, Row, Text, fault_of, first_of, kind_of}
+use Rattle.clap.specs.Words.{HasKind, IsAmong, Row, Text, fault_of, kind_of}
 use Rattle.clap.specs.declared.error.kind.ErrorKind.{ErrorKind}
 use Rattle.clap.specs.declared.error.kind.ErrorKind.TheVariants.{DisplayHelp, DisplayVersion, OutOfMemory}
 use Rattle.rfb.specs.declared.options.Order.{Order}
-use Rattle.rfb.specs.declared.commands.Task.{Task}
-use Rattle.rfb.specs.declared.commands.Task.TheVariants.{Script, Loop, Play, Serve, View, Follow, Share, Relay}
-use Rattle.rfb.specs.declared.commands.Task.TheVariants.{Drive}
 use Rattle.rfb.specs.declared.options.WrongWords.{WrongWords}
 use Rattle.rfb.specs.declared.options.WrongWords.TheVariants.{Words, Value}
-use Rattle.rfb.specs.declared.play.play_options.PlayOptions.{PlayOptions}
-use Rattle.rfb.specs.declared.sharing.share_words.ShareOptions.{ShareOptions}
-use Rattle.rfb.specs.declared.commands.Verb.{Verb}
-use Rattle.rfb.specs.command.Program.{program, asked, name_of}
-use Rattle.rfb.specs.command.Values.{GivesFormat, HasBadFormat, GivesNumber, MayGiveNumber, IsFlagged, GivesFiles}
-use Rattle.rfb.specs.command.Values.{NamesWord}
-use Rattle.rfb.specs.command.HostingWords.{GivesHosting}
-use Rattle.rfb.specs.command.ServeWords.{GivesServeOptions, HasBadServe}
-use Rattle.rfb.specs.command.ViewWords.{GivesFollowOptions, GivesViewOptions, HasBadView}
-use Rattle.rfb.specs.command.RelayWords.{GivesRelayOptions, HasBadRelay}
-use Rattle.rfb.specs.command.DriveWords.{GivesDriveOptions, HasBadDrive}
-
--- what `share` is asked for
-pub record GivesShareOptions (rows : List Row) (options : ShareOptions) : Type 0 where
-  pub hosting : GivesHosting rows options.hosting
-  pub name : NamesWord (codes "rfb") (first_of (codes "name") rows) options.name.now
-  pub hold : GivesNumber (codes "hold") 1 4294967295 rows options.hold
-
--- what `play` is asked for
-pub record GivesPlayOptions (rows : List Row) (options : PlayOptions) : Type 0 where
-  pub format : GivesFormat rows options.format
-  pub updates : MayGiveNumber (codes "updates") 1 4294967295 rows options.updates
-  pub is_partial : IsFlagged (codes "partial") rows options.is_partial
-
--- a command, by its name and its options
-abbrev pub IsTask : Option (Text × List Row) → Task → Type 0
-IsTask None task = ⊥
-IsTask (Some (name, rows)) Script = name ≡ codes "script"
-IsTask (Some (name, rows)) Loop = name ≡ codes "loop"
-IsTask (Some (name, rows)) (Play options) = (name ≡ codes "play") × GivesPlayOptions rows options
-IsTask (Some (name, rows)) (Serve options) =
-    (name ≡ codes "serve") × GivesServeOptions rows options
-IsTask (Some (name, rows)) (View options) =
-    (name ≡ codes "view") × IsFlagged (codes "follow") rows false × GivesViewOptions rows options
-IsTask (Some (name, rows)) (Follow options) =
-    (name ≡ codes "view") × IsFlagged (codes "follow") rows true × GivesFollowOptions rows options
-IsTask (Some (name, rows)) (Share options) = (name ≡ codes "share") × GivesShareOptions rows options
-IsTask (Some (name, rows)) (Relay options) = (name ≡ codes "relay") × GivesRelayOptions rows options
-IsTask (Some (name, rows)) (Drive options) = (name ≡ codes "drive") × GivesDriveOptions rows options
-
--- no command has this name
-abbrev pub IsNoName : Text → Type 0
-IsNoName name = (verb : Verb) → name ≢ name_of verb
-
--- a value of an option is none that it may have, or there is no such command
-abbrev pub HasBadValue : Option (Text × List Row) → Type 0
-HasBadValue None = Unit {0}
-HasBadValue (Some (name, rows)) =
-    ((name ≡ codes "play") × HasBadFormat rows) ⊎ ((name ≡ codes "serve") × HasBadServe rows)
-    ⊎ ((name ≡ codes "view") × HasBadView rows) ⊎ ((name ≡ codes "relay") × HasBadRelay rows)
-    ⊎ ((name ≡ codes "drive") × HasBadDrive rows) ⊎ IsNoName name
+use Rattle.rfb.specs.command.Program.{HasBadValue, IsTask, asked, program}
+use Rattle.rfb.specs.command.Values.{GivesFiles}
 
 -- a word asks for sentences
 abbrev pub is_explain : Text → Bool

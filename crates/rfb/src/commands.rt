@@ -3,12 +3,11 @@
 ghost use Rattle.std.specs.Prelude.{◌≡◌, ◌≢◌, All, None, Some, map, IfOk, IfSome, OnOk, OnErr};
 ghost use Rattle.std.specs.Prelude.{MatchResult};
 ghost use Rattle.clap.specs.Words.{found_of, rows_of, shape_of};
+ghost use Rattle.rfb.specs.command.Program.{Does, HasBadValue, IsTask, Leaves};
 ghost use Rattle.rfb.specs.command.Program.{name_of, shape_named};
 ghost use Rattle.rfb.specs.command.ViewWords.{HasBadView};
 ghost use Rattle.rfb.specs.command.Usage.{shape_for};
-ghost use Rattle.rfb.specs.CommandLine.{Does, Leaves};
 ghost use Rattle.rfb.specs.Context.{KeepsStreams};
-ghost use Rattle.rfb.specs.Options.{HasBadValue, IsTask};
 ghost use Rattle.rfb.specs.declared.commands.Verb.TheVariants as Verb;
 
 use crate::context::Context;

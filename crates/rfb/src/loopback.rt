@@ -1,7 +1,7 @@
 //! A script whose two ends talk over a connection of this process to itself.
 
 ghost use Rattle.std.specs.Prelude.{◌≡◌, ℕ, Err, OnOk, OnErr, IfErr};
-ghost use Rattle.rfb.specs.CommandLine.{FailsAt};
+ghost use Rattle.rfb.specs.Plays.{FailsAt};
 ghost use Rattle.rfb.specs.Context.{KeepsStreams};
 ghost use Rattle.rfb.specs.Loopback.{LeavesSomePicture, PlaysSomeScript, WritesSomePicture};
 ghost use Rattle.rfb.specs.Recording.{WritesPicture};

@@ -11,8 +11,7 @@ ghost use Rattle.clap.specs.Words.{FailsBy, fault_of, subcommand_rows_of};
 ghost use Rattle.clap.specs.Simple.{app_of};
 ghost use Rattle.rfb.specs.command.Values.{GivesFiles};
 ghost use Rattle.rfb.specs.Options.{AreOrdered, AreWrong, IsOrder, IsWrongValue};
-ghost use Rattle.rfb.specs.Options.{HasBadValue, IsTask};
-ghost use Rattle.rfb.specs.command.Program.{asked, program};
+ghost use Rattle.rfb.specs.command.Program.{HasBadValue, IsTask, asked, program};
 
 use crate::commands::{COMMANDS, Task, commands_of, task_in, verb_named};
 use crate::help::{Topic, VERSION};

@@ -2,7 +2,8 @@
 //! named.
 
 ghost use Rattle.std.specs.Prelude.{◌≡◌, ◌⊎◌, ℕ, List, Option, OnOk, OnErr};
-ghost use Rattle.rfb.specs.CommandLine.{Does, IntoFile, Leaves, Through};
+ghost use Rattle.rfb.specs.CommandLine.{IntoFile, Through};
+ghost use Rattle.rfb.specs.command.Program.{Does, Leaves};
 ghost use Rattle.rfb.specs.Context.{KeepsStreams};
 
 mod source;

@@ -3,7 +3,7 @@
 ghost use Rattle.std.specs.Prelude.{MatchResult};
 ghost use Rattle.clap.specs.Words.{found_of, rows_of};
 ghost use Rattle.rfb.specs.command.Values.{HasBadFormat};
-ghost use Rattle.rfb.specs.Options.{GivesPlayOptions};
+ghost use Rattle.rfb.specs.command.PlayWords.{GivesPlayOptions};
 
 use crate::help::Topic;
 use crate::options::BadValue;

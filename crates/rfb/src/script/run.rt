@@ -2,8 +2,8 @@
 
 ghost use Rattle.std.specs.Prelude.{◌≡◌, ◌⊎◌, ℕ, Err, OnOk, OnErr, IfErr};
 ghost use Rattle.rfb.specs.declared.fault.Failure.TheVariants as Failure;
-ghost use Rattle.rfb.specs.CommandLine.{FailsAtAny, LeavesPlayed, LeavesScript, PlaysScript};
-ghost use Rattle.rfb.specs.CommandLine.{ShowsTo, WritesPlayed, WritesShown};
+ghost use Rattle.rfb.specs.Plays.{FailsAtAny, LeavesPlayed, LeavesScript, PlaysScript};
+ghost use Rattle.rfb.specs.Plays.{ShowsTo, WritesPlayed, WritesShown};
 ghost use Rattle.rfb.specs.Context.{KeepsStreams};
 ghost use Rattle.rfb.specs.ScriptRun.{TakesAll, ends_of};
 ghost use Rattle.rfb_session.specs.Devices.{AppendsBeginning};

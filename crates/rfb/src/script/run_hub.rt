@@ -3,7 +3,7 @@
 ghost use Rattle.std.specs.Prelude.{◌≡◌, ◌⊎◌, OnErr, OnOk};
 ghost use Rattle.std.specs.Io.KnownBytes.{Appends};
 ghost use Rattle.rfb_session.specs.Devices.{AppendsBeginning};
-ghost use Rattle.rfb.specs.CommandLine.{HubPlayedTo, ShowsSlotTo};
+ghost use Rattle.rfb.specs.Plays.{HubPlayedTo, ShowsSlotTo};
 ghost use Rattle.rfb.specs.Context.{KeepsStreams};
 ghost use Rattle.rfb.specs.HubRun.{LeadsHub, hub_events};
 

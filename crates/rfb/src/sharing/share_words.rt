@@ -3,7 +3,7 @@
 ghost use Rattle.std.specs.Prelude.{codes};
 ghost use Rattle.clap.specs.Words.{first_of, found_of, rows_of};
 ghost use Rattle.rfb.specs.command.Values.{NamesWord};
-ghost use Rattle.rfb.specs.Options.{GivesShareOptions};
+ghost use Rattle.rfb.specs.command.ShareWords.{GivesShareOptions};
 
 use crate::defaults::HOLD_SECONDS;
 use crate::help::Topic;

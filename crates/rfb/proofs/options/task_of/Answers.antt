@@ -2,7 +2,7 @@ use Rattle.std.proofs.Common.{◌≡◌, ◌∙◌, sym, subst, List, Option, So
 use Rattle.clap.specs.Walk.{Row, Text, rows_of}
 use Rattle.clap.specs.Matches.{found_of}
 use Rattle.clap.specs.Simple.{subcommand_rows_of}
-use Rattle.rfb.specs.Options.{IsTask, HasBadValue}
+use Rattle.rfb.specs.command.Program.{IsTask, HasBadValue}
 use Rattle.rfb.proofs.OptionLemmas.{both_there, map_map}
 use Rattle.rfb.proofs.options.task_of.Goals as goal
 

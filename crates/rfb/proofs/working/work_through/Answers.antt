@@ -1,4 +1,4 @@
-use Rattle.rfb.specs.CommandLine.{Does, Leaves}
+use Rattle.rfb.specs.command.Program.{Does, Leaves}
 use Rattle.rfb.proofs.ThroughLemmas.{into_file, on_err, on_ok, or_other, through}
 use Rattle.rfb.proofs.working.work_through.Goals as goal
 

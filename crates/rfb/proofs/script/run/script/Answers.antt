@@ -7,7 +7,7 @@ use Rattle.rfb_session.specs.World.{shown_by}
 use Rattle.rfb.specs.declared.script.line.Numbered.{Numbered}
 use Rattle.rfb_session.specs.declared.language.screen.Screen.{Screen}
 use Rattle.rfb.specs.declared.script.line.Wants.{Wants}
-use Rattle.rfb.specs.CommandLine.{LeavesPlayed, LeavesScript, PlaysAny}
+use Rattle.rfb.specs.Plays.{LeavesPlayed, LeavesScript, PlaysAny}
 use Rattle.rfb.specs.ScriptRun.{IsPlayed}
 use Rattle.rfb.specs.Script.{AreScript, StopsReading, lines_of}
 use Rattle.rfb_session.proofs.WrittenLaws.{on_err}
