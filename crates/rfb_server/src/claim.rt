@@ -4,10 +4,10 @@ ghost use Rattle.std.specs.Prelude.{◌≡◌, ◌≤◌, ◌+◌, ◌-◌, ℕ,
 ghost use Rattle.std.specs.Bool.{OnTrue};
 ghost use Rattle.std.specs.Option.{ForSome};
 ghost use Rattle.rfb_codec.specs.RectData.{moved_to};
+ghost use Rattle.rfb_server.specs.Claims.{is_stale, is_claimed, IsOfCopy, IsAsFar, IsSourceOf};
 ghost use Rattle.rfb_picture.specs.Box.{is_in};
 ghost use Rattle.rfb_picture.specs.Grid.{Holds};
 ghost use Rattle.rfb_picture.specs.Rect.{contains};
-ghost use Rattle.rfb_server.specs.Claims.{is_stale, is_claimed, IsOfCopy, IsAsFar, IsSourceOf};
 
 mod chain;
 mod stale;

@@ -42,6 +42,7 @@ impl Model for LateSession {
 impl LateSession {
     ghost use Rattle.rfb_pixel.specs.declared.colour.Colour.{Colour};
     ghost use Rattle.rfb_picture.specs.Grid.{Grid, Holds, at_or};
+    ghost use Rattle.rfb_server.specs.Twins.{AreTwins, HasSentTwin};
     ghost use Rattle.rfb_hello.specs.Version.{version_text};
     ghost use Rattle.rfb_server.specs.Server.{Serving, ServerState};
     ghost use Rattle.rfb_server.specs.Model.{SessionStandsFor, serving_with};
@@ -49,7 +50,6 @@ impl LateSession {
     ghost use Rattle.rfb_server.specs.KnownScreen.{Follows};
     ghost use Rattle.rfb_server.specs.Hints.{hints_in};
     ghost use Rattle.rfb_server.specs.declared.session.Session.{Session};
-    ghost use Rattle.rfb_server.specs.Twins.{AreTwins, HasSentTwin};
     ghost use Rattle.rfb_server.specs.UpdateCall.{SendsUpdate, OwesUpdate, OwesNone, HasAsked};
     ghost use Rattle.rfb_server.specs.Intake.{IsUnfed, TakesNotice};
     ghost use Rattle.rfb_server.specs.Room.{GrowsWithin, update_room};

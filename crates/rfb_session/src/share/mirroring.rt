@@ -3,20 +3,20 @@
 ghost use Rattle.std.specs.Prelude.{◌≡◌, ◌↔◌, ◌<◌, ◌≤◌, ℕ, length, true, false, All, None, Some};
 ghost use Rattle.std.specs.Prelude.{Err, IfOk, IfErr, IfSome, OnOk, OnErr, IsErr, IsTrue};
 ghost use Rattle.std.specs.Prelude.{option_copied};
+ghost use Rattle.rfb_session.specs.Mirrors.{seen_by, IsAsked, StandsOrFailed};
 ghost use Rattle.std.specs.Option.{ForSome};
 ghost use Rattle.rfb_codec.specs.Effect.{IsAlike};
 ghost use Rattle.rfb_hello.specs.declared.version.Version.TheVariants.{V38};
+ghost use Rattle.rfb_session.specs.Slots.{seat_at, OnSlot};
 ghost use Rattle.rfb_picture.specs.Grid.{IsGrid};
 ghost use Rattle.rfb_picture.specs.Places.{has_bit};
 ghost use Rattle.rfb_server.specs.Model.{notes_in};
-ghost use Rattle.rfb_session.specs.Mirrors.{seen_by, IsAsked, StandsOrFailed};
-ghost use Rattle.rfb_session.specs.Slots.{seat_at, OnSlot};
 ghost use Rattle.rfb_session.specs.ShareMoves.{IsRelayed};
+ghost use Rattle.rfb_viewer.specs.declared.fault.AppendFault.TheVariants.{Refused};
 ghost use Rattle.rfb_session.specs.ShareSeats.{session_at};
 ghost use Rattle.rfb_viewer.specs.Damage.{damage_of};
 ghost use Rattle.rfb_viewer.specs.Model.{picture_of};
 ghost use Rattle.rfb_viewer.specs.Moved.{moved_of};
-ghost use Rattle.rfb_viewer.specs.declared.fault.AppendFault.TheVariants.{Refused};
 ghost use Rattle.rfb_viewer.specs.declared.fault.CallFault.TheVariants.{NotReady};
 
 mod telling;
