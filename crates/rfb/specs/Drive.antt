@@ -17,7 +17,6 @@ use Rattle.rfb.specs.declared.driving.drive_words.DriveOptions.{DriveOptions}
 use Rattle.rfb.specs.declared.driving.rig.FileRig.{FileRig}
 use Rattle.rfb.specs.declared.fault.Failure.{Failure}
 use Rattle.rfb.specs.declared.fault.Failure.TheVariants as failures
-use Rattle.rfb.specs.declared.fault.Fault.{Fault}
 use Rattle.rfb.specs.declared.fault.Fault.TheVariants as faults
 use Rattle.rfb.specs.declared.fault.Undone.TheVariants as undone
 
@@ -70,10 +69,9 @@ drive_failure (ends.ServerGone why) = Some (failures.Engine (engine_fault why))
 drive_failure ends.NoMemory = Some (failures.Fault faults.NoMemory)
 drive_failure ends.Device = Some (failures.Fault faults.Device)
 
--- the command fails so; where the core does not say that it has ended, memory was wanting for what comes
--- before its first turn, or waiting has failed
+-- the command fails so; where the core does not say that it has ended, waiting has failed
 abbrev pub FailsDriveFor : Option DriveOutcome → Failure → Type 0
-FailsDriveFor None failure = (fault : Fault) × (failure ≡ failures.Fault fault)
+FailsDriveFor None failure = failure ≡ failures.Fault faults.Device
 FailsDriveFor (Some outcome) failure = drive_failure outcome ≡ Some failure
 
 -- and why: by how it has ended, if anything was written

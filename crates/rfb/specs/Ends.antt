@@ -9,7 +9,6 @@ use Rattle.rfb_session.specs.declared.relay.gone.Gone.{Gone}
 use Rattle.rfb_session.specs.declared.relay.gone.Gone.TheVariants as gone
 use Rattle.rfb.specs.declared.fault.Failure.{Failure}
 use Rattle.rfb.specs.declared.fault.Failure.TheVariants as failures
-use Rattle.rfb.specs.declared.fault.Fault.{Fault}
 use Rattle.rfb.specs.declared.fault.Fault.TheVariants as faults
 
 -- a line said `quit`, or the last viewer has gone
@@ -48,8 +47,7 @@ failure_of NoMemory = Some (failures.Fault faults.NoMemory)
 failure_of Device = Some (failures.Fault faults.Device)
 failure_of (ServerGone why) = Some (failures.Engine (engine_fault why))
 
--- the command fails so; where the core does not say that it has ended, memory was wanting for what comes
--- before its first turn, or waiting has failed
+-- the command fails so; where the core does not say that it has ended, waiting has failed
 abbrev pub FailsFor : Option Outcome → Failure → Type 0
-FailsFor None failure = (fault : Fault) × (failure ≡ failures.Fault fault)
+FailsFor None failure = failure ≡ failures.Fault faults.Device
 FailsFor (Some outcome) failure = failure_of outcome ≡ Some failure

@@ -25,7 +25,7 @@ use crate::reaching::connect_in_time;
 use crate::sharing::READ_AT_ONCE;
 use crate::sharing::shell::{Front, Shell};
 use crate::sharing::standard::{Streams, streams_for};
-use crate::sharing::tenant::{Tenant, doors_of};
+use crate::sharing::tenant::{Tenant, empty_doors, let_in_first};
 pub use drive_words::{DRIVE, DriveOptions, drive_options_in};
 use rfb_session::dispose;
 use rfb_session::doors::live;
@@ -80,30 +80,26 @@ fn drive_over<P: AllocGlobal + Clock + Files + Net, R: Read, W: Write, E: Write>
 {
     let alloc = context.alloc();
     let mut part = Vec::from_elem(alloc, 0, READ_AT_ONCE)?;
+    let mut doors = empty_doors(alloc)?;
     let (input, streams) = input_of(streams, options.has_lines);
     let fd = server.as_raw_fd();
     let front = front_of(fd);
     let mut shell = Shell::new(context.rt, alloc, None::<P::Listener>, front, streams)?;
     let rig = FileRig::new(context.rt, options.keep, says);
     let mut driver = driver_of(alloc, &options, rig);
-    let lines = Tenant::input(context.input, input);
+    let lines = Some(Tenant::input(context.input, input));
     let server = Tenant::Connection(server);
-    let doors = doors_of(
-        alloc,
+    let_in_first(
+        &mut doors,
         server,
-        Some(lines),
+        lines,
         context.output,
         context.errors,
         streams,
     );
-    let ended = match doors {
-        Ok(mut doors) => {
-            live(&mut driver, &mut doors, &mut shell, &mut part);
-            // All lines are done, or one cannot be, or the server has gone.
-            drive_result(driver.outcome(), fd)
-        }
-        Err(error) => Err(Failure::from(error)),
-    };
+    live(&mut driver, &mut doors, &mut shell, &mut part);
+    // All lines are done, or one cannot be, or the server has gone.
+    let ended = drive_result(driver.outcome(), fd);
     dispose(driver);
     dispose(shell);
     ended

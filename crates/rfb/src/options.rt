@@ -11,6 +11,7 @@ ghost use Rattle.clap.specs.Words.{FailsBy, fault_of, subcommand_rows_of};
 ghost use Rattle.clap.specs.Simple.{app_of};
 ghost use Rattle.rfb.specs.command.Values.{GivesFiles};
 ghost use Rattle.rfb.specs.Options.{AreOrdered, AreWrong, IsOrder, IsWrongValue};
+ghost use Rattle.rfb.specs.declared.options.WrongWords.TheVariants.{Value, Words};
 ghost use Rattle.rfb.specs.command.Program.{HasBadValue, IsTask, asked, program};
 
 use crate::commands::{COMMANDS, Task, commands_of, task_in, verb_named};
@@ -66,15 +67,31 @@ pub enum WrongWords<'a> {
     Value(BadValue<'a>),
 }
 
+// What the parser of words returns, and what the look at their values does: each `?` makes its own
+// kind of it.
+impl From<Error> for WrongWords<'_> {
+    ghost from_gives = { λ error wrong. wrong ≡ Words error };
+
+    fn from(error: Error) -> Self {
+        WrongWords::Words(error)
+    }
+}
+
+impl<'a> From<BadValue<'a>> for WrongWords<'a> {
+    ghost from_gives = { λ value wrong. wrong ≡ Value value };
+
+    fn from(value: BadValue<'a>) -> Self {
+        WrongWords::Value(value)
+    }
+}
+
 /// What the words ask for.
 pub fn read_words<'a, S: AsStr>(alloc: Global, words: &'a [S]) -> Result<Order<'a>, WrongWords<'a>>
     ensures { MatchResult result (AreOrdered (map S.text words.now))
         (AreWrong (map S.text words.now)) }
 {
-    match parse(alloc, words) {
-        Ok(matches) => order_in(alloc, &matches),
-        Err(error) => Err(WrongWords::Words(error)),
-    }
+    let matches = parse(alloc, words)?;
+    order_in(alloc, &matches)
 }
 
 // What the words are, or what is wrong with them.
@@ -104,14 +121,9 @@ fn order_in<'a>(alloc: Global, matches: &ArgMatches<'a>) -> Result<Order<'a>, Wr
     ensures { MatchResult result (IsOrder (subcommand_rows_of matches.now))
         (IsWrongValue (subcommand_rows_of matches.now)) }
 {
-    let task = match task_of(matches) {
-        Ok(task) => task,
-        Err(value) => return Err(WrongWords::Value(value)),
-    };
-    match paths_of(alloc, matches) {
-        Ok(paths) => Ok(Order { task, paths }),
-        Err(error) => Err(WrongWords::Words(Error::from(error))),
-    }
+    let task = task_of(matches)?;
+    let paths = paths_of(alloc, matches).map_err(Error::from)?;
+    Ok(Order { task, paths })
 }
 
 // What the command that is named reads and writes.

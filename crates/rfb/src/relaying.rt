@@ -23,7 +23,7 @@ use crate::sharing::shell::callee::Callee;
 use crate::sharing::shell::{Front, Shell};
 use crate::sharing::speaker::Reporter;
 use crate::sharing::standard::{Streams, streams_for};
-use crate::sharing::tenant::{Tenant, doors_of};
+use crate::sharing::tenant::{Tenant, empty_doors, let_in_first};
 pub use relay_words::{RELAY, RelayOptions, relay_options_in};
 use rfb_session::dispose;
 use rfb_session::doors::live;
@@ -82,6 +82,7 @@ fn relay_between<P: AllocGlobal + Clock + Net, R: Read, W: Write, E: Write>(
 {
     let alloc = context.alloc();
     let mut part = Vec::from_elem(alloc, 0, READ_AT_ONCE)?;
+    let mut doors = empty_doors::<R, W, E, P::Stream>(alloc)?;
     let front = Front {
         input: None,
         server: Some(server.as_raw_fd()),
@@ -90,21 +91,16 @@ fn relay_between<P: AllocGlobal + Clock + Net, R: Read, W: Write, E: Write>(
     let mut shell = Shell::new(context.rt, alloc, Some(listener), front, streams)?;
     let mut relay = relay_of(alloc, options, says);
     let server = Tenant::Connection(server);
-    let doors = doors_of::<R, W, E, P::Stream>(
-        alloc,
+    let_in_first(
+        &mut doors,
         server,
         None,
         context.output,
         context.errors,
         streams,
     );
-    let ended = match doors {
-        Ok(mut doors) => {
-            live(&mut relay, &mut doors, &mut shell, &mut part);
-            result_of(relay.outcome())
-        }
-        Err(error) => Err(Failure::from(error)),
-    };
+    live(&mut relay, &mut doors, &mut shell, &mut part);
+    let ended = result_of(relay.outcome());
     dispose(relay);
     dispose(shell);
     ended

@@ -28,7 +28,7 @@ use crate::sharing::ending::result_of;
 use crate::sharing::shell::{Front, Shell};
 use crate::sharing::speaker::Reporter;
 use crate::sharing::standard::{Streams, streams_for};
-use crate::sharing::tenant::{Tenant, doors_of};
+use crate::sharing::tenant::{Tenant, empty_doors, let_in_first};
 use rfb_session::console::{Console, OWNER};
 use rfb_session::dispose;
 use rfb_session::doors::live;
@@ -85,17 +85,20 @@ fn share_with<P: AllocGlobal + Clock + Net, R: Read, W: Write, E: Write>(
 {
     let alloc = context.alloc();
     let mut part = Vec::from_elem(alloc, 0, READ_AT_ONCE)?;
+    let mut doors = empty_doors(alloc)?;
     let mut shell = Shell::new(context.rt, alloc, Some(listener), FRONT, streams)?;
     let mut console = console_of(alloc, &options, says);
     let input = Tenant::input(context.input, streams.input);
-    let doors = doors_of(alloc, input, None, context.output, context.errors, streams);
-    let ended = match doors {
-        Err(error) => Err(Failure::from(error)),
-        Ok(mut doors) => {
-            live(&mut console, &mut doors, &mut shell, &mut part);
-            result_of(console.outcome())
-        }
-    };
+    let_in_first(
+        &mut doors,
+        input,
+        None,
+        context.output,
+        context.errors,
+        streams,
+    );
+    live(&mut console, &mut doors, &mut shell, &mut part);
+    let ended = result_of(console.outcome());
     dispose(console);
     dispose(shell);
     ended

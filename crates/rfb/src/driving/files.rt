@@ -18,10 +18,7 @@ pub const TEXT_MOST: usize = 1 << 20;
 
 // The path that a name is. One that is not UTF-8 is none.
 fn path_of(name: &[u8]) -> io::Result<&str> {
-    match str::from_utf8(name) {
-        Ok(path) => Ok(path),
-        Err(_) => Err(io::Error::from(ErrorKind::InvalidInput)),
-    }
+    str::from_utf8(name).map_err(|_| io::Error::from(ErrorKind::InvalidInput))
 }
 
 /// The picture that a file spells.
@@ -95,10 +92,7 @@ fn write_whole<F: OpenFile + Write>(
     picture: &Picture<Colour>,
     target: &mut Target<F>,
 ) -> io::Result<()> {
-    match write_ppm(picture, target) {
-        Ok(()) => Ok(()),
-        Err(_) => Err(target.failure()),
-    }
+    write_ppm(picture, target).map_err(|_| target.failure())
 }
 
 // Writes a part of a picture as PPM, as far as it lies there.

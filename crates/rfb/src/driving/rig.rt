@@ -70,10 +70,7 @@ impl<P: AllocGlobal + Files> Rig for FileRig<'_, P> {
     }
 
     fn save(&mut self, name: &[u8], picture: &Picture<Colour>, part: Rect) -> Result<(), RigFault> {
-        match write_part(self.rt, name, picture, part) {
-            Ok(()) => Ok(()),
-            Err(error) => Err(self.fail(error)),
-        }
+        write_part(self.rt, name, picture, part).map_err(|error| self.fail(error))
     }
 
     fn keep(&mut self, picture: &Picture<Colour>, expected: Option<(&Pixmap, Likeness)>) {

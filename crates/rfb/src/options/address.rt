@@ -102,10 +102,10 @@ pub fn server_in<'a>(given: &ArgMatches<'a>) -> Result<Address<'a>, BadValue<'a>
     let Some(word) = word_in(given, "server") else {
         return Err(BadValue::NoServer);
     };
-    match address_named(word) {
-        Ok(address) => Ok(address),
-        Err(_) => Err(BadValue::NeededServer(word)),
-    }
+    let Ok(address) = address_named(word) else {
+        return Err(BadValue::NeededServer(word));
+    };
+    Ok(address)
 }
 
 // The server of a word, a host and a port. Each may be left out.

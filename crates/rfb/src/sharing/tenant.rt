@@ -5,8 +5,7 @@ ghost use Rattle.std.specs.Io.{WritesAtMost};
 
 use crate::sharing::standard::{ERRORS, OUTPUT, Streams, takes_more};
 use mio::net::TcpStream;
-use rfb_session::SLOTS;
-use rfb_session::console::DOORS;
+use rfb_session::console::{DOORS, LINES, NOTES};
 use rfb_session::doors::{Counted, Duplex, Place};
 use std::alloc::{AllocError, Global};
 use std::io;
@@ -112,31 +111,40 @@ fn length_at_once(buf: &[u8]) -> usize
 /// A device at a door, or nobody.
 pub type Door<'a, R, W, E, S> = Place<Counted<Tenant<'a, R, W, E, S>>>;
 
-/// The doors: what is at the first, and at the second if anything is, the streams of the process
-/// that lines and notes go to, and nobody at the others.
-pub fn doors_of<'a, R: Read, W: Write, E: Write, S: Read + Write + Drop>(
+/// As many doors as a core has, with nobody at them. They are made before the streams are lent to
+/// their tenants, so where there is no memory for them nothing has been written.
+pub fn empty_doors<'a, R: Read, W: Write, E: Write, S: Read + Write + Drop>(
     alloc: Global,
+) -> Result<Vec<Door<'a, R, W, E, S>>, AllocError> {
+    let mut doors = Vec::with_capacity(alloc, DOORS)?;
+    for _door in 0..DOORS {
+        doors.push(Place::Empty)?;
+    }
+    Ok(doors)
+}
+
+/// Lets in who is there before anybody comes: a tenant at the first door, one at the second if there
+/// is one, and at theirs the streams of the process that lines and notes go to.
+pub fn let_in_first<'a, R: Read, W: Write, E: Write, S: Read + Write + Drop>(
+    doors: &mut [Door<'a, R, W, E, S>],
     first: Tenant<'a, R, W, E, S>,
     second: Option<Tenant<'a, R, W, E, S>>,
     output: &'a mut W,
     errors: &'a mut E,
     streams: Streams,
-) -> Result<Vec<Door<'a, R, W, E, S>>, AllocError> {
-    let mut doors = Vec::with_capacity(alloc, DOORS)?;
-    doors.push(held(first))?;
-    match second {
-        Some(tenant) => doors.push(held(tenant))?,
-        None => doors.push(Place::Empty)?,
+) {
+    let_in(doors, 0, Counted::new(first));
+    if let Some(tenant) = second {
+        let_in(doors, 1, Counted::new(tenant));
     }
-    for _seat in 1..SLOTS {
-        doors.push(Place::Empty)?;
-    }
-    doors.push(held(Tenant::Output(output)))?;
-    doors.push(held(Tenant::errors(errors, streams.errors)))?;
-    Ok(doors)
+    let_in(doors, LINES, Counted::new(Tenant::Output(output)));
+    let errors = Tenant::errors(errors, streams.errors);
+    let_in(doors, NOTES, Counted::new(errors));
 }
 
-// A device at its door.
-fn held<'a, R, W, E, S>(tenant: Tenant<'a, R, W, E, S>) -> Door<'a, R, W, E, S> {
-    Place::Held(Counted::new(tenant))
+// Lets a device in at a door.
+fn let_in<D: Drop>(doors: &mut [Place<D>], door: usize, device: D) {
+    if let Some(place) = doors.get_mut(door) {
+        *place = Place::Held(device);
+    }
 }
