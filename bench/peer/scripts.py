@@ -151,6 +151,10 @@ def line(width, height, count):
     return lines
 
 
+# Nothing is sent of a blank screen that scrolls. So this answers the request, and has no row.
+ANSWERED = "answered"
+
+
 def changes(width, height):
     """What is drawn before each update after the first, by name. The first of them is drawn to no
     purpose: what is done for the first time at all costs more. The last request stays open."""
@@ -169,6 +173,7 @@ def changes(width, height):
         ("one changed place", [f"{place} fedcba"]),
         ("all of one colour", [f"fill 0 0 {width} {height} ffffff"]),
         ("a blank screen scrolled by one row", scroll(width, height, 1)),
+        (ANSWERED, [f"{place} 030201"]),
         ("nothing drawn", []),
     ]
 

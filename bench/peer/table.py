@@ -188,6 +188,8 @@ class Changes:
         mine = self.ours.result()
         width, height = self.size
         for at, name in list(enumerate(self.names, 1))[1:]:
+            if name == scripts.ANSWERED:
+                continue
             a, b = mine[at], sends[at]
             drawn = both(a and a.drawn - mine[-1].drawn, b.drawn - sends[-1].drawn)
             sent, shown = both(a and a.sent, b.sent), both(a and a.shown, shows[at])
