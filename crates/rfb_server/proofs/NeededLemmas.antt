@@ -294,6 +294,15 @@ module _ (screen : Grid Colour) (session : Session) (y from to m a k w : ℕ) (a
           rw left at (told i pixel low) (omega (arith, before, from_first)) (omega (arith, until, to_last, less)) is in
           tells ∙ ap (λ old. differs (wanted_at screen session.format (from / 64 * 64 + i) y) old) (sym is)
 
+-- no bit is set where no place of the row is in a set
+pub no_bits : (g : Grid Bool) (x y : ℕ) → ((i : ℕ) → i < g.width → is_in g i y ≡ false) → HasRowBits g x y 0
+no_bits g x y none i low = by (nat_lt (x + i) g.width) refl
+  where
+    by : (b : Bool) → nat_lt (x + i) g.width ≡ b →
+        has_bit 0 i ≡ (nat_lt (x + i) g.width && is_in g (x + i) y)
+    by false e = rw (e, bit_at-zero i) refl
+    by true e = rw (e, bit_at-zero i, none (x + i) (from_lt (x + i) g.width e)) refl
+
 -- the words of the sets and of the record are such
 pub row_words : (session : Session) (known : Places) (y from to m a k w : ℕ) (asked record_asked whole : Grid Bool) →
     known.asked.width ≡ session.known.width → TellsKnown session.known known →

@@ -237,7 +237,9 @@ impl Session {
         ensures taken { HasTakenOver screen.now self.old self.new }
     {
         let all = Rect::whole(self.known.width(), self.known.height());
-        if quiet.area.h == 0 && self.marks.has_all(all) {
+        // Mostly few places are marked, and the first is not.
+        let some = all.w > 0 && all.h > 0 && self.marks.has(0, 0);
+        if some && quiet.area.h == 0 && self.marks.has_all(all) {
             self.take_whole(screen, sent);
         } else {
             self.take_cells(screen, sent, quiet);

@@ -1,10 +1,10 @@
 //! Where a screen needs sending.
 
-ghost use Rattle.std.specs.Prelude.{◌≡◌, ◌+◌, ◌*◌, ◌/◌, ◌<◌, ◌≤◌, None, true, length};
+ghost use Rattle.std.specs.Prelude.{◌≡◌, ◌+◌, ◌*◌, ◌/◌, ◌%◌, ◌<◌, ◌≤◌, None, true, length};
 ghost use Rattle.std.specs.Bool.{OnTrue, OnFalse};
 ghost use Rattle.rfb_picture.specs.Grid.{Holds};
 ghost use Rattle.rfb_picture.specs.Box.{IsBox};
-ghost use Rattle.rfb_picture.specs.Places.{HasBitsBetween};
+ghost use Rattle.rfb_picture.specs.Places.{HasBitsBetween, HasRowBits};
 ghost use Rattle.rfb_server.specs.Request.{wanted_at};
 ghost use Rattle.rfb_server.specs.update.Needs.{IsFirst, IsEnd, HasBox};
 ghost use Rattle.rfb_server.specs.KnownScreen.{Follows};
@@ -234,7 +234,7 @@ impl Session {
         let left = from / 64 * 64;
         let asked = self.marks.row_bits_between(y, from, to) & self.area.asked().row_bits(left, y);
         let known = self.known.known().asked().row_bits(left, y);
-        let judged = asked & known & !self.area.whole().row_bits(left, y);
+        let judged = asked & known & !self.whole_bits(left, y);
         if judged == 0 {
             return asked;
         }
@@ -242,6 +242,23 @@ impl Session {
         let last = left + 63 - judged.leading_zeros() as u16;
         let end = self.known.width().min(last / LANES * LANES + LANES);
         asked & !judged | judged & self.differing_between(screen, y, first, end)
+    }
+
+    // Which of 64 places of row `y`, from a cell's left edge on, are to be sent whole. Mostly none
+    // is, which is known without a look.
+    #[inline]
+    fn whole_bits(&self, x: u16, y: u16) -> u64
+        requires start { x % 64 ≡ 0 }
+        requires column { x < self.now.area.whole.width }
+        requires row { y < self.now.area.whole.height }
+        requires wide { self.now.area.whole.width ≡ self.now.area.asked.width }
+        requires high { self.now.area.whole.height ≡ self.now.area.asked.height }
+        ensures { HasRowBits self.now.area.whole x y result }
+    {
+        if self.area.is_plain() {
+            return 0;
+        }
+        self.area.whole().row_bits(x, y)
     }
 
     // Which places of row `y` from column `from` up to column `to`, all of one cell, are known to
