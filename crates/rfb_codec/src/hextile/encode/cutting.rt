@@ -25,6 +25,19 @@ pub fn cut(block: &Block, tile: Rect, pixels: &mut TilePixels)
     pixels.clear();
     for row in 0..usize::from(tile.h) {
         let start = (usize::from(tile.y) + row) * columns + usize::from(tile.x);
-        append(pixels, &block.pixels()[start..start + usize::from(tile.w)]);
+        append_row(pixels, &block.pixels()[start..start + usize::from(tile.w)]);
+    }
+}
+
+// Appends a row of a tile. Most have sixteen pixels, which as an array go by vectors.
+#[inline(always)]
+fn append_row(pixels: &mut TilePixels, row: &[u32])
+    requires { array_vec_len pixels.old + length row.now ≤ TILE_PLACES }
+    ensures items { pixels.new.items ≡ pixels.old.items ++ row.now }
+    ensures len { array_vec_len pixels.new ≡ array_vec_len pixels.old + length row.now }
+{
+    match row.as_array::<16>() {
+        Some(sixteen) => append(pixels, sixteen),
+        None => append(pixels, row),
     }
 }

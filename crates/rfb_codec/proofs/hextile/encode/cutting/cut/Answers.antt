@@ -25,8 +25,8 @@ loop-row-preserved c =
     let row : length (take size (drop start pixels)) ≡ size =
     length-take-le size (drop start pixels) (rw length-drop (omega (arith, fits, at_start, wide))) in
     record {
-      size = rw (c.append.ensures.len, c.loop-row.invariant.size) (omega (arith, row, wide));
-      value = λ x y p q. rw c.append.ensures.items
+      size = rw (c.append_row.ensures.len, c.loop-row.invariant.size) (omega (arith, row, wide));
+      value = λ x y p q. rw c.append_row.ensures.items
           (cut_more c.loop-row.row tile.w tile.x tile.y columns c.loop-row.pixels.items (take size (drop start pixels))
           c.args.block.now.places c.loop-row.invariant.size (row ∙ wide)
           (λ k below_it. row_at pixels start tile.w size k wide below_it
