@@ -151,8 +151,8 @@ def line(width, height, count):
     return lines
 
 
-# Nothing is sent of a blank screen that scrolls. So this answers the request, and has no row.
-ANSWERED = "answered"
+# What has no row: a screen is made blank, and a request that its scroll leaves open is answered.
+BESIDE = "beside the rows"
 
 
 def changes(width, height):
@@ -171,9 +171,9 @@ def changes(width, height):
         ("corners of every cell", corners(width, height)),
         ("a typed character", character(width, height)),
         ("one changed place", [f"{place} fedcba"]),
-        ("all of one colour", [f"fill 0 0 {width} {height} ffffff"]),
+        (BESIDE, [f"fill 0 0 {width} {height} ffffff"]),
         ("a blank screen scrolled by one row", scroll(width, height, 1)),
-        (ANSWERED, [f"{place} 030201"]),
+        (BESIDE, [f"{place} 030201"]),
         ("nothing drawn", []),
     ]
 

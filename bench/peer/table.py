@@ -188,7 +188,7 @@ class Changes:
         mine = self.ours.result()
         width, height = self.size
         for at, name in list(enumerate(self.names, 1))[1:]:
-            if name == scripts.ANSWERED:
+            if name == scripts.BESIDE:
                 continue
             a, b = mine[at], sends[at]
             drawn = both(a and a.drawn - mine[-1].drawn, b.drawn - sends[-1].drawn)
