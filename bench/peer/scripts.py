@@ -162,7 +162,6 @@ def changes(width, height):
     return [
         ("begun", [f"{place} 010203"]),
         ("a scroll by one row", scroll(width, height, 1)),
-        ("a scroll by a text line", scroll(width, height, 16)),
         ("a scroll by one row, a place drawn over it", pointed(width, height)),
         ("a console's line of 80 letters", line(width, height, 80)),
         ("two such lines, of 80 and 50", line(width, height, 80) + line(width, height, 50)),
@@ -171,6 +170,7 @@ def changes(width, height):
         ("corners of every cell", corners(width, height)),
         ("a typed character", character(width, height)),
         ("one changed place", [f"{place} fedcba"]),
+        ("a scroll by a text line", scroll(width, height, 16)),
         (BESIDE, [f"fill 0 0 {width} {height} ffffff"]),
         ("a blank screen scrolled by one row", scroll(width, height, 1)),
         (BESIDE, [f"{place} 030201"]),
