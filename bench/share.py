@@ -213,7 +213,7 @@ def table(program):
 
 # ---- instructions
 
-ROUNDS = (1, 2) if ONCE else (50, 250)
+ROUNDS = (1, 2) if ONCE else (100, 2100)
 
 
 def counted(share):
