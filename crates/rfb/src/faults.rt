@@ -14,8 +14,7 @@ use std::io::Write;
 
 const HEAD: &str = "\
 Each fault and refusal by its number and its name, and when it comes. 1 to 6 are of the format that a
-client asks for, 1 to 23 of a peer's bytes. 24 to 27, 31 and 32 are refusals of a
-script's lines.
+client asks for, 1 to 23 of a peer's bytes. 24 to 27, 31 and 32 are refusals of a script's lines.
 ";
 
 // What is wrong in each way, or refused, by its number, and when it comes.

@@ -92,8 +92,8 @@ Example:
 
 const RECORDINGS: &str = "\
 A recording is all that a server sent, from its greeting to the end of a message. What a viewer
-would answer is dropped. With --updates the picture is the one right after that update, and what
-comes later is not looked at; a recording of fewer updates is played whole.
+would answer is dropped. With --updates U the picture is the one right after the Uth update. What
+comes later is not looked at, and a recording of fewer updates is played whole.
 docs/PROTOCOL.md has the formats, and the faults by number.
 
 Examples:
@@ -105,10 +105,10 @@ Each connection has a fresh screen, with a test picture or the one of --picture.
 the test picture scrolls up by a row. A picture of --picture never changes, so a viewer that has all
 of it gets no more updates, unless it asks for all again. As soon as a connection ends, a line on
 standard output says `ok` and how many updates were sent, or `fault` and which fault ended it; then
-the next one is served. With --timeout S a viewer that sends nothing for S seconds is disconnected,
-with `fault 29 Device`.
+the next one is served. With --timeout S a viewer that sends nothing for S seconds, or takes nothing
+of what is sent, is disconnected with `fault 29 Device`.
 
-A picture is a PPM (P6) of 1 to 4096 pixels a side, with 255 or 65535 as its largest component; it
+A picture is a PPM (P6) of 1 to 4096 pixels a side, with 255 or 65535 as its largest component. It
 has its own size, so it cannot be used with --width or --height. What is wrong with a file is
 reported as `bad picture`, with a number and a sentence, and nobody is served.
 docs/PROTOCOL.md has the faults by number.
@@ -126,7 +126,7 @@ written. With --record standard output gets the server's bytes up to there inste
 type None.
 With --follow a picture is written after each update, until --updates have come or the server ends
 between two messages. --fps N asks for at most N a second, and what changes faster comes as one. A
-write that fails ends it. It cannot be used with --record or --partial.
+write that fails ends it. --follow cannot be used with --record or --partial.
 With --timeout S a connection that is refused is tried again, and waiting ends after S seconds.
 With --partial the picture of what came by then is written; the status is 1 all the same.
 docs/PROTOCOL.md has the formats, and the faults by number.
@@ -142,11 +142,11 @@ Standard input has a line for each thing that is drawn. One space parts two word
   screen W H                  first: the size of the screen, 1 to 4096 pixels a side
   fill X Y W H RRGGBB         a rectangle gets a colour; twelve digits are four for each component
   copy X Y W H SX SY          it gets what the one at (SX, SY) had
-  scroll X Y W H DX DY        what lies in it moves so far to the right and down, or back with a minus
+  scroll X Y W H DX DY        what is in it moves DX to the right, DY down; with a minus, left or up
   hint X Y W H SX SY          a hint for viewers: it looks as the one at (SX, SY) did
   pixels X Y W H              three bytes for each of its pixels follow, and a newline
   hold                        what follows is a scene: no viewer is shown a part of it
-  show                        the scene is whole; without this it is after --hold seconds
+  show                        the scene is whole; without this line it is after --hold seconds
   end N                       the viewer of seat N is disconnected
   quit                        all ends
 A bad line is reported on standard error with its number, and nothing of it is drawn. Sentences there
@@ -166,13 +166,14 @@ Example:
   (echo screen 640 480; echo fill 0 0 640 480 336699) | rfb share --port 5950";
 
 const RELAYS: &str = "\
-A server's screen for up to eight viewers at once. The server has one viewer, which is this one; it
-must offer the security type None, and have a screen of at most 4096 pixels a side. Viewers wait
-until its first picture is there. Their keys, pointers and texts go to the server in the order in
-which they came. A text or a bell of the server's goes to none of them. Standard input is not read.
-It ends with the server, with status 1, or by --until-idle. With --retry S a server that went away is
-called again after S seconds, and so on until it comes. Until it has sent a whole picture viewers keep
-the last one, and what they do goes nowhere. Where it has another size they are disconnected.
+A server's screen for up to eight viewers at once. The server has one viewer, which is this one. The
+server must offer the security type None, and have a screen of at most 4096 pixels a side. Viewers
+wait until its first picture is there. Their keys, pointers and texts go to the server in the order
+in which they came. A text or a bell of the server's goes to none of them. Standard input is not
+read. The relay ends with the server, with status 1, or by --until-idle. With --retry S a server that
+went away is called again after S seconds, and so on until it comes. Until it has sent a whole
+picture viewers keep the last one, and what they do goes nowhere. Where its screen has another size
+they are disconnected.
 
 A line on standard output says what the server does:
   server up W H NAME          it is there, with a screen of this size; its name in hexadecimal digits

@@ -81,7 +81,7 @@ pub const HANDSHAKE: Word<'static> = long!(
 pub const PATIENCE: Word<'static> = long!(
     "timeout",
     Takes::Number("S", u32::MAX),
-    "The seconds that bytes may wait for a viewer that takes none, 1 to 4294967295"
+    "The seconds that bytes may wait for a viewer that takes and sends none, 1 to 4294967295"
 );
 
 /// Whether no viewer has the screen alone.
