@@ -135,7 +135,7 @@ fn say_late(number: u64, why: Lateness, note: &mut Note) -> fmt::Result {
     match why {
         Lateness::Unsent => writeln!(note, "the server did not take what it sends"),
         Lateness::Unlike(unlike) => say_unlike(unlike, note),
-        Lateness::Moving => writeln!(note, "the screen went on to change"),
+        Lateness::Moving => writeln!(note, "the screen was not still for so long"),
         Lateness::Unchanged => writeln!(note, "nothing changed"),
     }
 }
