@@ -1,5 +1,6 @@
 -- The subrectangles of the rule, as the scan of a block's places takes them.
-use Rattle.std.proofs.Common.{◌≡◌, ◌≢◌, ℕ, ◌+◌, ◌*◌, ◌<◌, ◌≤◌, ◌-◌, ◌==◌, List, [], ◌∷◌, ◌++◌, Bool, true, false}
+use Rattle.std.proofs.Common.{◌≡◌, ◌≢◌, ℕ, ◌+◌, ◌*◌, ◌<◌, ◌≤◌, ◌-◌}
+use Rattle.std.proofs.Common.{◌==◌, List, [], ◌∷◌, ◌++◌, Bool, true, false}
 use Rattle.std.proofs.Common.{◌&&◌, ◌||◌, not, if◌then◌else◌, nat_le, nat_lt, length, slice_index}
 use Rattle.std.proofs.Common.{slice_set, arith, refl, sym}
 use Rattle.std.proofs.Common.{subst, ◌∙◌, inl, inr, append_assoc, append-nil}
@@ -275,8 +276,8 @@ joined now was a b c r e f = f ∙ (rw e (by a b c r))
 
 -- the word of the row, and those below, without its places
 pub here_taken : (width height x y : ℕ) (pixels : List ℕ) (background left after : ℕ) (subs : List Subrect)
-    (s : Subrect) → TellsLeft width pixels background subs y left → s.rect.x ≡ x → s.rect.y ≡ y → 0 < s.rect.h →
-    IsWithout x (x + s.rect.w) left after → TellsLeft width pixels background (subs ++ s ∷ []) y after
+    (s : Subrect) → TellsLeft width pixels background subs y left → s.rect.x ≡ x →
+    s.rect.y ≡ y → 0 < s.rect.h → IsWithout x (x + s.rect.w) left after → TellsLeft width pixels background (subs ++ s ∷ []) y after
 here_taken width height x y pixels background left after subs s tells column row high without i low =
     let was = tells i low in
     let now = without i low in

@@ -1,5 +1,6 @@
 -- Laws of areas, for this crate's proofs and those above it: what is asked and whole after a call.
-use Rattle.std.proofs.Common.{ℕ, Bool, true, false, ◌≡◌, ◌<◌, ◌⊎◌, inl, inr, refl, sym, ap, ◌∙◌, arith}
+use Rattle.std.proofs.Common.{ℕ, Bool, true, false, ◌≡◌, ◌<◌, ◌⊎◌}
+use Rattle.std.proofs.Common.{inl, inr, refl, sym, ap, ◌∙◌, arith}
 use Rattle.std.proofs.Common.{◌&&◌, ◌||◌}
 use Rattle.std.proofs.Common.{eqb}
 use Rattle.std.proofs.Common.{if◌then◌else◌}
@@ -98,13 +99,14 @@ both_true false b e = absurd cc
 abbrev rect_of : ℕ → ℕ → ℕ → ℕ → Rect
 rect_of x y w h = record { x = x; y = y; w = w; h = h }
 
-same_sides : (r : Rect) (p q i j : ℕ) → r.x ≡ 0 → r.y ≡ 0 → r.w ≡ p → r.h ≡ q → p ≡ i → q ≡ j →
-    rect_of r.x r.y r.w r.h ≡ rect 0 0 i j
+same_sides : (r : Rect) (p q i j : ℕ) → r.x ≡ 0 → r.y ≡ 0 → r.w ≡ p → r.h ≡ q →
+    p ≡ i → q ≡ j → rect_of r.x r.y r.w r.h ≡ rect 0 0 i j
 same_sides r p q i j a b c d e f = rw (a, b, c ∙ e, d ∙ f) refl
 
 -- a rectangle that is compared with that of all places
 pub is_whole_rect : (r all : Rect) (p q i j : ℕ) → (eqb r.x all.x && (eqb r.y all.y
-    && (eqb r.w all.w && eqb r.h all.h))) ≡ true → all ≡ rect 0 0 p q → p ≡ i → q ≡ j → r ≡ rect 0 0 i j
+    && (eqb r.w all.w && eqb r.h all.h))) ≡ true → all ≡ rect 0 0 p q →
+    p ≡ i → q ≡ j → r ≡ rect 0 0 i j
 is_whole_rect r all p q i j e is wide high =
     let (x, a) = both_true (eqb r.x all.x) _ e in
     let (y, b) = both_true (eqb r.y all.y) _ a in

@@ -1,5 +1,6 @@
 -- The edges of a zone's places, from the rows of its cell that are noted.
-use Rattle.std.proofs.Common.{ℕ, Bool, true, Option, ◌≡◌, ◌+◌, ◌-◌, ◌*◌, ◌/◌, ◌^◌, ◌<◌, ◌≤◌, ◌&&◌}
+use Rattle.std.proofs.Common.{ℕ, Bool, true, Option, ◌≡◌, ◌+◌, ◌-◌}
+use Rattle.std.proofs.Common.{◌*◌, ◌/◌, ◌^◌, ◌<◌, ◌≤◌, ◌&&◌}
 use Rattle.std.proofs.Common.{nat_le, nat_lt, refl, sym, ◌∙◌, arith, false}
 use Rattle.std.specs.Int.{w64, trailing_zeros, leading_zeros}
 use Rattle.std.proofs.lemmas.Bool.{and_parts, both_ways, false_from_ne_true}

@@ -1,5 +1,6 @@
 -- The notes of rows in which a set may have marks, after places were marked or a cell was cleared.
-use Rattle.std.proofs.Common.{ℕ, Bool, true, false, ◌≡◌, ◌+◌, ◌-◌, ◌*◌, ◌/◌, ◌%◌, ◌^◌, ◌<◌, ◌&&◌, not, refl, sym, ◌∙◌}
+use Rattle.std.proofs.Common.{ℕ, Bool, true, false, ◌≡◌, ◌+◌, ◌-◌, ◌*◌, ◌/◌}
+use Rattle.std.proofs.Common.{◌%◌, ◌^◌, ◌<◌, ◌&&◌, not, refl, sym, ◌∙◌}
 use Rattle.std.proofs.Common.{arith, bit_and, if◌then◌else◌, inl, inr, min, nat_eq, nat_le, nat_lt}
 use Rattle.std.specs.Int.{w64, bit_not}
 use Rattle.std.proofs.lemmas.Bool.{cases_Bool, cases_eq, both_ways, and_parts, false≢true}

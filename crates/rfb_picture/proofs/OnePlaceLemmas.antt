@@ -1,6 +1,8 @@
 -- One place that is marked, and what a set says once one place was put into it.
-use Rattle.std.proofs.Common.{ℕ, List, Bool, true, false, ◌≡◌, ◌+◌, ◌*◌, ◌/◌, ◌%◌, ◌^◌, ◌<◌, ◌||◌, min, max, refl, sym}
-use Rattle.std.proofs.Common.{◌∙◌, arith, slice_index_or, slice_set, nat_eq, bit_or, if◌then◌else◌, inl, inr, subst}
+use Rattle.std.proofs.Common.{ℕ, List, Bool, true, false, ◌≡◌, ◌+◌, ◌*◌, ◌/◌}
+use Rattle.std.proofs.Common.{◌%◌, ◌^◌, ◌<◌, ◌||◌, min, max, refl, sym}
+use Rattle.std.proofs.Common.{◌∙◌, arith, slice_index_or, slice_set, nat_eq}
+use Rattle.std.proofs.Common.{bit_or, if◌then◌else◌, inl, inr, subst}
 use Rattle.std.specs.Int.{w64}
 use Rattle.std.proofs.lemmas.Bool.{cases_Bool, cases_eq}
 use Rattle.std.proofs.lemmas.Bool.Decides.{nat_tests}

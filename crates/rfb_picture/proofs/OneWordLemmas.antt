@@ -1,5 +1,6 @@
 -- One word of a plane: its marks as bits, and what the plane says once they were taken away.
-use Rattle.std.proofs.Common.{ℕ, List, Bool, true, false, ◌≡◌, ◌+◌, ◌*◌, ◌/◌, ◌<◌, ◌≤◌, ◌&&◌, refl, sym, ◌∙◌, arith}
+use Rattle.std.proofs.Common.{ℕ, List, Bool, true, false, ◌≡◌, ◌+◌, ◌*◌}
+use Rattle.std.proofs.Common.{◌/◌, ◌<◌, ◌≤◌, ◌&&◌, refl, sym, ◌∙◌, arith}
 use Rattle.std.proofs.Common.{slice_index_or, slice_set, bit_and, if◌then◌else◌, inl, inr, nat_le, nat_lt}
 use Rattle.std.proofs.lemmas.Bool.{cases_Bool}
 use Rattle.std.proofs.lemmas.Bool.Decides.{nat_tests}

@@ -1,5 +1,6 @@
 -- What a set says of each place once cells of it were opened, and places marked in them.
-use Rattle.std.proofs.Common.{ℕ, Bool, true, false, ◌≡◌, ◌/◌, ◌<◌, ◌&&◌, ◌||◌, refl, sym, ◌∙◌, arith}
+use Rattle.std.proofs.Common.{ℕ, Bool, true, false, ◌≡◌, ◌/◌, ◌<◌}
+use Rattle.std.proofs.Common.{◌&&◌, ◌||◌, refl, sym, ◌∙◌, arith}
 use Rattle.std.proofs.Common.{if◌then◌else◌, inl, inr}
 use Rattle.std.proofs.lemmas.Bool.{cases_Bool, false≢true}
 use Rattle.std.proofs.lemmas.Bool.Decides.{nat_tests}

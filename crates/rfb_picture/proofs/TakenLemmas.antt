@@ -1,5 +1,6 @@
 -- What a set has after places of another were taken away, by cells.
-use Rattle.std.proofs.Common.{ℕ, Bool, true, false, ◌≡◌, ◌/◌, ◌<◌, ◌&&◌, ◌||◌, not, refl, sym, ◌∙◌, arith}
+use Rattle.std.proofs.Common.{ℕ, Bool, true, false, ◌≡◌, ◌/◌, ◌<◌}
+use Rattle.std.proofs.Common.{◌&&◌, ◌||◌, not, refl, sym, ◌∙◌, arith}
 use Rattle.std.proofs.Common.{nat_eq, inl, inr}
 use Rattle.std.proofs.lemmas.Bool.{and_parts, false_from_ne_true}
 use Rattle.std.proofs.lemmas.Bool.Decides.{nat_tests}

@@ -1,6 +1,7 @@
 -- What a set has after it lost the places of another in some of the other's cells: rows of cells, and
 -- the cells of a row.
-use Rattle.std.proofs.Common.{ℕ, Bool, true, false, ◌≡◌, ◌+◌, ◌/◌, ◌≤◌, ◌&&◌, ◌||◌, not, refl, ◌∙◌, arith}
+use Rattle.std.proofs.Common.{ℕ, Bool, true, false, ◌≡◌, ◌+◌, ◌/◌}
+use Rattle.std.proofs.Common.{◌≤◌, ◌&&◌, ◌||◌, not, refl, ◌∙◌, arith}
 use Rattle.std.proofs.Common.{nat_eq, nat_lt, inl, inr}
 use Rattle.std.proofs.lemmas.Bool.{cases_lt, cases_eq, cases_Bool, both_ways, false≢true}
 use Rattle.std.proofs.lemmas.Bool.Decides.{nat_tests}

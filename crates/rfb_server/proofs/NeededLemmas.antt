@@ -295,7 +295,8 @@ module _ (screen : Grid Colour) (session : Session) (y from to m a k w : ℕ) (a
           tells ∙ ap (λ old. differs (wanted_at screen session.format (from / 64 * 64 + i) y) old) (sym is)
 
 -- no bit is set where no place of the row is in a set
-pub no_bits : (g : Grid Bool) (x y : ℕ) → ((i : ℕ) → i < g.width → is_in g i y ≡ false) → HasRowBits g x y 0
+pub no_bits : (g : Grid Bool) (x y : ℕ) → ((i : ℕ) → i < g.width → is_in g i y ≡ false) →
+    HasRowBits g x y 0
 no_bits g x y none i low = by (nat_lt (x + i) g.width) refl
   where
     by : (b : Bool) → nat_lt (x + i) g.width ≡ b →

@@ -106,7 +106,8 @@ agree_end one other n (Some cell) none wide high left left_too e f same =
 -- ---- what is asked
 
 -- all of the screen, and none of it whole
-pub asks_plain : (s : Session) (whole : Bool) → whole ≡ false → AsksEach s.area → HasNoWhole s.area → AsksAll whole s
+pub asks_plain : (s : Session) (whole : Bool) → whole ≡ false → AsksEach s.area →
+    HasNoWhole s.area → AsksAll whole s
 asks_plain s whole unset each none = subst (λ (b : Bool). AsksAll b s) (sym unset) (λ x y p q.
     let wide : x < s.area.asked.width = rw (s.alike.area_wide) p in
     let high : y < s.area.asked.height = rw (s.alike.area_high) q in

@@ -1,4 +1,5 @@
-use Rattle.std.proofs.Common.{◌≡◌, ◌∙◌, ◌+◌, ◌*◌, ◌++◌, [], ap, sym, refl, arith, length, length-append, append-nil}
+use Rattle.std.proofs.Common.{◌≡◌, ◌∙◌, ◌+◌, ◌*◌, ◌++◌, [], ap}
+use Rattle.std.proofs.Common.{sym, refl, arith, length, length-append, append-nil}
 use Rattle.rfb_pixel.specs.Format.{size_of}
 use Rattle.rfb_codec.specs.Choice.{IsBackground}
 use Rattle.rfb_codec.specs.Raw.{raw_length}
@@ -20,7 +21,8 @@ returns-clause-spelled c =
     let pixel = c.args.pixel in
     let head = rre_head f 0 pixel in
     let none = none_needed block.width block.height block.places pixel c.requires.whole c.requires.one in
-    let raw : c.from-height.result * c.from-width.result * c.size-size.result ≡ raw_length f block.width block.height =
+    let raw : c.from-height.result * c.from-width.result * c.size-size.result
+    ≡ raw_length f block.width block.height =
     rw (
       c.from-width.ensures ∙ c.width.ensures.value,
       c.from-height.ensures ∙ c.height.ensures.value,
