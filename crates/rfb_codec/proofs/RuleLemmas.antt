@@ -277,7 +277,8 @@ joined now was a b c r e f = f ∙ (rw e (by a b c r))
 -- the word of the row, and those below, without its places
 pub here_taken : (width height x y : ℕ) (pixels : List ℕ) (background left after : ℕ) (subs : List Subrect)
     (s : Subrect) → TellsLeft width pixels background subs y left → s.rect.x ≡ x →
-    s.rect.y ≡ y → 0 < s.rect.h → IsWithout x (x + s.rect.w) left after → TellsLeft width pixels background (subs ++ s ∷ []) y after
+    s.rect.y ≡ y → 0 < s.rect.h → IsWithout x (x + s.rect.w) left after →
+    TellsLeft width pixels background (subs ++ s ∷ []) y after
 here_taken width height x y pixels background left after subs s tells column row high without i low =
     let was = tells i low in
     let now = without i low in
