@@ -22,6 +22,9 @@ pub fn first_diff(a: &[u32], b: &[u32]) -> Option<usize>
     ensures same { IsNone result ↔ (a.now ≡ b.now) }
 {
     let mut at = 0;
+    while a.len() - at >= 2 * LANES && are_same(a, b, at) && are_same(a, b, at + LANES) {
+        at += 2 * LANES;
+    }
     while a.len() - at >= LANES && are_same(a, b, at) {
         at += LANES;
     }
