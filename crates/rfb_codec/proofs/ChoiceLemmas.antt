@@ -1,7 +1,7 @@
 -- The rule of RRE has a choice for every block: a background, and subrectangles one after another
 -- until no place is left.
 use Rattle.std.proofs.Common.{◌≡◌, ◌≢◌, ℕ, zero, suc, ◌+◌, ◌-◌, ◌*◌, ◌/◌, ◌%◌, ◌<◌, ◌≤◌, List, [], ◌∷◌, ◌++◌, Bool}
-use Rattle.std.proofs.Common.{true, false, length, slice_index, arith, refl, sym, ap, subst, inl, inr, ◌⊎◌}
+use Rattle.std.proofs.Common.{true, false, length, slice_index, arith, refl, ap, subst, inl, inr, ◌⊎◌}
 use Rattle.std.proofs.Common.{length-append}
 use Rattle.std.proofs.lemmas.Bool.{cases_lt, cases_eq, cases_order, both_ways}
 use Rattle.std.proofs.lemmas.Nat.{div-add-mod', div_below, mod_below, div-mul-add, mod-mul-add}
@@ -11,7 +11,7 @@ use Rattle.rfb_codec.specs.declared.subrect.Subrect.{Subrect}
 use Rattle.rfb_codec.specs.Choice.{IsPixelOf, places_of, IsBackground, is_in_any, IsLeft, IsFree, IsFreeRun, IsNextSub}
 use Rattle.rfb_codec.specs.Choice.{AreNextSubs, AreRuleSubs}
 use Rattle.rfb_codec.proofs.RuleLemmas.{next_push}
-use Rattle.rfb_codec.proofs.RuleCountLemmas.{in_order}
+use Rattle.rfb_codec.proofs.RuleCountLemmas.{few_of}
 
 -- ---- searching
 
@@ -222,10 +222,9 @@ module _ (w h : ℕ) (pixels : List ℕ) (background : ℕ) where
   subs_from : (fuel : ℕ) (before : List Subrect) → length pixels ≡ h * w → IsPixelOf pixels background →
       AreNextSubs w h pixels background [] before → h * w < fuel + length before →
       (subs : List Subrect) × AreRuleSubs w h pixels background subs
-  subs_from zero before whole (place, below, is) each enough =
-      let few = in_order w h pixels background [] before 0 place each (omega arith) (omega (arith, below, whole))
-      (sym is) (λ x y p q left. omega arith) in
-      absurd (omega (arith, few.0, enough))
+  subs_from zero before whole plain each enough =
+      let few = few_of w h pixels background [] before each whole in
+      absurd (omega (arith, few, enough))
   subs_from (suc fuel) before whole plain each enough =
       elim (next_or_none before) [
         | inl none ↦ (before, record { each = each; none = none })

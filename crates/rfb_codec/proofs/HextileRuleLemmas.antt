@@ -1,9 +1,10 @@
 -- A tile by the rule of Hextile: there is one at most, how long it is, and when it is raw.
-use Rattle.std.proofs.Common.{◌≡◌, ◌≢◌, ℕ, ◌+◌, ◌*◌, ◌/◌, ◌<◌, ◌≤◌, ◌⊎◌, inl, inr, List, [], ◌∷◌, ◌++◌, length, map}
-use Rattle.std.proofs.Common.{min, slice_index, Option, Some, None, if◌then◌else◌, refl, sym, subst, ◌∙◌, ap, arith}
+use Rattle.std.proofs.Common.{◌≡◌, ◌≢◌, ℕ, zero, suc, ◌+◌, ◌*◌, ◌/◌, ◌<◌, ◌≤◌, ◌⊎◌, inl, inr, List, [], ◌∷◌, ◌++◌, length, map}
+use Rattle.std.proofs.Common.{min, take, slice_index, Option, Some, None, if◌then◌else◌, refl, sym, subst, ◌∙◌, ap, arith}
 use Rattle.std.proofs.Math.Nat.{mul-le-mul_right}
 use Rattle.std.specs.List.{flat_map}
-use Rattle.std.proofs.lemmas.List.{length-map}
+use Rattle.std.proofs.lemmas.List.{length-map, take_all}
+use Rattle.std.proofs.lemmas.Nat.{div_below}
 use Rattle.std.proofs.lemmas.List.Folds.{flat_map-map}
 use Rattle.rfb_pixel.specs.Format.{PixelFormat, size_of}
 use Rattle.rfb_codec.specs.declared.subrect.Subrect.{Subrect}
@@ -22,7 +23,8 @@ use Rattle.rfb_codec.specs.encoder.TileSpelling.{tile_of, mask_of, own_place, ti
 use Rattle.rfb_codec.specs.SentTile.{are_some, colour_bytes, place_bytes, counted_bytes, sent_as}
 use Rattle.rfb_codec.proofs.PixelLemmas.{length-pixel_bytes}
 use Rattle.rfb_codec.proofs.TileLengthLemmas.{length-spelled_plain, length-spelled_colored}
-use Rattle.rfb_codec.proofs.RuleCountLemmas.{same_background, same_subs, fewer, few_subs, enough_subs, over_limit}
+use Rattle.rfb_codec.proofs.PlacesLemmas.{more_yes, more_no}
+use Rattle.rfb_codec.proofs.RuleCountLemmas.{same_background, same_subs, fewer, few_of, enough_subs, over_limit}
 
 -- ---- pixels
 
@@ -65,6 +67,35 @@ two_differ b g pixels (has, other, both, more) same =
           absurd (omega (arith, less, as_many))
       | inr tie ↦ omega (arith, tie.1, same)
     ]
+
+-- each place has the one or the other
+two_counted : (b g : ℕ) (pixels : List ℕ) (n : ℕ) → n ≤ length pixels → g ≢ b →
+    ((i : ℕ) → i < length pixels → (slice_index pixels i ≡ b) ⊎ (slice_index pixels i ≡ g)) →
+    places_of b (take n pixels) + places_of g (take n pixels) ≡ n
+two_counted b g pixels zero within differ both = refl
+two_counted b g pixels (suc n) within differ both =
+    let before = two_counted b g pixels n (omega arith) differ both in
+    let next : suc n ≡ n + 1 = omega arith in
+    rw next (elim (both n (omega arith)) [
+      | inl is ↦
+          let one = more_yes b pixels n (omega arith) is in
+          let none = more_no g pixels n (omega arith) (λ same. differ (sym same ∙ is)) in
+          omega (arith, before, one, none)
+      | inr is ↦
+          let one = more_yes g pixels n (omega arith) is in
+          let none = more_no b pixels n (omega arith) (λ same. differ (sym is ∙ same)) in
+          omega (arith, before, one, none)
+    ])
+
+-- so at most half of the places need a subrectangle
+half_subs : (w h b g : ℕ) (pixels : List ℕ) (subs : List Subrect) → length pixels ≡ h * w →
+    HasPalette (Two b g) pixels → AreRuleSubs w h pixels b subs → 2 * length subs ≤ length pixels
+half_subs w h b g pixels subs whole palette rule =
+    let few = few_of w h pixels b [] subs rule.each whole in
+    let all : take (length pixels) pixels ≡ pixels = take_all (length pixels) pixels (omega arith) in
+    let both = rw all at (two_counted b g pixels (length pixels) (omega arith) (two_differ b g pixels palette)
+    palette.2) in
+    elim palette.3 [ inl less ↦ omega (arith, few, both, less, whole) | inr tie ↦ omega (arith, few, both, tie.0, whole) ]
 
 -- where all places have one of two pixels there is no third
 no_third : (b g : ℕ) (pixels : List ℕ) →
@@ -209,19 +240,19 @@ sent_is f (Colored background) pixels subs = refl
 
 -- ---- drawn tiles that are no shorter than raw
 
--- more subrectangles than the limit have at least the bytes of the pixels
-long_parts : {A : Type 0} (size room limit : ℕ) (parts : List A) → 0 < size → limit ≡ min 255 (room / size) →
-    limit + 1 ≤ length parts → length parts < 256 → 1 + room ≤ parts_length size parts
-long_parts size room limit [] some is more few = absurd (omega (arith, more))
-long_parts size room limit (part ∷ parts) some is more few =
-    let over = over_limit room size (room / size) (length (part ∷ parts)) some refl (omega (arith, is, more, few)) in
+-- more subrectangles than that have at least the bytes of the pixels
+long_parts : {A : Type 0} (size room : ℕ) (parts : List A) → 0 < size → room / size < length parts →
+    1 + room ≤ parts_length size parts
+long_parts size room [] some more = absurd (omega (arith, more))
+long_parts size room (part ∷ parts) some more =
+    let over = over_limit room size (room / size) (length (part ∷ parts)) some refl (omega (arith, more)) in
     omega (arith, over)
 
 module _ (f : PixelFormat) (w h : ℕ) (pixels : List ℕ) (held : Held) (whole : length pixels ≡ h * w)
     (small : length pixels ≤ 256) where
   -- two pixels that would need too many subrectangles
   pub two_no_shorter : (b g limit : ℕ) (some : List Subrect) → HasPalette (Two b g) pixels →
-      limit ≡ min 255 (raw_length f w h / 2) → IsGivenUp w h pixels b limit some →
+      limit ≡ min 170 (raw_length f w h / 2) → IsGivenUp w h pixels b limit some →
       (drawn : Tile) → IsDrawn w h pixels held drawn → 1 + raw_length f w h ≤ tile_length f drawn
   two_no_shorter b g limit some palette is given drawn (inl one) =
       absurd (no_second one.background g b pixels one.all palette.1 palette.0 (two_differ b g pixels palette))
@@ -231,44 +262,53 @@ module _ (f : PixelFormat) (w h : ℕ) (pixels : List ℕ) (held : Held) (whole 
       let rule = subst (λ (p : ℕ). AreRuleSubs w h pixels p two.subs) same two.rule in
       let more = fewer w h pixels b [] some two.subs given.x given.y given.column given.row given.each
       rule.each given.left rule.none in
-      let few = few_subs w h pixels two.background two.subs whole two.chosen.there two.rule in
+      let few = half_subs w h b g pixels two.subs whole palette rule in
       let full = given.full in
       let size = length-map two.subs rect_in in
-      let long = long_parts 2 (raw_length f w h) limit (map rect_in two.subs) (omega arith) is
-      (omega (arith, more, full, size)) (omega (arith, few, whole, small, size)) in
+      let long = long_parts 2 (raw_length f w h) (map rect_in two.subs) (omega arith)
+      (omega (arith, is, more, full, size, few, small)) in
       let length_is = ap (tile_length f) two.tile_is in
       omega (arith, long, length_is)
   two_no_shorter b g limit some palette is given drawn (inr (inr many)) =
       absurd (no_third b g pixels palette.2 many.more)
 
+  -- as many as that, of six bytes or fewer each, fill the pixels' room
+  few_by_size : size_of f ≤ 4 → raw_length f w h / (size_of f + 2) ≤ 170
+  few_by_size four =
+      let bytes : h * w * size_of f ≤ 256 * size_of f = mul-le-mul_right (size_of f) (omega (arith, small, whole)) in
+      let less = div_below (raw_length f w h) (size_of f + 2) 171 (omega arith) (omega (arith, bytes, four)) in
+      omega (arith, less)
+
   -- more, which need more subrectangles than that
-  many_long : (limit : ℕ) → HasThird pixels → limit ≡ min 255 (raw_length f w h / (size_of f + 2)) →
+  many_long : (limit : ℕ) → size_of f ≤ 4 → HasThird pixels →
+      limit ≡ min 170 (raw_length f w h / (size_of f + 2)) →
       ((background : ℕ) (subs : List Subrect) → IsBackground pixels background →
       AreRuleSubs w h pixels background subs → limit + 1 ≤ length subs) →
       (drawn : Tile) → IsDrawn w h pixels held drawn → 1 + raw_length f w h ≤ tile_length f drawn
-  many_long limit third is more drawn (inl one) = absurd (no_second one.background third.first third.second pixels
+  many_long limit four third is more drawn (inl one) = absurd (no_second one.background third.first third.second pixels
       one.all third.has_first third.has_second third.differ)
-  many_long limit third is more drawn (inr (inl two)) =
+  many_long limit four third is more drawn (inr (inl two)) =
       absurd (no_third two.background two.foreground pixels two.both third)
-  many_long limit third is more drawn (inr (inr many)) =
-      let few = few_subs w h pixels many.background many.subs whole many.chosen.there many.rule in
-      let long = long_parts (size_of f + 2) (raw_length f w h) limit many.subs (omega arith) is
-      (more many.background many.subs many.chosen many.rule) (omega (arith, few, whole, small)) in
+  many_long limit four third is more drawn (inr (inr many)) =
+      let over = more many.background many.subs many.chosen many.rule in
+      let long = long_parts (size_of f + 2) (raw_length f w h) many.subs (omega arith)
+      (omega (arith, is, over, few_by_size four)) in
       let length_is = ap (tile_length f) many.tile_is in
       omega (arith, long, length_is)
 
-  pub many_pixels_long : (limit : ℕ) → HasThird pixels → limit ≡ min 255 (raw_length f w h / (size_of f + 2)) →
+  pub many_pixels_long : (limit : ℕ) → size_of f ≤ 4 → HasThird pixels →
+      limit ≡ min 170 (raw_length f w h / (size_of f + 2)) →
       HasMore (limit + 1) pixels →
       (drawn : Tile) → IsDrawn w h pixels held drawn → 1 + raw_length f w h ≤ tile_length f drawn
-  many_pixels_long limit third is more = many_long limit third is
+  many_pixels_long limit four third is more = many_long limit four third is
       (λ background subs chosen rule. enough_subs w h pixels background subs (limit + 1) whole rule more)
 
-  pub many_subs_long : (limit background : ℕ) (some : List Subrect) → HasThird pixels →
-      limit ≡ min 255 (raw_length f w h / (size_of f + 2)) → IsBackground pixels background →
+  pub many_subs_long : (limit background : ℕ) (some : List Subrect) → size_of f ≤ 4 → HasThird pixels →
+      limit ≡ min 170 (raw_length f w h / (size_of f + 2)) → IsBackground pixels background →
       IsGivenUp w h pixels background limit some → (drawn : Tile) → IsDrawn w h pixels held drawn →
       1 + raw_length f w h ≤ tile_length f drawn
-  many_subs_long limit background some third is chosen given =
-      many_long limit third is
+  many_subs_long limit background some four third is chosen given =
+      many_long limit four third is
       (λ other subs plain rule.
       let same : other ≡ background = same_background pixels other background plain chosen in
       let here = subst (λ (p : ℕ). AreRuleSubs w h pixels p subs) same rule in

@@ -1,19 +1,20 @@
 -- The rule has one choice for a block, and no fewer subrectangles than the block has pixels beside
 -- its background.
-use Rattle.std.proofs.Common.{◌≡◌, ◌≢◌, ℕ, zero, suc, ◌+◌, ◌*◌, ◌/◌, ◌%◌, ◌<◌, ◌≤◌, List, [], ◌∷◌, ◌++◌, Bool, true}
-use Rattle.std.proofs.Common.{false, ◌||◌, length, map, slice_index, get_or, arith, refl, sym, ap, subst, ◌∙◌, inl, inr}
+use Rattle.std.proofs.Common.{◌≡◌, ◌≢◌, ℕ, zero, suc, ◌+◌, ◌-◌, ◌*◌, ◌/◌, ◌%◌, ◌<◌, ◌≤◌, List, [], ◌∷◌, ◌++◌, Bool, true}
+use Rattle.std.proofs.Common.{false, ◌||◌, length, map, take, slice_index, get_or, arith, refl, sym, ap, subst, ◌∙◌, inl, inr}
 use Rattle.std.proofs.Common.{◌⊎◌, append_assoc, append-nil, All}
 use Rattle.std.proofs.lemmas.Bool.{cases_eq, cases_order, both_ways}
 use Rattle.std.proofs.lemmas.List.Elements.{All-head, All-tail, All-weaker, All-get_or, All-from_get_or}
-use Rattle.std.proofs.lemmas.List.{length-map}
+use Rattle.std.proofs.lemmas.List.{length-map, take_all}
 use Rattle.std.proofs.lemmas.Nat.{div-add-mod', div_below, div-mul-add, mod-mul-add}
 use Rattle.std.proofs.Math.Nat.{mod-lt, mul-le-mul_right}
 use Rattle.rfb_picture.specs.Rect.{contains}
 use Rattle.rfb_picture.proofs.GridLaws.{contains_true, contains_row, place_below}
 use Rattle.rfb_codec.specs.declared.subrect.Subrect.{Subrect}
 use Rattle.rfb_codec.specs.Choice.{IsPixelOf, IsBackground, is_in_any, IsLeft, IsBefore, IsNextSub, AreNextSubs}
-use Rattle.rfb_codec.specs.Choice.{AreRuleSubs}
+use Rattle.rfb_codec.specs.Choice.{AreRuleSubs, places_of}
 use Rattle.rfb_codec.specs.encoder.Background.{HasMore, AllDiffer}
+use Rattle.rfb_codec.proofs.PlacesLemmas.{more_yes, more_no, has_place}
 use Rattle.rfb_codec.proofs.RuleLemmas.{in_push}
 
 -- ---- one background
@@ -184,23 +185,42 @@ module _ (width height : ℕ) (pixels : List ℕ) (background : ℕ) where
       neither true b e = absurd cc
       neither false b e = (refl, e)
 
-  -- where each place that is left comes from a number on: as many as there are numbers, and one less where a place of
-  -- the background is among them
-  pub in_order : (before subs : List Subrect) (from place : ℕ) →
-      AreNextSubs width height pixels background before subs → from ≤ height * width → place < height * width →
-      slice_index pixels place ≡ background →
+  -- n more places have at most n of the background
+  few_more : (from n : ℕ) → from + n ≤ length pixels →
+      places_of background (take (from + n) pixels) ≤ places_of background (take from pixels) + n
+  few_more from zero within = let none : from + 0 ≡ from = omega arith in rw none (omega arith)
+  few_more from (suc n) within =
+      let before = few_more from n (omega arith) in
+      let next : from + suc n ≡ from + n + 1 = omega arith in
+      rw next (elim (cases_eq (get_or pixels (from + n) 0) background) [
+        | inl is ↦
+            let one = more_yes background pixels (from + n) (omega arith) is in
+            omega (arith, before, one)
+        | inr not ↦
+            let none = more_no background pixels (from + n) (omega arith) not in
+            omega (arith, before, none)
+      ])
+
+  -- where each place that is left comes from a number on: no more than there are others from there on
+  in_order : (before subs : List Subrect) (from : ℕ) →
+      AreNextSubs width height pixels background before subs → length pixels ≡ height * width →
+      from ≤ height * width →
       ((x y : ℕ) → x < width → y < height → IsLeft width pixels background before x y → from ≤ y * width + x) →
-      (length subs + from ≤ height * width) × (from ≤ place → length subs + from + 1 ≤ height * width)
-  in_order before [] from place each within below plain low = (omega arith, λ l. omega arith)
-  in_order before (s ∷ subs) from place (next, each) within below plain low =
+      length subs + (from + places_of background pixels)
+      ≤ height * width + places_of background (take from pixels)
+  in_order before [] from each whole within low =
+      let rest : ℕ = height * width - from in
+      let all : take (from + rest) pixels ≡ pixels = take_all (from + rest) pixels (omega (arith, whole, within)) in
+      let more = rw all at (few_more from rest (omega (arith, whole, within))) in
+      omega (arith, more, within)
+  in_order before (s ∷ subs) from (next, each) whole within low =
       let x = s.rect.x in
       let y = s.rect.y in
       let column : x < width = omega (arith, next.inside, next.wide) in
       let row : y < height = omega (arith, next.inside, next.high) in
       let at : from ≤ y * width + x = low x y column row next.left in
       let inside : y * width + x < height * width = place_below width height x y column row in
-      let other : y * width + x ≡ place → ⊥ = λ same. next.left.0 (ap (λ (n : ℕ). slice_index pixels n) same ∙ plain) in
-      let rest = in_order (before ++ s ∷ []) subs (y * width + x + 1) place each (omega (arith, inside)) below plain
+      let rest = in_order (before ++ s ∷ []) subs (y * width + x + 1) each whole (omega (arith, inside))
       (λ i j p q left.
       let (old, apart) = left_after before s i j left in
       elim (cases_order (y * width + x) (j * width + i)) [
@@ -209,16 +229,11 @@ module _ (width height : ℕ) (pixels : List ℕ) (background : ℕ) where
           | inl less ↦ omega (arith, less)
           | inr more ↦ absurd (next.first i j p q (before_is i j x y p column more) old)
         ]
-      ]) in (
-        omega (arith, rest, at),
-        λ l. elim (cases_order (y * width + x) place) [
-          | inl same ↦ absurd (other same)
-          | inr apart ↦ elim apart [
-            | inl less ↦ let more = rest.1 (omega (arith, less)) in omega (arith, more, at)
-            | inr above ↦ omega (arith, rest, above, l)
-          ]
-        ],
-      )
+      ]) in
+      let none = more_no background pixels (y * width + x) (omega (arith, inside, whole)) next.left.0 in
+      let here : from + (y * width + x - from) ≡ y * width + x = omega (arith, at) in
+      let few = rw here at (few_more from (y * width + x - from) (omega (arith, at, inside, whole))) in
+      omega (arith, rest, none, few, at)
     where
       -- the corner's number is its own
       corner : (i j : ℕ) → i < width → s.rect.x < width → s.rect.y * width + s.rect.x ≡ j * width + i →
@@ -231,13 +246,19 @@ module _ (width height : ℕ) (pixels : List ℕ) (background : ℕ) where
           contains_row s.rect i j (omega (arith, column)) (omega (arith, column, next.wide)) (omega (arith, row))
           (omega (arith, row, next.high))
 
+  -- no more than there are places of other pixels
+  pub few_of : (before subs : List Subrect) → AreNextSubs width height pixels background before subs →
+      length pixels ≡ height * width → length subs + places_of background pixels ≤ height * width
+  few_of before subs each whole =
+      let few = in_order before subs 0 each whole (omega arith) (λ x y p q left. omega arith) in
+      omega (arith, few)
+
   pub few_subs : (subs : List Subrect) → length pixels ≡ height * width → IsPixelOf pixels background →
       AreRuleSubs width height pixels background subs → length subs < height * width
-  few_subs subs whole (place, below, is) rule =
-      let all = in_order [] subs 0 place rule.each (omega arith) (omega (arith, below, whole)) (sym is)
-      (λ x y p q left. omega arith) in
-      let less = all.1 (omega arith) in
-      omega (arith, less)
+  few_subs subs whole there rule =
+      let few = few_of [] subs rule.each whole in
+      let some = has_place background pixels there in
+      omega (arith, few, some)
 
 -- ---- as many as there are pixels
 

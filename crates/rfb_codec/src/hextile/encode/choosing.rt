@@ -19,10 +19,11 @@ use crate::subrect::Subrect;
 use arrayvec::ArrayVec;
 use rfb_pixel::Format;
 
-/// The most subrectangles of a tile: a byte counts them.
-pub const MAX_SUBRECTS: usize = 255;
+/// The most subrectangles of a tile that is not sent as Raw. Of two pixels at most half of its places
+/// need one, 128. Of more each has six bytes at four bytes a pixel, and 171 have as many as its pixels.
+pub const MAX_SUBRECTS: usize = 170;
 
-/// Room for the subrectangles of a tile: fewer are enough than it has places.
+/// Room for the subrectangles of a tile.
 pub type TileSubrects = ArrayVec<Subrect, MAX_SUBRECTS>;
 
 // How a tile is sent over a background, and what it leaves to the next one.

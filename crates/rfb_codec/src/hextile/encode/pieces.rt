@@ -14,8 +14,8 @@ use arrayvec::ArrayVec;
 use rfb_pixel::Format;
 use rfb_wire::pieces::append;
 
-/// More bytes than any tile has.
-pub const MAX_TILE_BYTES: usize = 2048;
+/// No tile has more bytes: a mask, two colours, and a count with 170 coloured subrectangles.
+pub const MAX_TILE_BYTES: usize = 1030;
 
 /// Room for the bytes of a tile.
 pub type TileBytes = ArrayVec<u8, MAX_TILE_BYTES>;

@@ -61,7 +61,7 @@ fn list_length(subs: &TileSubrects, size: usize) -> usize
     requires { size ≤ 6 }
     ensures value { result ≡
         (if are_some subs.now.items then 1 + length subs.now.items * size else 0) }
-    ensures few { result ≤ 1531 }
+    ensures few { result ≤ 1021 }
 {
     if subs.is_empty() {
         0

@@ -1,4 +1,4 @@
-use Rattle.std.proofs.Common.{◌≡◌, ◌+◌, ◌/◌, inl, inr, map, min}
+use Rattle.std.proofs.Common.{◌≡◌, ◌+◌, ◌/◌, inl, inr, map, min, arith}
 use Rattle.rfb_pixel.specs.Format.{size_of}
 use Rattle.rfb_codec.specs.Raw.{raw_length}
 use Rattle.rfb_codec.specs.Tile.{PlainTile, rect_in}
@@ -65,7 +65,7 @@ returns-else-not-cover-clause-drawn c =
 pub returns-then-not-cover-clause-long : goal.returns-then-not-cover-clause-long
 returns-then-not-cover-clause-long c =
     let f = c.args.format.now in
-    let limit : c.min.result ≡ min 255 (raw_length f c.args.width c.args.height / 2) =
+    let limit : c.min.result ≡ min 170 (raw_length f c.args.width c.args.height / 2) =
     rw (c.requires.whole, c.size.ensures.value) at c.min.ensures in
     two_no_shorter f c.args.width c.args.height c.args.pixels.now (held_of c.args.carried) c.requires.whole
     (few_places c.args.width c.args.height c.args.pixels.now c.requires.columns c.requires.rows c.requires.whole)
@@ -75,19 +75,21 @@ returns-then-not-cover-clause-long c =
 pub returns-in_err-background-in-More-clause-long : goal.returns-in_err-background-in-More-clause-long
 returns-in_err-background-in-More-clause-long c =
     let f = c.args.format.now in
-    let limit : c.min-limit.result ≡ min 255 (raw_length f c.args.width c.args.height / (size_of f + 2)) =
+    let limit : c.min-limit.result ≡ min 170 (raw_length f c.args.width c.args.height / (size_of f + 2)) =
     rw (c.requires.whole, c.size.ensures.value, c.size-in-More.ensures.value) at c.min-limit.ensures in
     rw c.from_residual.ensures
     (many_pixels_long f c.args.width c.args.height c.args.pixels.now (held_of c.args.carried) c.requires.whole
     (few_places c.args.width c.args.height c.args.pixels.now c.requires.columns c.requires.rows c.requires.whole)
-    c.min-limit.result c.in-More.ensures limit c.in_err-background-in-More.ensures.more)
+    c.min-limit.result (omega (arith, c.size-in-More.ensures.bound, c.size-in-More.ensures.value))
+    c.in-More.ensures limit c.in_err-background-in-More.ensures.more)
 
 pub returns-then-not-cover-2-clause-long : goal.returns-then-not-cover-2-clause-long
 returns-then-not-cover-2-clause-long c =
     let f = c.args.format.now in
-    let limit : c.min-limit.result ≡ min 255 (raw_length f c.args.width c.args.height / (size_of f + 2)) =
+    let limit : c.min-limit.result ≡ min 170 (raw_length f c.args.width c.args.height / (size_of f + 2)) =
     rw (c.requires.whole, c.size.ensures.value, c.size-in-More.ensures.value) at c.min-limit.ensures in
     many_subs_long f c.args.width c.args.height c.args.pixels.now (held_of c.args.carried) c.requires.whole
     (few_places c.args.width c.args.height c.args.pixels.now c.requires.columns c.requires.rows c.requires.whole)
     c.min-limit.result c.in_ok-background-in-More.background c.cover-in-More.new.subs.items
+    (omega (arith, c.size-in-More.ensures.bound, c.size-in-More.ensures.value))
     c.in-More.ensures limit c.in_ok-background-in-More.ensures.background c.if-not-cover-2.ensures.over
