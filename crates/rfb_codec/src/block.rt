@@ -19,6 +19,9 @@ pub const SIDE: usize = 64;
 /// The most places of a block.
 pub const PLACES: usize = SIDE * SIDE;
 
+// How many colours of a row are packed at once.
+const LANES: u16 = 8;
+
 /// 1 to 64 columns and 1 to 64 rows of pixel values of one format, row by row from the top. It owns
 /// them, and has exactly one for each place. A caller keeps one and packs rectangle after rectangle
 /// into it: only what a rectangle needs is written.
@@ -151,19 +154,44 @@ fn pack_rows(pixels: &mut [u32; PLACES], format: &Format, picture: &Picture<Colo
         (take (rect.h * rect.w) pixels.new) }
     ensures fits { ArePixels format.now (take (rect.h * rect.w) pixels.new) }
 {
+    let span = span_of(picture, rect);
     if *format == Format::rgb888() {
-        pack_each_row(pixels, Format::rgb888(), picture, rect);
+        pack_each_row(pixels, Format::rgb888(), picture, rect, span);
     } else {
-        pack_each_row(pixels, *format, picture, rect);
+        pack_each_row(pixels, *format, picture, rect, span);
     }
 }
 
-// The same, by one loop for every format.
+// How many columns of each row are packed: those of the rectangle, but eight, which go at once, for
+// fewer where the picture has as many. What is past the rectangle is written over by the row below.
 #[inline(always)]
-fn pack_each_row(pixels: &mut [u32; PLACES], format: Format, picture: &Picture<Colour>, rect: Rect)
+fn span_of(picture: &Picture<Colour>, rect: Rect) -> u16
     requires held { Holds picture.now rect }
     requires columns { rect.w ≤ SIDE }
     requires rows { rect.h ≤ SIDE }
+    ensures wide { rect.w ≤ result }
+    ensures within { rect.x + result ≤ picture.now.width }
+    ensures room { rect.h * rect.w + result ≤ PLACES + rect.w }
+{
+    if rect.w < LANES && picture.width() - rect.x >= LANES {
+        LANES
+    } else {
+        rect.w
+    }
+}
+
+// The same, by one loop for every format, of so many columns.
+#[inline(always)]
+fn pack_each_row(
+    pixels: &mut [u32; PLACES],
+    format: Format,
+    picture: &Picture<Colour>,
+    rect: Rect,
+    span: u16,
+)
+    requires held { Holds picture.now rect }
+    requires span { (rect.w ≤ span) × (rect.x + span ≤ picture.now.width) }
+    requires room { rect.h * rect.w + span ≤ PLACES + rect.w }
     ensures packed { PacksRows format picture.now rect rect.h
         (take (rect.h * rect.w) pixels.new) }
     ensures fits { ArePixels format (take (rect.h * rect.w) pixels.new) }
@@ -171,9 +199,9 @@ fn pack_each_row(pixels: &mut [u32; PLACES], format: Format, picture: &Picture<C
     prove!(rect.h <= picture.height());
     let columns = usize::from(rect.w);
     for y in 0..rect.h {
-        let row = picture.row(rect.x, rect.y + y, rect.w);
+        let row = picture.row(rect.x, rect.y + y, span);
         let start = usize::from(y) * columns;
-        format.pack_row(row, &mut pixels[start..start + columns]);
+        format.pack_row(row, &mut pixels[start..start + usize::from(span)]);
     }
 }
 
