@@ -301,8 +301,8 @@ impl Session {
         let wanted = &mut room[..usize::from(to - from)];
         self.format.pack_row(screen.row(from, y, to - from), wanted);
         let known = self.known.pixels().row(from, y, to - from);
-        // Mostly none is another, as one compare shows.
-        if first_diff(known, wanted).is_none() {
+        // Mostly none of many is another, as one compare shows.
+        if to - from > LANES && first_diff(known, wanted).is_none() {
             return 0;
         }
         differing(known, wanted) << (from % 64)
