@@ -1,12 +1,12 @@
 -- What a session makes of bytes that it is fed: of a unit of one item, and of a slice.
-use Rattle.std.specs.Prelude.{◌≡◌, ◌≢◌, ℕ, Bool, List, ◌++◌, Option, Result, Err}
+use Rattle.std.specs.Prelude.{◌≡◌, ◌≢◌, ℕ, Bool, List, [], ◌++◌, Option, Result, Err}
 use Rattle.rfb_wire.specs.stream.Prefix.{More}
-use Rattle.arrayvec.specs.ArrayVec.{ArrayVec}
 use Rattle.rfb_pixel.specs.declared.colour.Colour.{Colour}
 use Rattle.rfb_picture.specs.declared.rect.Rect.{Rect}
 use Rattle.rfb_picture.specs.Grid.{Grid}
 use Rattle.rfb_wire.specs.stream.End.{FedBy, StepsBy}
 use Rattle.rfb_wire.specs.ClientHead.{SpellsRequest}
+use Rattle.rfb_hello.specs.ServerEnd.{as_reply}
 use Rattle.rfb_server.specs.declared.event.ServerEvent.{ServerEvent}
 use Rattle.rfb_server.specs.declared.fault.ServerFault.{ServerFault}
 use Rattle.rfb_server.specs.declared.fault.ServerFault.TheVariants.{NoMemory}
@@ -46,5 +46,4 @@ FeedsAs old bytes event new =
 -- the bytes are one request, and no more, where no other message has begun
 abbrev pub IsRequestAlone : Session → List ℕ → Bool → Rect → Type 0
 IsRequestAlone session bytes incremental rect =
-    (part : ArrayVec ℕ) × (session.progress ≡ Head part)
-    × SpellsRequest incremental rect (part.items ++ bytes)
+    (session.progress ≡ Head (as_reply [])) × SpellsRequest incremental rect bytes

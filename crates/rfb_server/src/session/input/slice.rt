@@ -132,7 +132,6 @@ impl Session {
         match self.request_alone(bytes) {
             Some((incremental, rect)) => {
                 self.request(incremental, rect);
-                self.begin_message();
                 Ok(Fed {
                     used: bytes.len(),
                     event: None,
