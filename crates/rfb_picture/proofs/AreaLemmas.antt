@@ -8,9 +8,11 @@ use Rattle.std.proofs.lemmas.Bool.{both_ways, eqb-true}
 use Rattle.std.proofs.lemmas.Bool.Decides.{nat_tests}
 use Rattle.rfb_picture.specs.declared.rect.Rect.{Rect}
 use Rattle.rfb_picture.specs.Rect.{contains, rect}
-use Rattle.rfb_picture.specs.Area.{Places, IsArea, IsNoted, asked_at, whole_at, no_places, added}
+use Rattle.rfb_picture.specs.Grid.{uniform}
+use Rattle.rfb_picture.specs.Area.{Places, IsArea, IsNoted, HasNoWhole, asked_at, whole_at, no_places, added}
 use Rattle.rfb_picture.proofs.GridLemmas.{at-filled, at-uniform, width-changed, height-changed, whole-changed}
-use Rattle.rfb_picture.proofs.GridLemmas.{width-uniform, height-uniform, whole-uniform}
+use Rattle.rfb_picture.proofs.GridLemmas.{width-uniform, height-uniform, whole-uniform, same_grid}
+use Rattle.rfb_picture.proofs.NotedLemmas.{any_default}
 
 -- ---- an area with nothing asked
 
@@ -147,3 +149,15 @@ noted-added r w a all plain all_too plain_too noted alls plains = record {
       whole_at-added r w a x y noted.area x_in y_in
       ∙ rw ((plains e).1) (noted.none_whole (plains e).0 x y x_in y_in);
 }
+
+-- where no place is whole, the set of those is empty
+pub none_whole_is : (a : Places) → IsArea a → HasNoWhole a → a.whole ≡ uniform a.asked.width a.asked.height false
+none_whole_is a area none =
+    same_grid a.whole (uniform a.asked.width a.asked.height false) area.wholes
+    (whole-uniform a.asked.width a.asked.height false)
+    (area.wide ∙ sym (width-uniform a.asked.width a.asked.height false))
+    (area.high ∙ sym (height-uniform a.asked.width a.asked.height false))
+    (λ x y d p q.
+    let column : x < a.asked.width = omega (arith, p, area.wide) in
+    let row : y < a.asked.height = omega (arith, q, area.high) in
+    any_default a.whole x y d area.wholes p q ∙ none x y column row ∙ sym (at-uniform a.asked.width a.asked.height false x y d column row))

@@ -218,7 +218,7 @@ clearing_more column row left bit old mid small so_far = record {
 }
 
 -- a place has one mark, whatever there would be beyond the last
-any_default : (g : Grid Bool) (x y : ℕ) (d : Bool) →
+pub any_default : (g : Grid Bool) (x y : ℕ) (d : Bool) →
     IsGrid g → x < g.width → y < g.height → at_or g x y d ≡ is_in g x y
 any_default g x y d whole p q =
     get_or_default g.places (y * g.width + x) d false

@@ -164,7 +164,9 @@ impl Area {
         ensures height { self.new.asked.height ≡ self.old.asked.height }
     {
         self.asked.clear();
-        self.whole.clear();
+        if !self.is_plain {
+            self.whole.clear();
+        }
         self.is_all = false;
         self.is_plain = true;
     }

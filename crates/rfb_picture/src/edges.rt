@@ -120,6 +120,12 @@ fn gather(words: &[u64], strip: Strip, top: usize, bottom: usize) -> Option<Gath
 {
     match first_row(words, strip, top, bottom) {
         None => None,
+        // A lowest row is the only one.
+        Some(first) if first + 1 == bottom => Some(Gathered {
+            bits: words[first * strip.across + strip.column] & strip.mask,
+            top: first,
+            bottom: first,
+        }),
         Some(first) => {
             let last = last_row(words, strip, first, bottom);
             Some(Gathered {

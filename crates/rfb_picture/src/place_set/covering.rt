@@ -6,7 +6,7 @@ ghost use Rattle.rfb_picture.specs.Places.{AllMarked};
 ghost use Rattle.rfb_picture.specs.layout.PlaceSet.{in_set, IsLayers};
 
 use super::layers::Layers;
-use super::parts::{cells_of, in_column, in_row};
+use super::parts::{cells_of, in_column, in_row, is_of_one_cell};
 use crate::rect::Rect;
 
 impl Layers {
@@ -16,6 +16,9 @@ impl Layers {
         requires room { Holds self.now.places zone }
         ensures { IsTrue result ↔ AllMarked (in_set self.now) zone }
     {
+        if is_of_one_cell(zone) {
+            return self.has_all_in_cell(zone);
+        }
         if zone.w == 0 || zone.h == 0 || self.full.has_all(cells_of(zone)) {
             return true;
         }

@@ -1,4 +1,4 @@
-use Rattle.std.proofs.Common.{arith, bit_and}
+use Rattle.std.proofs.Common.{◌≡◌, ◌+◌, ◌*◌, arith, bit_and, slice_index}
 use Rattle.std.specs.Int.Bits.{and_lt}
 use Rattle.std.proofs.lemmas.Bool.{and_parts, and_from}
 use Rattle.rfb_picture.specs.Places.{has_bit}
@@ -9,6 +9,27 @@ use Rattle.rfb_picture.proofs.edges.gather.Goals as goal
 
 pub returns-in-Some : goal.returns-in-Some
 returns-in-Some c =
+    let f = c.in-Some.first in
+    let mask = c.args.strip.mask in
+    let across = c.args.strip.across in
+    let column = c.args.strip.column in
+    let word = slice_index c.args.words.now (f * across + column) in
+    let first = c.in-Some.ensures in
+    gathered _ c.args.top c.args.bottom f f (bit_and word mask) first
+    (record {
+      above = omega arith;
+      below = omega (arith, first.below);
+      none = λ y i p l m. absurd (omega (arith, c.if-first-bottom.true, p, l));
+      here = first.here;
+    })
+    (and_lt 64 word mask (omega arith) (omega arith))
+    (λ y i p l h.
+    let here : y ≡ f = omega (arith, p, l) in
+    rw has_bit-and (rw here at h))
+    (λ i h. (f, omega arith, omega arith, rw has_bit-and at h))
+
+pub returns-in-Some-2 : goal.returns-in-Some-2
+returns-in-Some-2 c =
     let mask = c.args.strip.mask in
     let bits = c.all_bits.result in
     let across = c.args.strip.across in
