@@ -75,7 +75,9 @@ impl<S: Speaker + Drop> Console<S> {
         None
     }
 
-    // The owner has said how large the screen is: viewers may come.
+    // The owner has said how large the screen is: viewers may come. It is no part of its callers:
+    // what it makes needs a mebibyte of stack, of which each line would touch every page.
+    #[inline(never)]
     fn open(&mut self, screen: Screen) -> Option<Refusal>
         ensures opens { OpensDesk self.old.name.items self.old.rules screen
             self.new.desk self.new.outcome }

@@ -21,7 +21,8 @@ impl Hub {
     ghost use Rattle.rfb_session.specs.HubSteps.{HubSteps, NeedsNoMemory};
 
     // A viewer takes an empty slot, with a session of its own. Its memory is taken before anything
-    // is changed.
+    // is changed. It is no part of `step`, of which most need no such stack.
+    #[inline(never)]
     pub(super) fn join(&mut self, slot: u8, setup: &Setup) -> Result<HubTold, NoMemory>
         ensures steps { IfOk result (λ told.
             HubSteps self.old (Join slot setup.now) told self.new) }

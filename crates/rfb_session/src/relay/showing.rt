@@ -17,6 +17,9 @@ use rfb_viewer::Viewer;
 impl<S: Speaker + Drop> Relay<S> {
     /// Its picture is shown. If it is the first, viewers may come. Else it takes the place of the
     /// one that was shown; if its screen has another size, they are disconnected.
+    ///
+    /// It is no part of its callers: its stack is large, and most bytes of a server open nothing.
+    #[inline(never)]
     pub(crate) fn open(&mut self, viewer: Viewer)
         requires stands { ∥ StandsOrFailed viewer ∥₁ }
         ensures opens { Opens self.old viewer self.new }
