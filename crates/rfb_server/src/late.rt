@@ -151,6 +151,15 @@ impl LateSession {
         }
     }
 
+    /// Whether nothing needs sending, as by `Session::is_still`: so it is before its handshake is
+    /// done.
+    pub fn is_still(&self) -> bool {
+        match &self.stage {
+            Stage::Entering(_) => true,
+            Stage::Within(session) => session.is_still(),
+        }
+    }
+
     /// Whether so little may need sending that no twin is worth finding, as by
     /// `Session::is_slight`: so it is before its handshake is done.
     pub fn is_slight(&self) -> bool {

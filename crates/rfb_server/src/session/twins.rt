@@ -54,6 +54,12 @@ impl Session {
         self.asks_as(other) && self.agrees(other, knows_same)
     }
 
+    /// Whether no cell has a place that is marked and asked, so that nothing needs sending. It is
+    /// about costs: nothing rests on it.
+    pub(crate) fn is_still(&self) -> bool {
+        self.next_cell(0).is_none()
+    }
+
     /// Whether so little may need sending, of two cells of 64 by 64 places at most, that it is
     /// composed sooner than twins are found. It is about costs: nothing rests on it.
     pub fn is_slight(&self) -> bool {
@@ -148,6 +154,10 @@ impl Session {
     fn asks_whole(&self) -> bool
         ensures { OnTrue result (AsksAll true self.now) }
     {
+        // Where it is noted that none is whole, no place has to be looked at.
+        if self.area.is_plain() {
+            return false;
+        }
         let all = Rect::whole(self.known.width(), self.known.height());
         if !self.area.asked().has_all(all) {
             return false;

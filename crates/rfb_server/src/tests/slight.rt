@@ -1,6 +1,6 @@
-//! What is too little to look for twins: two cells of a screen that has four.
+//! What is too little to look for twins: two cells of a screen that has four, and nothing at all.
 
-use crate::Session;
+use crate::{LateSession, ServerSetup, Session};
 use rfb_hello::Version;
 use std::alloc::{AllocError, Global};
 
@@ -23,8 +23,27 @@ fn told_of_cells(alloc: Global) -> Result<[bool; 3], AllocError> {
     Ok(told)
 }
 
+// Whether nothing needs sending: at first, once the handshake is done, and once a place is asked.
+fn told_of_stillness(alloc: Global) -> Result<[bool; 3], AllocError> {
+    let mut session = LateSession::new(alloc, ServerSetup::usual(128, 65, b"t"))?;
+    let before = session.is_still();
+    session.feed(b"RFB 003.003\n").ok();
+    session.feed(b"\x01").ok();
+    let shaken = session.is_still();
+    session.feed(ASKS_A_THIRD).ok();
+    let told = [before, shaken, session.is_still()];
+    drop(session);
+    Ok(told)
+}
+
 #[test]
 fn two_cells_are_slight_and_three_are_not(rt: HostRuntime) -> Result<(), AllocError> {
     assert_eq!(rt; told_of_cells(rt.alloc())?, [true, true, false]);
+    Ok(())
+}
+
+#[test]
+fn a_session_is_still_until_a_place_is_asked_for_whole(rt: HostRuntime) -> Result<(), AllocError> {
+    assert_eq!(rt; told_of_stillness(rt.alloc())?, [true, true, false]);
     Ok(())
 }

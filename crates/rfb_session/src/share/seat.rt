@@ -156,6 +156,11 @@ impl ShareSeat {
         self.session.knows_first()
     }
 
+    /// Whether nothing needs sending.
+    pub(crate) fn is_still(&self) -> bool {
+        self.session.is_still()
+    }
+
     /// Whether so little may need sending that composing it takes less than finding twins.
     pub(crate) fn is_slight(&self) -> bool {
         self.session.is_slight()

@@ -52,13 +52,14 @@ impl Share {
         }
     }
 
-    /// The others at which it is worth looking for twins of a seat. Where little may need sending
-    /// to its viewer, these are the ones known to have the same: composing so little takes less
-    /// than finding more. Otherwise they are all.
+    /// The others at which it is worth looking for twins of a seat. Where nothing needs sending to
+    /// its viewer these are none. Where little may, they are the ones known to have the same:
+    /// composing so little takes less than finding more. Otherwise they are all.
     pub fn worth_sharing(&self, seat: Seat, others: Seats) -> Seats
         ensures { (k : ℕ) → has_bit result k ≡ true → has_bit others k ≡ true }
     {
         match &self.seats[seat.place()] {
+            Some(own) if own.is_still() => Seats::none(),
             Some(own) if own.is_slight() => self.kin.among(seat.place(), others),
             _ => others,
         }

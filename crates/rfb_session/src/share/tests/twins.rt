@@ -3,6 +3,7 @@
 ghost use Rattle.std.specs.Prelude.{◌≤◌};
 
 use super::*;
+use crate::hub::BLACK;
 use crate::seats::Seats;
 
 // SetPixelFormat, section 7.5.1: 32 bits, depth 24, little-endian, true colour, maxima of 255, and
@@ -91,6 +92,8 @@ fn takes_by_parts(share: &mut Share) -> bool {
     share.written(at(7), 3);
     asked
         && given
+        && send(share, at(7), ASKS_CHANGES)
+        && paint(share, BLUE)
         && share.worth_sharing(at(7), others) == Seats::none().with(at(2))
         && takes(share, at(2), BLUE_UPDATE)
         && send(share, at(2), RED_FIRST)
@@ -137,14 +140,22 @@ fn each_has_all(share: &mut Share, count: u8) -> bool
     all
 }
 
-fn told_of_each(alloc: Global) -> Result<[bool; 4], AllocError> {
+// The fourth asks for changes, and what is drawn may be one. Then others are worth a look.
+fn looks_for(share: &mut Share, worth: Seats) -> bool {
+    send(share, at(3), ASKS_CHANGES)
+        && paint(share, BLACK)
+        && share.worth_sharing(at(3), Seats::all().without(at(3))) == worth
+}
+
+fn told_of_each(alloc: Global) -> Result<[bool; 5], AllocError> {
     let mut share = share_of_two_places(alloc)?;
     let others = Seats::all().without(at(3));
     let told = [
         all_greeted(&mut share) && each_has_all(&mut share, 7),
-        share.worth_sharing(at(3), others) == others.without(at(7)),
+        share.worth_sharing(at(3), others) == Seats::none(),
+        looks_for(&mut share, others.without(at(7))),
         each_has_all(&mut share, 8),
-        share.worth_sharing(at(3), others) == others,
+        looks_for(&mut share, others),
     ];
     drop(share);
     Ok(told)
@@ -155,6 +166,6 @@ fn those_who_came_one_by_one_are_looked_for_once_they_have_all(
     rt: HostRuntime,
 ) -> Result<(), AllocError> {
     let told = told_of_each(rt.alloc())?;
-    assert_eq!(rt; told, [true; 4]);
+    assert_eq!(rt; told, [true; 5]);
     Ok(())
 }
