@@ -63,6 +63,11 @@ def a_table_is_printed_or_what_it_lacks():
     assert b"The table was made in " in told or told.startswith(b"no table "), told
 
 
+def the_time_of_a_scroll_is_printed_or_what_it_lacks():
+    told = printed("peer/wall.py", [Run.program, "--once"])
+    assert b"\n| a scroll by one row, " in told or told.startswith(b"no table "), told
+
+
 def the_recordings_of_a_bench_show_what_their_fills_draw():
     for encoding in "raw", "rre", "hextile":
         recording = printed("recording/recording.py", ["65", "2", encoding],
@@ -80,6 +85,7 @@ ROWS = [
     the_cost_of_a_drive_is_printed,
     the_largest_memory_of_a_run_is_printed,
     a_table_is_printed_or_what_it_lacks,
+    the_time_of_a_scroll_is_printed_or_what_it_lacks,
     the_recordings_of_a_bench_show_what_their_fills_draw,
 ]
 
