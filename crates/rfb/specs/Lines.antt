@@ -1,5 +1,5 @@
 -- Lines of a text, one after another: which of them ask for what.
-use Rattle.std.specs.Prelude.{◌≡◌, ◌≢◌, ◌+◌, ℕ, List, [], ◌∷◌, ◌++◌, All, length}
+use Rattle.std.specs.Prelude.{◌≡◌, ◌+◌, ℕ, List, [], ◌∷◌, ◌++◌, All, length}
 
 -- every line is empty
 abbrev pub AreEmpty : List (List ℕ) → Type 0

@@ -1,6 +1,6 @@
 -- The viewer's end, step by step.
-use Rattle.std.proofs.Common.{◌≡◌, ◌≢◌, ℕ, zero, suc, ◌+◌, ◌<◌, ◌≤◌, if◌then◌else◌}
-use Rattle.std.proofs.Common.{true, List, [], ◌∷◌, ◌++◌, Option, Some, None, Result, Ok, length, take, drop}
+use Rattle.std.proofs.Common.{◌≡◌, ℕ, zero, suc, ◌+◌, ◌<◌, if◌then◌else◌}
+use Rattle.std.proofs.Common.{true, List, [], ◌++◌, Option, Some, None, Result, Ok, length, take, drop}
 use Rattle.std.proofs.Common.{refl, sym, subst, ◌∙◌, ap, append-nil, arith}
 use Rattle.rfb_wire.specs.Fields.{u16_at, u32_at}
 use Rattle.rfb_wire.specs.stream.Prefix.{More, Got}

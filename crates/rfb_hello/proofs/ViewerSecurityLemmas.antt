@@ -1,5 +1,5 @@
 -- The viewer's end at the security types: what a list, a word and SecurityResult make of it.
-use Rattle.std.proofs.Common.{◌≡◌, ◌≢◌, ℕ, ◌+◌, ◌<◌, ◌≤◌, if◌then◌else◌, Bool, true}
+use Rattle.std.proofs.Common.{◌≡◌, ◌≢◌, ℕ, ◌+◌, ◌<◌, ◌≤◌, Bool, true}
 use Rattle.std.proofs.Common.{false, List, [], ◌∷◌, ◌++◌, Some, None, Ok, Err, length, take, refl, sym, subst}
 use Rattle.std.proofs.Common.{◌∙◌, ap, append-nil, length-append, arith}
 use Rattle.std.proofs.lemmas.List.{length-take-le}
@@ -21,7 +21,7 @@ use Rattle.rfb_hello.specs.declared.offered.Offered.TheVariants.{Chosen, Listed}
 use Rattle.rfb_hello.specs.ServerHandshake.{ServerPoint, AwaitsSecurity, SecurityTypes, IsWord, IsTypes, has_none}
 use Rattle.rfb_hello.specs.ServerHandshake.{after_types, AwaitsResult, ServerItem, SecurityNone, SecurityResult}
 use Rattle.rfb_hello.specs.ServerHandshake.{SpellsServerItem, FaultsServerItem}
-use Rattle.rfb_hello.specs.ServerItems.{security, server_item}
+use Rattle.rfb_hello.specs.ServerItems.{server_item}
 use Rattle.rfb_hello.specs.ServerEnd.{as_reply}
 use Rattle.rfb_hello.specs.ViewerEnd.{ViewerSetup, viewer_end, choice_bytes, shared_flag}
 use Rattle.rfb_hello.specs.ViewerProgress.{ProgressStandsFor}

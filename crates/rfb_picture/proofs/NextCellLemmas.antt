@@ -4,7 +4,6 @@ use Rattle.std.proofs.Common.{◌||◌, Option, Some, None, ◌∙◌, arith, in
 use Rattle.std.proofs.lemmas.Bool.{cases_lt, cases_eq}
 use Rattle.std.proofs.lemmas.Nat.{mul-add-lt, same_from_place, div-add-mod', mod_below}
 use Rattle.std.proofs.Math.Nat.{mul_comm, mul-le-mul_right, div-mul-le_self, le_of_mul-le-mul_right}
-use Rattle.rfb_picture.specs.declared.rect.Rect.{Rect}
 use Rattle.rfb_picture.specs.declared.edges.Edges.{Edges}
 use Rattle.rfb_picture.specs.declared.place_set.layers.Layers.{Layers}
 use Rattle.rfb_picture.specs.Rect.{contains}

@@ -1,5 +1,5 @@
 -- Records of two sessions that know the same, and what the one takes from the other.
-use Rattle.std.proofs.Common.{◌≡◌, ℕ, ◌<◌, ◌≤◌, ◌+◌, ◌-◌, ◌||◌}
+use Rattle.std.proofs.Common.{◌≡◌, ℕ, ◌<◌, ◌≤◌, ◌+◌, ◌||◌}
 use Rattle.std.proofs.Common.{◌↔◌, Bool, true, false, List}
 use Rattle.std.proofs.Common.{ap, sym, ◌∙◌, refl, arith, Option, Some, None}
 use Rattle.std.proofs.Common.{if◌then◌else◌, IsNone}

@@ -1,5 +1,5 @@
 -- What is the same where a comparison of two formats, rectangles, hints or lists says so.
-use Rattle.std.proofs.Common.{◌≡◌, ℕ, ◌<◌, ◌+◌, ◌-◌, ◌&&◌}
+use Rattle.std.proofs.Common.{◌≡◌, ℕ, ◌<◌, ◌+◌, ◌&&◌}
 use Rattle.std.proofs.Common.{Bool, true, false, List, length}
 use Rattle.std.proofs.Common.{ap, sym, ◌∙◌, refl, arith, Some}
 use Rattle.std.proofs.Common.{eqb, take, slice_get, [], ◌∷◌, ◌++◌}

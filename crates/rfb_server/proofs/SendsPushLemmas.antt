@@ -1,5 +1,5 @@
 -- What needs no sending, and lists of rectangles that get one more.
-use Rattle.std.proofs.Common.{◌≡◌, ℕ, ◌+◌, ◌-◌, ◌&&◌, ◌||◌, Bool, true, false, not, List, [], ◌∷◌, ◌++◌, map}
+use Rattle.std.proofs.Common.{◌≡◌, ℕ, ◌&&◌, ◌||◌, Bool, true, false, not, List, [], ◌∷◌, ◌++◌, map}
 use Rattle.std.proofs.Common.{Option, Some, None, refl, ap, ◌∙◌, arith, append_assoc}
 use Rattle.std.proofs.Common.{◌==◌}
 use Rattle.std.proofs.lemmas.Bool.Decides.{nat_tests}
@@ -12,7 +12,7 @@ use Rattle.rfb_codec.specs.Effect.{effect, effects, IsAlike, Agrees}
 use Rattle.rfb_codec.specs.WholeUpdate.{item_of, SpellsRectangles}
 use Rattle.rfb_codec.proofs.EffectLaws.{effect_painted, effects_picture}
 use Rattle.rfb_server.specs.Server.{ServerState}
-use Rattle.rfb_server.specs.Request.{wanted, recorded, differs}
+use Rattle.rfb_server.specs.Request.{differs}
 use Rattle.rfb_server.specs.Composition.{Part, sent_as, between, HasItsData, HaveTheirData, IsBlockOf}
 use Rattle.rfb_server.specs.Composition.{AreBlocksOf, is_in_some}
 

@@ -1,5 +1,5 @@
 -- What a session takes over of its twin's update, and what its viewer is sent by that.
-use Rattle.std.proofs.Common.{◌≡◌, ℕ, ◌<◌, ◌≤◌, ◌+◌, ◌*◌, ◌&&◌, ◌||◌, ◌⊎◌, Bool}
+use Rattle.std.proofs.Common.{◌≡◌, ℕ, ◌<◌, ◌+◌, ◌*◌, ◌&&◌, ◌||◌, Bool}
 use Rattle.std.proofs.Common.{true, false, not, List, [], length, Option, Some, None}
 use Rattle.std.proofs.Common.{ap, sym, subst, ◌∙◌, refl, arith, inl, inr, ◌==◌}
 use Rattle.std.specs.Int.{div_ceil}
@@ -20,7 +20,7 @@ use Rattle.rfb_server.specs.Record.{AreKnown}
 use Rattle.rfb_server.specs.Request.{wanted_at, differs}
 use Rattle.rfb_server.specs.declared.session.update.quiet.Quiet.{Quiet}
 use Rattle.rfb_server.specs.update.Needs.{IsQuiet, is_quiet}
-use Rattle.rfb_server.specs.update.Sends.{NoneMayNeed, may_need, IsKept, IsNext}
+use Rattle.rfb_server.specs.update.Sends.{NoneMayNeed, may_need, IsKept}
 use Rattle.rfb_server.specs.session.Twins.{IsKnownAlike, ShowsAll, TakesSome, Agree}
 use Rattle.rfb_hello.specs.declared.server_hello.ServerHello.{ServerHello}
 use Rattle.rfb_wire.specs.stream.Sequel.{Second}
@@ -29,7 +29,7 @@ use Rattle.rfb_server.specs.declared.session.input.progress.Progress.{Progress}
 use Rattle.rfb_server.specs.declared.session.input.progress.Progress.TheVariants.{Handshake, Head, Encodings, CutText}
 use Rattle.rfb_server.specs.declared.session.input.progress.Progress.TheVariants.{Failed}
 use Rattle.rfb_server.specs.Hints.{hints_in}
-use Rattle.rfb_server.specs.Model.{Notes, SessionStandsFor, notes_in, session_serving}
+use Rattle.rfb_server.specs.Model.{Notes, SessionStandsFor, session_serving}
 use Rattle.rfb_server.specs.declared.fault.ServerFault.{ServerFault}
 use Rattle.rfb_server.specs.declared.late.entrance.Entrance.{Entrance}
 use Rattle.rfb_server.specs.Late.{entered}

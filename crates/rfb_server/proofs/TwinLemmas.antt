@@ -5,16 +5,14 @@ use Rattle.std.proofs.Common.{sym, subst, ap, not, ◌∙◌, refl, arith, inl, 
 use Rattle.std.specs.Int.{div_ceil}
 use Rattle.std.specs.Option.{is_some}
 use Rattle.std.proofs.lemmas.Bool.{cases_eq, cases_lt, both_ways}
-use Rattle.std.proofs.lemmas.Bool.Decides.{nat_tests}
 use Rattle.rfb_pixel.specs.Format.{PixelFormat}
 use Rattle.rfb_pixel.specs.declared.colour.Colour.{Colour}
 use Rattle.rfb_picture.specs.declared.rect.Rect.{Rect}
-use Rattle.rfb_picture.specs.Rect.{contains, rect}
+use Rattle.rfb_picture.specs.Rect.{contains}
 use Rattle.rfb_picture.specs.Grid.{Grid}
 use Rattle.rfb_picture.specs.Box.{is_in, HasBox, IsBox, IsClear}
 use Rattle.rfb_picture.specs.Area.{AsksEach, HasNoWhole, Places, asked_at}
-use Rattle.rfb_picture.specs.CellOrder.{NoneInCells, HasNextCell, cells_in}
-use Rattle.rfb_picture.specs.Places.{AllMarked}
+use Rattle.rfb_picture.specs.CellOrder.{HasNextCell}
 use Rattle.rfb_picture.proofs.GridLaws.{contains_true}
 use Rattle.rfb_server.specs.declared.session.Session.{Session}
 use Rattle.rfb_server.specs.Cells.{cell_of, IsCell}

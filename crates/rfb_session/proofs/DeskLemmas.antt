@@ -1,5 +1,5 @@
 -- What the calls of a desk lead to, one after the other.
-use Rattle.std.proofs.Common.{◌≡◌, ◌+◌, ◌-◌, ◌++◌, ◌∙◌, ℕ, Bool, true, false}
+use Rattle.std.proofs.Common.{◌≡◌, ◌-◌, ◌++◌, ◌∙◌, ℕ, Bool, true, false}
 use Rattle.std.proofs.Common.{not, ◌&&◌, ◌||◌, List, []}
 use Rattle.std.proofs.Common.{zero, suc}
 use Rattle.std.proofs.Common.{refl, sym, ap, subst, append_assoc, arith, inl, inr, length, cond, Option, None}

@@ -1,5 +1,5 @@
 -- One seat of a desk as the seats are served: whether its update is a large one, whether it is put off, and its marks.
-use Rattle.std.proofs.Common.{◌≡◌, ◌∙◌, ◌&&◌, ◌⊎◌, ℕ, Bool, true, false, not, List, [], Option}
+use Rattle.std.proofs.Common.{◌≡◌, ◌∙◌, ◌&&◌, ℕ, Bool, true, false, not, List, [], Option}
 use Rattle.std.proofs.Common.{refl, sym, ap, arith, inl, inr, length, nat_eq}
 use Rattle.std.proofs.lemmas.Bool.{false≢true}
 use Rattle.std.proofs.lemmas.Bool.Decides.{eqb_tells}

@@ -1,11 +1,10 @@
 -- A viewer whose picture is shown to others: what its calls leave.
-use Rattle.std.proofs.Common.{◌≡◌, ◌≢◌, ◌⊎◌, ◌≤◌, ◌<◌, ◌++◌, ℕ, List, take}
+use Rattle.std.proofs.Common.{◌≡◌, ◌≢◌, ◌⊎◌, ◌≤◌, ◌<◌, ℕ, List, take}
 use Rattle.std.proofs.Common.{length, Option, Some, None, Result}
-use Rattle.std.proofs.Common.{Ok, Err, IfOk, IfErr, inl, inr, refl, sym, ap, subst, ◌∙◌, false, Bool}
+use Rattle.std.proofs.Common.{Ok, Err, IfOk, IfErr, inl, inr, refl, sym, ap, subst, ◌∙◌}
 use Rattle.std.proofs.Math.Logic.{∥∥₁_elim, ∥∥₁_map}
 use Rattle.std.proofs.lemmas.Bool.{cases_eq}
 use Rattle.rfb_pixel.specs.declared.colour.Colour.{Colour}
-use Rattle.rfb_picture.specs.declared.rect.Rect.{Rect}
 use Rattle.rfb_picture.specs.Grid.{Grid}
 use Rattle.rfb_wire.specs.stream.End.{FedBy, RefusedBy, RunsOutBy, StaysFailed}
 use Rattle.rfb_wire.specs.stream.FaultPlace.{counted_on}
@@ -18,14 +17,13 @@ use Rattle.rfb_viewer.specs.declared.fault.ViewerFault.TheVariants.{NoMemory}
 use Rattle.rfb_viewer.specs.declared.viewer.Viewer.{Viewer}
 use Rattle.rfb_viewer.specs.Call.{called}
 use Rattle.rfb_viewer.specs.Counted.{CountsTo}
-use Rattle.rfb_viewer.specs.Damage.{damage_of, damaging, IsDamaged, KeepsDamage, IsSameOutside, colour_at, holds}
+use Rattle.rfb_viewer.specs.Damage.{damage_of, damaging, IsDamaged, KeepsDamage, IsSameOutside, colour_at}
 use Rattle.rfb_viewer.specs.Failed.{KeepsPicture, KeepsReason}
 use Rattle.rfb_viewer.specs.Moved.{moving, HasMoved, KeepsMoved}
 use Rattle.rfb_viewer.specs.Model.{StandsFor, fault_of, picture_of, making_of, taken_of}
 use Rattle.rfb_viewer.specs.Told.{seen}
 use Rattle.rfb_viewer.specs.Viewer.{Viewing, ViewerState, AsksMemory, viewer as viewer_end}
 use Rattle.rfb_session.specs.Mirrors.{shown_of, seen_by, IsViewing, StandsOrFailed, TakesBytes, FailsAt}
-use Rattle.rfb_session.specs.Mirrors.{KeepsViewing}
 use Rattle.rfb_session.proofs.MirrorSizeLemmas.{IsSized, fed_sized, refused_sized}
 
 -- ---- what is not denied of numbers and colours holds

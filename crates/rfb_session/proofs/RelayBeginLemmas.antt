@@ -1,5 +1,5 @@
 -- What a relay does once the handshake of its server's viewer is done.
-use Rattle.std.proofs.Common.{◌≡◌, ◌+◌, ◌++◌, ◌∙◌, ◌⊎◌, ℕ}
+use Rattle.std.proofs.Common.{◌≡◌, ◌++◌, ◌∙◌, ◌⊎◌, ℕ}
 use Rattle.std.proofs.Common.{List, true, false, Option, Some, None}
 use Rattle.std.proofs.Common.{Result, Ok, Err, OnOk, sym, ap, subst}
 use Rattle.std.proofs.Common.{append_assoc}

@@ -6,7 +6,6 @@ use Rattle.rfb_picture.specs.declared.rect.Rect.{Rect}
 use Rattle.rfb_picture.specs.Grid.{Grid, IsGrid}
 use Rattle.rfb_picture.specs.Places.{has_bit}
 use Rattle.rfb_codec.specs.Effect.{IsAlike}
-use Rattle.rfb_server.specs.Model.{serving_with}
 use Rattle.rfb_viewer.specs.Damage.{IsSameOutside}
 use Rattle.rfb_session.specs.declared.share.seat.ShareSeat.{ShareSeat}
 use Rattle.rfb_session.specs.ShareWork.{OthersRest}
@@ -14,7 +13,6 @@ use Rattle.rfb_session.specs.Slots.{seat_at}
 use Rattle.rfb_session.proofs.FollowLemmas.{AllFollow}
 use Rattle.rfb_session.proofs.ShareRelayLemmas.{quiet_rests}
 use Rattle.rfb_session.proofs.ShareWorkLemmas.{rest_of_all}
-use Rattle.rfb_hello.specs.declared.version.Version.{Version}
 
 -- where each was told of something all may have work; else nothing has changed
 pub told_rests : (told : Bool) (before screen : Grid Colour) (damage : Option Rect)

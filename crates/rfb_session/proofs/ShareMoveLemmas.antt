@@ -1,14 +1,14 @@
 -- What the seats of a share are told of a viewer's picture.
-use Rattle.std.proofs.Common.{◌≡◌, ◌⊎◌, ◌<◌, ◌≤◌, ◌+◌, ◌*◌, ◌&&◌, nat_lt, ℕ}
+use Rattle.std.proofs.Common.{◌≡◌, ◌<◌, ◌+◌, ◌*◌, ◌&&◌, nat_lt, ℕ}
 use Rattle.std.proofs.Common.{Bool, true, false, List, [], ◌∷◌, ◌++◌}
-use Rattle.std.proofs.Common.{if◌then◌else◌, length, Option, Some, None, inl, inr, refl, sym, ap, subst}
+use Rattle.std.proofs.Common.{if◌then◌else◌, Option, Some, None, inl, inr, refl, sym, ap, subst}
 use Rattle.std.proofs.Common.{◌∙◌, arith}
 use Rattle.std.proofs.lemmas.Bool.Decides.{nat_tests}
 use Rattle.std.proofs.lemmas.List.{get_or_default}
 use Rattle.rfb_pixel.specs.declared.colour.Colour.{Colour}
 use Rattle.rfb_picture.specs.declared.rect.Rect.{Rect}
 use Rattle.rfb_picture.specs.Rect.{rect, contains}
-use Rattle.rfb_picture.specs.Grid.{Grid, IsGrid, Holds, at_or}
+use Rattle.rfb_picture.specs.Grid.{Grid, IsGrid, at_or}
 use Rattle.rfb_picture.proofs.GridLaws.{same_grid, place_below}
 use Rattle.rfb_codec.specs.Effect.{IsAlike}
 use Rattle.rfb_server.specs.declared.drawing.notice.Notice.{Notice}
@@ -22,7 +22,7 @@ use Rattle.rfb_server.proofs.DrawingLaws.{follows_stroke}
 use Rattle.rfb_viewer.specs.declared.viewer.moved.Move.{Move}
 use Rattle.rfb_viewer.specs.Damage.{IsSameOutside}
 use Rattle.rfb_session.specs.declared.share.seat.ShareSeat.{ShareSeat}
-use Rattle.rfb_session.specs.ShareMoves.{IsOnScreen, GetsCopy, GetsCopies, GetsMoves, GetsChange}
+use Rattle.rfb_session.specs.ShareMoves.{IsOnScreen, GetsCopies, GetsMoves, GetsChange}
 use Rattle.rfb_session.specs.ShareMoves.{IsRelayed, GetsWhole}
 use Rattle.rfb_session.specs.ShareSeats.{session_at, KeepsShareSeat, IsNotifiedIn}
 

@@ -1,7 +1,6 @@
 -- Heads of server messages: one for bytes of the right size, and no other for the same bytes.
 use Rattle.std.proofs.Common.{refl, arith}
 use Rattle.std.proofs.lemmas.Bool.Decides.{nat_tests}
-use Rattle.rfb_wire.specs.declared.server_head.ServerHead.{ServerHead}
 use Rattle.rfb_wire.specs.declared.server_head.ServerHead.TheVariants.{Update, ColourMap, Bell, CutText}
 use Rattle.rfb_wire.specs.Fields.{u16_at, u32_at}
 use Rattle.rfb_wire.specs.ServerHead.{SpellsServerHead, server_head_size}

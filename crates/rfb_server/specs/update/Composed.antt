@@ -5,9 +5,7 @@ use Rattle.rfb_picture.specs.Grid.{Grid}
 use Rattle.rfb_picture.specs.Area.{nothing}
 use Rattle.rfb_picture.specs.Places.{without}
 use Rattle.rfb_wire.specs.ServerHead.{SpellsUpdate}
-use Rattle.rfb_server.specs.declared.hint.Hint.{Hint}
 use Rattle.rfb_server.specs.declared.session.Session.{Session}
-use Rattle.rfb_server.specs.Server.{ServerState}
 use Rattle.rfb_server.specs.Progress.{is_ready}
 use Rattle.rfb_server.specs.Composition.{IsDue}
 use Rattle.rfb_server.specs.UpdateCall.{IsUpdate}

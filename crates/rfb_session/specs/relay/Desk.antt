@@ -1,5 +1,5 @@
 -- A desk whose share has the picture of a server's viewer: what is done there for the server.
-use Rattle.std.specs.Prelude.{◌≡◌, ◌≢◌, ◌<◌, ℕ, Bool, true, false, List, ◌++◌, Option, Some}
+use Rattle.std.specs.Prelude.{◌≡◌, ◌<◌, ℕ, Bool, true, false, List, ◌++◌, Option, Some}
 use Rattle.std.specs.Prelude.{None, Result, Ok, Err}
 use Rattle.rfb_picture.specs.Places.{has_bit}
 use Rattle.rfb_picture.specs.Rect.{rect}

@@ -9,7 +9,7 @@ use Rattle.rfb_session.specs.declared.console.Outcome.TheVariants.{NoMemory}
 use Rattle.rfb_session.specs.declared.relay.Relay.{Relay}
 use Rattle.rfb_session.specs.console.Console.{KeepsSide, KeepsButRooms}
 use Rattle.rfb_session.specs.console.Console.{waiting_at, space_at, closed_at, room_of_seat}
-use Rattle.rfb_session.specs.relay.Calls.{passed, counted_for}
+use Rattle.rfb_session.specs.relay.Calls.{counted_for}
 use Rattle.rfb_session.specs.relay.Presence.{is_gone}
 
 module _ {S : Type 0} where

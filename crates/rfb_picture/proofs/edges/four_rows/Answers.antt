@@ -1,4 +1,4 @@
-use Rattle.std.proofs.Common.{◌+◌, ◌*◌, refl}
+use Rattle.std.proofs.Common.{refl}
 use Rattle.rfb_picture.proofs.GatherLemmas.{bits_of_four}
 use Rattle.rfb_picture.proofs.edges.four_rows.Goals as goal
 

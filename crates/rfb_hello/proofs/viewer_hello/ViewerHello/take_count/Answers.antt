@@ -1,4 +1,4 @@
-use Rattle.std.proofs.Common.{◌≡◌, ◌∙◌, ◌+◌, ap, arith}
+use Rattle.std.proofs.Common.{◌∙◌, ap, arith}
 use Rattle.rfb_hello.specs.TypesSoFar.{TypesSoFar}
 use Rattle.rfb_hello.specs.declared.viewer_hello.progress.Progress.TheVariants.{Types}
 use Rattle.rfb_hello.proofs.ViewerReasonLemmas.{count_of_none}

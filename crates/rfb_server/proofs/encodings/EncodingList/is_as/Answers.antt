@@ -1,4 +1,4 @@
-use Rattle.std.proofs.Common.{◌∙◌, sym, arith, true}
+use Rattle.std.proofs.Common.{◌∙◌, sym, arith}
 use Rattle.rfb_server.proofs.ComparedLemmas.{encoding_more, encodings_same}
 use Rattle.rfb_server.proofs.encodings.EncodingList.is_as.Goals as goal
 

@@ -1,4 +1,4 @@
-use Rattle.std.proofs.Common.{Result, Ok, Err, refl, sym, ap}
+use Rattle.std.proofs.Common.{Ok, Err, refl, sym, ap}
 use Rattle.rfb_viewer.specs.declared.fault.AppendFault.{AppendFault}
 use Rattle.rfb_session.specs.relay.Calls.{Made, ended_by}
 use Rattle.rfb_session.proofs.relay.Relay.pass_call.Goals as goal

@@ -3,7 +3,6 @@ use Rattle.rfb_wire.specs.ServerHead.{server_head_size}
 use Rattle.rfb_wire.specs.ServerMessage.{SpellsMapColour}
 use Rattle.rfb_wire.specs.MessagePieces.{server_piece_size}
 use Rattle.rfb_wire.proofs.stream_laws.PendingLaws.{items_pending}
-use Rattle.rfb_wire.proofs.PendingLaws.{server_head_pending, server_text_pending}
 use Rattle.rfb_wire.proofs.law.pending.server_pending_follows_the_last_piece.Goals as goal
 
 pub returns-clause-colour : goal.returns-clause-colour
