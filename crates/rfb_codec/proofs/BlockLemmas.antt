@@ -1,6 +1,7 @@
 -- Rows of pixels put one after another.
 use Rattle.std.proofs.Common.{◌≡◌, ℕ, ◌+◌, ◌-◌, ◌*◌, ◌<◌, ◌≤◌, inl, inr, List, ◌++◌, length, map, take, get_or}
-use Rattle.std.proofs.Common.{slice_index, ◌∙◌, ap, sym, arith, length-append, length-take, get_or-take, take-take}
+use Rattle.std.proofs.Common.{slice_index, ◌∙◌, ap, sym, arith, length-append, length-take, get_or-take}
+use Rattle.std.proofs.Common.{take-take}
 use Rattle.std.proofs.Math.Pow.{pow_pos}
 use Rattle.std.proofs.lemmas.Bool.{cases_lt}
 use Rattle.std.proofs.lemmas.List.{get_or_append_left, get_or-append-add, get_or-map, get_or_default, get_or_past}
@@ -18,7 +19,8 @@ use Rattle.rfb_codec.specs.Codec.{PacksRect}
 
 -- one row more of a rectangle, of which `span` columns are packed
 rows_packed_by : (f : PixelFormat) (picture : Grid Colour) (rect : Rect) (n span : ℕ)
-    (old row : List ℕ) (colours : List Colour) → length old ≡ n * rect.w → rect.w ≤ span → length colours ≡ span →
+    (old row : List ℕ) (colours : List Colour) →
+    length old ≡ n * rect.w → rect.w ≤ span → length colours ≡ span →
     colours ≡ row_of picture rect.x (rect.y + n) span → row ≡ map (pixel_of f) colours →
     PacksRows f picture rect n old → PacksRows f picture rect (n + 1) (old ++ row)
 rows_packed_by f picture rect n span old row colours size more wide are is before x y d p q = elim (cases_lt y n) [
@@ -38,8 +40,8 @@ rows_packed_by f picture rect n span old row colours size more wide are is befor
 -- the same of the rectangle's own columns
 pub rows_packed : (f : PixelFormat) (picture : Grid Colour) (rect : Rect) (n : ℕ)
     (old row : List ℕ) (colours : List Colour) →
-    length old ≡ n * rect.w → length colours ≡ rect.w → colours ≡ row_of picture rect.x (rect.y + n) rect.w →
-    row ≡ map (pixel_of f) colours →
+    length old ≡ n * rect.w → length colours ≡ rect.w →
+    colours ≡ row_of picture rect.x (rect.y + n) rect.w → row ≡ map (pixel_of f) colours →
     PacksRows f picture rect n old → PacksRows f picture rect (n + 1) (old ++ row)
 rows_packed f picture rect n old row colours size wide are is before =
     rows_packed_by f picture rect n rect.w old row colours size (omega arith) wide are is before
@@ -80,9 +82,10 @@ row_written f picture rect n start k span pixels row colours at more room wide a
     let size : length (take (n * rect.w) pixels) ≡ n * rect.w =
     length-take-le (n * rect.w) pixels (omega (arith, at, within)) in
     let all = take-put_mid start k pixels row (start + span) (omega (arith, long)) within in
-    let part : take ((n + 1) * rect.w) (put_mid start k pixels row) ≡ take ((n + 1) * rect.w) (take start pixels ++ row) =
-    sym (take-take ((n + 1) * rect.w) (start + span) (put_mid start k pixels row) (omega (arith, at, more)))
-    ∙ ap (λ (xs : List ℕ). take ((n + 1) * rect.w) xs) all in
+    let end : ℕ = (n + 1) * rect.w in
+    let part : take end (put_mid start k pixels row) ≡ take end (take start pixels ++ row) =
+    sym (take-take end (start + span) (put_mid start k pixels row) (omega (arith, at, more)))
+    ∙ ap (λ (xs : List ℕ). take end xs) all in
     rw (part, at) (
       first_packed f picture rect (n + 1) (take (n * rect.w) pixels ++ row)
           (rows_packed_by f picture rect n span (take (n * rect.w) pixels) row colours size more wide are is before.0),

@@ -1,6 +1,8 @@
 -- A tile by the rule of Hextile: there is one at most, how long it is, and when it is raw.
-use Rattle.std.proofs.Common.{◌≡◌, ◌≢◌, ℕ, zero, suc, ◌+◌, ◌*◌, ◌/◌, ◌<◌, ◌≤◌, ◌⊎◌, inl, inr, List, [], ◌∷◌, ◌++◌, length, map}
-use Rattle.std.proofs.Common.{min, take, slice_index, Option, Some, None, if◌then◌else◌, refl, sym, subst, ◌∙◌, ap, arith}
+use Rattle.std.proofs.Common.{◌≡◌, ◌≢◌, ℕ, zero, suc, ◌+◌, ◌*◌, ◌/◌, ◌<◌, ◌≤◌}
+use Rattle.std.proofs.Common.{◌⊎◌, inl, inr, List, [], ◌∷◌, ◌++◌, length, map}
+use Rattle.std.proofs.Common.{min, take, slice_index, Option, Some, None, if◌then◌else◌, refl, sym, subst}
+use Rattle.std.proofs.Common.{◌∙◌, ap, arith}
 use Rattle.std.proofs.Math.Nat.{mul-le-mul_right}
 use Rattle.std.specs.List.{flat_map}
 use Rattle.std.proofs.lemmas.List.{length-map, take_all}
@@ -95,7 +97,10 @@ half_subs w h b g pixels subs whole palette rule =
     let all : take (length pixels) pixels ≡ pixels = take_all (length pixels) pixels (omega arith) in
     let both = rw all at (two_counted b g pixels (length pixels) (omega arith) (two_differ b g pixels palette)
     palette.2) in
-    elim palette.3 [ inl less ↦ omega (arith, few, both, less, whole) | inr tie ↦ omega (arith, few, both, tie.0, whole) ]
+    elim palette.3 [
+      | inl less ↦ omega (arith, few, both, less, whole)
+      | inr tie ↦ omega (arith, few, both, tie.0, whole)
+    ]
 
 -- where all places have one of two pixels there is no third
 no_third : (b g : ℕ) (pixels : List ℕ) →

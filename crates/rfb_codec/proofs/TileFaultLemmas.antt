@@ -1,5 +1,6 @@
 -- Tiles at fault, and raw tiles, which never are.
-use Rattle.std.proofs.Common.{◌≡◌, ℕ, ◌<◌, ◌≤◌, nat_le, List, [], ◌∷◌, ◌++◌, true, None, length, take}
+use Rattle.std.proofs.Common.{◌≡◌, ℕ, ◌<◌, ◌≤◌, nat_le, List, [], ◌∷◌, ◌++◌, true, None}
+use Rattle.std.proofs.Common.{length, take}
 use Rattle.std.proofs.Common.{drop, inl, inr, refl, sym, subst, ◌∙◌, ap, append_assoc, arith}
 use Rattle.std.specs.Prelude.{slice_index}
 use Rattle.std.proofs.lemmas.List.{get_or-take}

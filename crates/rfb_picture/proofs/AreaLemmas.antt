@@ -151,7 +151,8 @@ noted-added r w a all plain all_too plain_too noted alls plains = record {
 }
 
 -- where no place is whole, the set of those is empty
-pub none_whole_is : (a : Places) → IsArea a → HasNoWhole a → a.whole ≡ uniform a.asked.width a.asked.height false
+pub none_whole_is : (a : Places) → IsArea a → HasNoWhole a →
+    a.whole ≡ uniform a.asked.width a.asked.height false
 none_whole_is a area none =
     same_grid a.whole (uniform a.asked.width a.asked.height false) area.wholes
     (whole-uniform a.asked.width a.asked.height false)
@@ -160,4 +161,5 @@ none_whole_is a area none =
     (λ x y d p q.
     let column : x < a.asked.width = omega (arith, p, area.wide) in
     let row : y < a.asked.height = omega (arith, q, area.high) in
-    any_default a.whole x y d area.wholes p q ∙ none x y column row ∙ sym (at-uniform a.asked.width a.asked.height false x y d column row))
+    any_default a.whole x y d area.wholes p q ∙ none x y column row
+    ∙ sym (at-uniform a.asked.width a.asked.height false x y d column row))

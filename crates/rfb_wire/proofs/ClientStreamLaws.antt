@@ -1,7 +1,9 @@
 -- The reading of client messages is what RFC 6143 section 7.5 says of their
 -- bytes, in both directions.
-use Rattle.std.proofs.Common.{◌≡◌, ℕ, ◌-◌, ◌^◌, ◌<◌, inl, inr, Bool, true, false, not, nat_le, ◌==◌, ◌||◌}
-use Rattle.std.proofs.Common.{◌&&◌, if◌then◌else◌, List, [], ◌++◌, Option, Some, None, length, slice_index, refl}
+use Rattle.std.proofs.Common.{◌≡◌, ℕ, ◌-◌, ◌^◌, ◌<◌, inl, inr, Bool, true, false, not, nat_le}
+use Rattle.std.proofs.Common.{◌==◌, ◌||◌}
+use Rattle.std.proofs.Common.{◌&&◌, if◌then◌else◌, List, [], ◌++◌, Option, Some, None, length}
+use Rattle.std.proofs.Common.{slice_index, refl}
 use Rattle.std.proofs.Common.{sym, ◌∙◌, ap, append-nil, length-drop, arith}
 use Rattle.std.proofs.lemmas.Bool.Decides.{nat_tests}
 use Rattle.rfb_pixel.specs.declared.fault.FormatFault.{FormatFault}

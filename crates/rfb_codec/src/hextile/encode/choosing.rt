@@ -19,8 +19,9 @@ use crate::subrect::Subrect;
 use arrayvec::ArrayVec;
 use rfb_pixel::Format;
 
-/// The most subrectangles of a tile that is not sent as Raw. Of two pixels at most half of its places
-/// need one, 128. Of more each has six bytes at four bytes a pixel, and 171 have as many as its pixels.
+/// The most subrectangles of a tile that is not sent as Raw. Of two pixels at most half of its
+/// places need one, 128. Of more each has six bytes where a pixel has four, and 171 have more bytes
+/// than the pixels.
 pub const MAX_SUBRECTS: usize = 170;
 
 /// Room for the subrectangles of a tile.

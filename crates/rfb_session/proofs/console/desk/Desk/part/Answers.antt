@@ -1,4 +1,5 @@
-use Rattle.std.proofs.Common.{◌≡◌, ℕ, zero, suc, List, [], ◌++◌, Bool, false, refl, sym, ap, ◌∙◌, append-nil}
+use Rattle.std.proofs.Common.{◌≡◌, ℕ, zero, suc, List, [], ◌++◌, Bool, false, refl, sym, ap, ◌∙◌}
+use Rattle.std.proofs.Common.{append-nil}
 use Rattle.rfb_session.specs.console.SeatLines.{leave_lines}
 use Rattle.rfb_session.specs.console.Desk.{tells_in}
 use Rattle.rfb_session.proofs.console.desk.Desk.part.Goals as goal
