@@ -4,6 +4,7 @@ import re
 import shutil
 import subprocess
 import sys
+import tempfile
 
 HERE = os.path.dirname(os.path.abspath(__file__))
 
@@ -24,6 +25,22 @@ def build(room):
             print(done.stderr, file=sys.stderr)
             return f"{name}.c is not built (apt-get install libvncserver-dev)"
     return None
+
+
+def beside_the_peer(measure):
+    """Calls `measure` with our program, the one that is named or the one that is built here, and
+    with a folder that has the peer's. Where these cannot be built it says why."""
+    named = [word for word in sys.argv[1:] if word != "--once"]
+    default = os.path.join(HERE, "..", "..", "crates", "rfb", "out", "rfb")
+    room = tempfile.mkdtemp()
+    try:
+        missing = build(room)
+        if missing:
+            print(f"no table beside libvncserver: {missing}")
+        else:
+            measure(os.path.realpath([*named, default][0]), room)
+    finally:
+        shutil.rmtree(room)
 
 
 def symbols_of(program):

@@ -8,9 +8,7 @@ no table. With --once it has one row of each kind.
     table.py [PROGRAM] [--once]
 """
 import os
-import shutil
 import sys
-import tempfile
 import time
 from concurrent.futures import ThreadPoolExecutor
 
@@ -208,21 +206,11 @@ def change_rows(lists):
         yield f"| {name} | {drawn} | " + " | ".join(cells for _, _, cells in found) + " |"
 
 
-def main():
-    default = os.path.join(HERE, "..", "..", "crates", "rfb", "out", "rfb")
-    program = os.path.realpath([*(word for word in sys.argv[1:] if word != "--once"), default][0])
-    room = tempfile.mkdtemp()
-    try:
-        missing = counting.build(room)
-        if missing:
-            print(f"no table beside libvncserver: {missing}")
-            return
-        if not os.path.exists(program):
-            print(f"our program is not built: {program}")
-            program = None
-        print_all(Bench(program, room), time.time())
-    finally:
-        shutil.rmtree(room)
+def measure(program, room):
+    if not os.path.exists(program):
+        print(f"our program is not built: {program}")
+        program = None
+    print_all(Bench(program, room), time.time())
 
 
 def print_all(bench, begun):
@@ -248,4 +236,4 @@ def print_all(bench, begun):
     print(f"\nThe table was made in {time.time() - begun:.0f} seconds.")
 
 
-main()
+counting.beside_the_peer(measure)

@@ -7,13 +7,10 @@ what table.py needs. With --once it has one row, of little work.
     wall.py [PROGRAM] [--once]
 """
 import os
-import shutil
 import subprocess
 import sys
-import tempfile
 
 sys.dont_write_bytecode = True  # no folder of compiled modules beside the sources
-HERE = os.path.dirname(os.path.abspath(__file__))
 
 import counting
 import scripts
@@ -54,24 +51,14 @@ def step_of(words, step, size, room):
     return (many - few) / (MANY - FEW) * 1000
 
 
-def main():
-    default = os.path.join(HERE, "..", "..", "crates", "rfb", "out", "rfb")
-    program = os.path.realpath([*(word for word in sys.argv[1:] if word != "--once"), default][0])
-    room = tempfile.mkdtemp()
-    try:
-        missing = counting.build(room)
-        if missing:
-            print(f"no table beside libvncserver: {missing}")
-            return
-        peer = [os.path.join(room, "server"), "asked", os.path.join(room, "sent")]
-        print("| Drawing, ms | `rfb script` | libvncserver |\n|---|---|---|")
-        for size in SIZES:
-            for step in STEPS:
-                mine, theirs = (step_of(it, step, size, room) for it in ([program, "script"], peer))
-                name = f"{step}, {size[0]:,} by {size[1]:,}"
-                print(f"| {name} | {mine:.2f} | {theirs:.2f} |", flush=True)
-    finally:
-        shutil.rmtree(room)
+def measure(program, room):
+    peer = [os.path.join(room, "server"), "asked", os.path.join(room, "sent")]
+    print("| Drawing, ms | `rfb script` | libvncserver |\n|---|---|---|")
+    for size in SIZES:
+        for step in STEPS:
+            mine, theirs = (step_of(it, step, size, room) for it in ([program, "script"], peer))
+            name = f"{step}, {size[0]:,} by {size[1]:,}"
+            print(f"| {name} | {mine:.2f} | {theirs:.2f} |", flush=True)
 
 
-main()
+counting.beside_the_peer(measure)

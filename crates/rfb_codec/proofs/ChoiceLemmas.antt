@@ -223,7 +223,7 @@ module _ (w h : ℕ) (pixels : List ℕ) (background : ℕ) where
       AreNextSubs w h pixels background [] before → h * w < fuel + length before →
       (subs : List Subrect) × AreRuleSubs w h pixels background subs
   subs_from zero before whole plain each enough =
-      let few = few_of w h pixels background [] before each whole in
+      let few = few_of w h pixels background before each whole in
       absurd (omega (arith, few, enough))
   subs_from (suc fuel) before whole plain each enough =
       elim (next_or_none before) [

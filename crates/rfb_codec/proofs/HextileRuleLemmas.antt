@@ -1,11 +1,11 @@
 -- A tile by the rule of Hextile: there is one at most, how long it is, and when it is raw.
-use Rattle.std.proofs.Common.{◌≡◌, ◌≢◌, ℕ, zero, suc, ◌+◌, ◌*◌, ◌/◌, ◌<◌, ◌≤◌}
+use Rattle.std.proofs.Common.{◌≡◌, ◌≢◌, ℕ, ◌+◌, ◌*◌, ◌/◌, ◌<◌, ◌≤◌}
 use Rattle.std.proofs.Common.{◌⊎◌, inl, inr, List, [], ◌∷◌, ◌++◌, length, map}
-use Rattle.std.proofs.Common.{min, take, slice_index, Option, Some, None, if◌then◌else◌, refl, sym, subst}
+use Rattle.std.proofs.Common.{min, slice_index, Option, Some, None, if◌then◌else◌, refl, sym, subst}
 use Rattle.std.proofs.Common.{◌∙◌, ap, arith}
 use Rattle.std.proofs.Math.Nat.{mul-le-mul_right}
 use Rattle.std.specs.List.{flat_map}
-use Rattle.std.proofs.lemmas.List.{length-map, take_all}
+use Rattle.std.proofs.lemmas.List.{length-map}
 use Rattle.std.proofs.lemmas.Nat.{div_below}
 use Rattle.std.proofs.lemmas.List.Folds.{flat_map-map}
 use Rattle.rfb_pixel.specs.Format.{PixelFormat, size_of}
@@ -25,7 +25,7 @@ use Rattle.rfb_codec.specs.encoder.TileSpelling.{tile_of, mask_of, own_place, ti
 use Rattle.rfb_codec.specs.SentTile.{are_some, colour_bytes, place_bytes, counted_bytes, sent_as}
 use Rattle.rfb_codec.proofs.PixelLemmas.{length-pixel_bytes}
 use Rattle.rfb_codec.proofs.TileLengthLemmas.{length-spelled_plain, length-spelled_colored}
-use Rattle.rfb_codec.proofs.PlacesLemmas.{more_yes, more_no}
+use Rattle.rfb_codec.proofs.PaletteLemmas.{two_counted}
 use Rattle.rfb_codec.proofs.RuleCountLemmas.{same_background, same_subs, fewer, few_of, enough_subs, over_limit}
 
 -- ---- pixels
@@ -70,33 +70,13 @@ two_differ b g pixels (has, other, both, more) same =
       | inr tie ↦ omega (arith, tie.1, same)
     ]
 
--- each place has the one or the other
-two_counted : (b g : ℕ) (pixels : List ℕ) (n : ℕ) → n ≤ length pixels → g ≢ b →
-    ((i : ℕ) → i < length pixels → (slice_index pixels i ≡ b) ⊎ (slice_index pixels i ≡ g)) →
-    places_of b (take n pixels) + places_of g (take n pixels) ≡ n
-two_counted b g pixels zero within differ both = refl
-two_counted b g pixels (suc n) within differ both =
-    let before = two_counted b g pixels n (omega arith) differ both in
-    let next : suc n ≡ n + 1 = omega arith in
-    rw next (elim (both n (omega arith)) [
-      | inl is ↦
-          let one = more_yes b pixels n (omega arith) is in
-          let none = more_no g pixels n (omega arith) (λ same. differ (sym same ∙ is)) in
-          omega (arith, before, one, none)
-      | inr is ↦
-          let one = more_yes g pixels n (omega arith) is in
-          let none = more_no b pixels n (omega arith) (λ same. differ (sym is ∙ same)) in
-          omega (arith, before, one, none)
-    ])
-
--- so at most half of the places need a subrectangle
+-- of two pixels at most half of the places need a subrectangle
 half_subs : (w h b g : ℕ) (pixels : List ℕ) (subs : List Subrect) → length pixels ≡ h * w →
     HasPalette (Two b g) pixels → AreRuleSubs w h pixels b subs → 2 * length subs ≤ length pixels
 half_subs w h b g pixels subs whole palette rule =
-    let few = few_of w h pixels b [] subs rule.each whole in
-    let all : take (length pixels) pixels ≡ pixels = take_all (length pixels) pixels (omega arith) in
-    let both = rw all at (two_counted b g pixels (length pixels) (omega arith) (two_differ b g pixels palette)
-    palette.2) in
+    let few = few_of w h pixels b subs rule.each whole in
+    let apart = two_differ b g pixels palette in
+    let both = two_counted b g pixels (λ same. apart (sym same)) palette.2 in
     elim palette.3 [
       | inl less ↦ omega (arith, few, both, less, whole)
       | inr tie ↦ omega (arith, few, both, tie.0, whole)

@@ -29,7 +29,7 @@ counted_up_to a b (suc n) pixels differ each within =
           rw next (omega (arith, before, here, other))
     ]
 
-two_counted : (a b : ℕ) (pixels : List ℕ) → a ≢ b →
+pub two_counted : (a b : ℕ) (pixels : List ℕ) → a ≢ b →
     ((i : ℕ) → i < length pixels → (slice_index pixels i ≡ a) ⊎ (slice_index pixels i ≡ b)) →
     places_of a pixels + places_of b pixels ≡ length pixels
 two_counted a b pixels differ each =

@@ -16,7 +16,7 @@ use Rattle.rfb_codec.specs.declared.subrect.Subrect.{Subrect}
 use Rattle.rfb_codec.specs.Choice.{IsPixelOf, IsBackground, is_in_any, IsLeft, IsBefore, IsNextSub, AreNextSubs}
 use Rattle.rfb_codec.specs.Choice.{AreRuleSubs, places_of}
 use Rattle.rfb_codec.specs.encoder.Background.{HasMore, AllDiffer}
-use Rattle.rfb_codec.proofs.PlacesLemmas.{more_yes, more_no, has_place}
+use Rattle.rfb_codec.proofs.PlacesLemmas.{more_yes, more_no}
 use Rattle.rfb_codec.proofs.RuleLemmas.{in_push}
 
 -- ---- one background
@@ -249,18 +249,11 @@ module _ (width height : ℕ) (pixels : List ℕ) (background : ℕ) where
           (omega (arith, row, next.high))
 
   -- no more than there are places of other pixels
-  pub few_of : (before subs : List Subrect) → AreNextSubs width height pixels background before subs →
+  pub few_of : (subs : List Subrect) → AreNextSubs width height pixels background [] subs →
       length pixels ≡ height * width → length subs + places_of background pixels ≤ height * width
-  few_of before subs each whole =
-      let few = in_order before subs 0 each whole (omega arith) (λ x y p q left. omega arith) in
+  few_of subs each whole =
+      let few = in_order [] subs 0 each whole (omega arith) (λ x y p q left. omega arith) in
       omega (arith, few)
-
-  pub few_subs : (subs : List Subrect) → length pixels ≡ height * width → IsPixelOf pixels background →
-      AreRuleSubs width height pixels background subs → length subs < height * width
-  few_subs subs whole there rule =
-      let few = few_of [] subs rule.each whole in
-      let some = has_place background pixels there in
-      omega (arith, few, some)
 
 -- ---- as many as there are pixels
 

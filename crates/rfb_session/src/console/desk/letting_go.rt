@@ -67,18 +67,8 @@ impl Desk {
     }
 
     /// A line says of each of these seats that its viewer went, with nothing wrong. Their sessions
-    /// are gone already. Mostly there are none.
+    /// are gone already.
     pub(crate) fn part(&mut self, seats: Seats) -> io::Result<()>
-        ensures { OnOk result (Parts self.old seats self.new) }
-    {
-        if seats.is_empty() {
-            return Ok(());
-        }
-        self.part_each(seats)
-    }
-
-    // The same seat by seat.
-    fn part_each(&mut self, seats: Seats) -> io::Result<()>
         ensures { OnOk result (Parts self.old seats self.new) }
     {
         for place in 0..SLOTS {
